@@ -1,0 +1,1 @@
+// Laws of the definitions of `paper` that promises and code share: see specs/.

@@ -1,0 +1,179 @@
+-- The two calls: entering a line of text, and listing a stored line; each with its answer and what it leaves in the lent buffers.
+use Prim.Native.Nat.{ℕ, _+_, _-_, _*_}
+use mathlib.Core.Bool.{Bool, not, _&&_, _||_}
+use mathlib.Core.List.{List, [], _∷_, _++_}
+use lib.Dec.{leb, ltb, eqb}
+use lib.ListN.{length, take, drop}
+use Rattle.paper.specs.Bytes.{pick, digit?, blank?, run, joined}
+use Rattle.paper.specs.Tokens.{Token}
+use Rattle.paper.specs.Constants.{value}
+use Rattle.paper.specs.Names.{names-in, most-names, sound-table, add-names, name-bytes, value-entries}
+use Rattle.paper.specs.Items.{Item, items}
+use Rattle.paper.specs.Machine.{Run, left, done, bad, read}
+use Rattle.paper.specs.Grammar.{Gives, look-in-range, start}
+use Rattle.paper.specs.Line.{line-bytes, lawful-number?}
+use Rattle.paper.specs.WellFormed.{tokens-of, well-formed?}
+use Rattle.paper.specs.Listing.{listing}
+use Rattle.paper.specs.Store.{lines-in, sound-store, room, stored?, line-at, put-line, take-out, overwritten}
+
+-- the lent buffers and counts
+pub record State : Type 0 where
+  pub names : List ℕ
+  pub name-size : ℕ
+  pub name-count : ℕ
+  pub values : List ℕ
+  pub store : List ℕ
+  pub used : ℕ
+
+-- the names, and the lines, of a state
+unfoldable pub names-of : State → List (List ℕ)
+names-of s = names-in (take (s .name-size) (s .names))
+
+-- the lines of a state
+unfoldable pub lines-of : State → List (List ℕ)
+lines-of s = lines-in (take (s .used) (s .store))
+
+-- tables and store are sound; values: room for all
+unfoldable pub sound-state : State → Bool
+sound-state s = sound-table (s .names) (s .name-size) (s .name-count) && (leb (8 * s .name-count) (length (s .values)) && sound-store (s .store) (s .used))
+
+-- what a call to enter answers: number, place, names added; and the state afterwards, with the bytes used
+pub record Entered : Type 0 where
+  pub number : ℕ
+  pub place : ℕ
+  pub added : ℕ
+  pub after : State
+
+-- a refusal changes nothing
+unfoldable pub refusal : ℕ → ℕ → State → Entered
+refusal number place s = record { number = number; place = place; added = 0; after = s }
+
+-- ---- the translation: refusals 4 and 5, the leftmost first
+
+-- the statements of a line as tokens; or a refusal's number and place
+pub data Translated : Type 0 where
+  tokens : List Token → Translated
+  refused-at : ℕ → ℕ → Translated
+
+-- the place of the first of some items
+unfoldable pub place-of : List Item → ℕ
+place-of [] = 0
+place-of (i ∷ is) = i .place
+
+-- What a run means. All items of a text are read, or one of them is refused: the other two cases do not occur.
+unfoldable pub outcome : Run Gives Item → Translated
+outcome (left ts []) = tokens (tokens-of ts)
+outcome (left ts (f ∷ fs)) = refused-at 4 0
+outcome (done ts r) = refused-at 4 (place-of r)
+outcome (bad k ts r) = refused-at k (place-of r)
+
+-- the statements of a text, from place p on
+unfoldable pub translate : ℕ → List ℕ → Translated
+translate p s = outcome (read look-in-range start (items p s))
+
+-- ---- an accepted text: refusals 6, 7, 8
+
+-- the state with these names and lines
+unfoldable pub stored : State → List (List ℕ) → List (List ℕ) → State
+stored s ns ls =
+    let old = names-of s in
+    let new-names = drop (length old) ns in
+    let size = s .name-size + length (name-bytes new-names) in
+    let lines = joined ls in record {
+      names = overwritten (take (s .name-size) (s .names) ++ name-bytes new-names) (s .names);
+      name-size = size;
+      name-count = length ns;
+      values = overwritten (take (8 * s .name-count) (s .values) ++ value-entries (s .name-count) new-names) (s .values);
+      store = overwritten lines (s .store);
+      used = length lines;
+    }
+
+-- 6: names would pass 128, or lack name or value room; never when no name is new
+unfoldable pub lacks-room : State → List (List ℕ) → Bool
+lacks-room s ns =
+    let old = names-of s in
+    let new-names = drop (length old) ns in
+    ltb (length old) (length ns)
+    && (ltb most-names (length ns) || (ltb (length (s .names)) (s .name-size + length (name-bytes new-names)) || ltb (length (s .values)) (8 * length ns)))
+
+-- 6, 7, 8, or the line is stored
+unfoldable pub accept : State → ℕ → List Token → Entered
+accept s n ts =
+    let ns = add-names (names-of s) ts in
+    let line = line-bytes ns n ts in
+    let lines = put-line line (lines-of s) in
+    let entered : Entered = record { number = 0; place = 0; added = length ns - length (names-of s); after = stored s ns lines } in
+    pick (lacks-room s ns) (refusal 6 0 s)
+    (pick (ltb 255 (length line)) (refusal 7 0 s)
+    (pick (ltb (room (s .store)) (length (joined lines))) (refusal 8 0 s) entered))
+
+-- the answer to a translation
+unfoldable pub answered : State → ℕ → Translated → Entered
+answered s n (tokens ts) = accept s n ts
+answered s n (refused-at k p) = refusal k p s
+
+-- a text with only a number deletes
+unfoldable pub delete : State → ℕ → Entered
+delete s n =
+    let gone : Entered = record { number = 0; place = 0; added = 0; after = stored s (names-of s) (take-out n (lines-of s)) } in
+    pick (stored? n (lines-of s)) gone (refusal 9 0 s)
+
+-- ---- the line's number: refusal 3
+
+-- how a text begins: its number, the place past the digits and what stands there; digits worth too much; no digit
+pub data Head : Type 0 where
+  numbered : ℕ → ℕ → List ℕ → Head
+  too-great no-digit : Head
+
+-- the number is the digit run after blanks
+unfoldable pub head-of : List ℕ → Head
+head-of text =
+    let blanks = run blank? text in
+    let t = drop blanks text in
+    let digits = run digit? t in
+    let n = value 0 (take digits t) in
+    pick (eqb digits 0) no-digit (pick (lawful-number? n) (numbered n (blanks + digits) (drop digits t)) too-great)
+
+-- by what stands after the number: nothing but blanks deletes
+unfoldable pub at-head : State → Head → Entered
+at-head s (numbered n p rest) =
+    let deleted = delete s n in
+    let translated = answered s n (translate p rest) in
+    pick (eqb (run blank? rest) (length rest)) deleted translated
+at-head s too-great = refusal 3 0 s
+at-head s no-digit = refusal 3 0 s
+
+-- ---- entering a text: refusals 1 and 2
+
+-- over sound tables and store: 2, then 3 and the others
+unfoldable pub enter-sound : List ℕ → State → Entered
+enter-sound text s = let entered = at-head s (head-of text) in pick (ltb 120 (length text)) (refusal 2 0 s) entered
+
+-- 1, and then over sound tables and store
+unfoldable pub enter : List ℕ → State → Entered
+enter text s = let entered = enter-sound text s in pick (sound-state s) entered (refusal 1 0 s)
+
+-- ---- listing: refusals 1, 9, 10, 11
+
+pub record Listed : Type 0 where
+  pub number : ℕ
+  pub written : ℕ
+  pub output : List ℕ
+
+-- a refusal writes nothing
+unfoldable pub not-listed : ℕ → List ℕ → Listed
+not-listed number output = record { number = number; written = 0; output = output }
+
+-- over sound tables and store: 9, 10, 11, or the listing
+unfoldable pub list-sound : ℕ → State → List ℕ → Listed
+list-sound n s output =
+    let l = line-at n (lines-of s) in
+    let text = listing (names-of s) l in
+    let listed : Listed = record { number = 0; written = length text; output = overwritten text output } in
+    pick (not (stored? n (lines-of s))) (not-listed 9 output)
+    (pick (not (well-formed? (names-of s) l)) (not-listed 10 output)
+    (pick (ltb (length output) (length text)) (not-listed 11 output) listed))
+
+-- 1, and then over sound tables and store
+unfoldable pub list : ℕ → State → List ℕ → Listed
+list n s output = let listed = list-sound n s output in pick (sound-state s) listed (not-listed 1 output)
