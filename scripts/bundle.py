@@ -1,12 +1,18 @@
-# writes Open.antt: one bundle a module, of all its unfoldable definitions
+"""Writes crates/paper/specs/Open.antt: for each file of definitions one name that opens them all, for proofs that compute.
+
+  python3 scripts/bundle.py      (from the repository's root)
+"""
 import re
-D='crates/paper/specs/'
-mods="Bytes Words Tokens Constants Names Items Machine Grammar Line WellFormed Listing Store Calls".split()
-o="-- Bundles: to unfold one is to unfold all that its line names. For proofs that compute. (Made by scripts/bundle.py.)\n"
-for m in mods: o+=f"use Rattle.paper.specs.{m} as {m}′\n"
-for m in mods:
-    t=open(D+m+'.antt').read()
-    ns=re.findall(r'^ *unfoldable pub (\S+)',t,re.M)
-    o+=f"\nunfoldable pub all-{m} : Unit {{0}}\nunfolding "+" ".join(f"{m}′.{n}" for n in ns)+f"\nall-{m} = tt\n"
-o+="\nunfoldable pub everything : Unit {0}\nunfolding "+" ".join("all-"+m for m in mods)+"\neverything = tt\n"
-open(D+'Open.antt','w').write(o)
+
+from grammar import PAPER, text
+
+FILES = "Bytes Words Tokens Constants Names Items Machine Grammar Line WellFormed Listing Store Calls Hex".split()
+
+out = "-- Bundles: to unfold one is to unfold all that its line names. For proofs that compute. (Made by scripts/bundle.py.)\n"
+for f in FILES:
+    out += f"use Rattle.paper.specs.{f} as {f}′\n"
+for f in FILES:
+    names = re.findall(r"^ *unfoldable pub (\S+)", text(f), re.M)
+    out += f"\nunfoldable pub all-{f} : Unit {{0}}\nunfolding " + " ".join(f"{f}′.{n}" for n in names) + f"\nall-{f} = tt\n"
+out += "\nunfoldable pub everything : Unit {0}\nunfolding " + " ".join("all-" + f for f in FILES) + "\neverything = tt\n"
+open(PAPER + "Open.antt", "w").write(out)

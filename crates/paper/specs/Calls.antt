@@ -1,4 +1,5 @@
--- The two calls: entering a line of text, and listing a stored line; each with its answer and what it leaves in the lent buffers.
+-- The two calls (document 01, "Numbers returned"): entering a line of text, and listing a stored line; each with its answer and what it
+-- leaves in the lent buffers. Refusals are tested in document 01's order.
 use Prim.Native.Nat.{ℕ, _+_, _-_, _*_}
 use mathlib.Core.Bool.{Bool, not, _&&_, _||_}
 use mathlib.Core.List.{List, [], _∷_, _++_}
@@ -25,7 +26,7 @@ pub record State : Type 0 where
   pub store : List ℕ
   pub used : ℕ
 
--- the names, and the lines, of a state
+-- the names of a state
 unfoldable pub names-of : State → List (List ℕ)
 names-of s = names-in (take (s .name-size) (s .names))
 
@@ -33,7 +34,7 @@ names-of s = names-in (take (s .name-size) (s .names))
 unfoldable pub lines-of : State → List (List ℕ)
 lines-of s = lines-in (take (s .used) (s .store))
 
--- tables and store are sound; values: room for all
+-- the whole of what is lent is sound: names, room for their values, store
 unfoldable pub sound-state : State → Bool
 sound-state s = sound-table (s .names) (s .name-size) (s .name-count) && (leb (8 * s .name-count) (length (s .values)) && sound-store (s .store) (s .used))
 

@@ -1,4 +1,4 @@
--- The grammar of document 01 as a table. A row: in the frame F an item of class C is taken, gives a token, and in F's place these
+-- The grammar of document 01 ("Items and grammar") as a table. A row: in the frame F an item of class C is taken, gives a token, and in F's place these
 -- frames are wanted, the first one next. A frame with no row for an item refuses it, but one that may be empty leaves it to the frame below.
 use Prim.Native.Nat.{ℕ, _+_}
 use mathlib.Core.Bool.{Bool, true, false, not}
@@ -54,7 +54,7 @@ term f numeric stringy =
     ∷ row f string-function itself (want-function-open ∷ N (want-close ∷ stringy))
     ∷ []
 
--- A statement in the frame f.
+-- A statement in the frame f, by the word or the name that it begins with.
 unfoldable pub a-statement : ℕ → List (Row Gives)
 a-statement f =
     row f remark itself (want-raw-text ∷ want-raw-end ∷ [])

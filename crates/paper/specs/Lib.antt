@@ -14,5 +14,9 @@ pub mod WellFormed
 pub mod Listing
 pub mod Store
 pub mod Calls
+pub mod Hex
 pub mod Open
 pub mod Cases
+pub mod Worked
+pub mod Recorded
+pub mod Coverage

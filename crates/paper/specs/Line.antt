@@ -1,4 +1,4 @@
--- The token line: tokens as bytes, with the offsets; and bytes as tokens again.
+-- The token line (document 01, "Token line"): tokens as bytes, with the offsets; and bytes as tokens again.
 use Prim.Native.Nat.{ℕ, zero, suc, _+_, _-_, _*_, _/_, _%_}
 use mathlib.Core.Bool.{Bool, true, false}
 use mathlib.Core.List.{List, [], _∷_, _++_}
@@ -16,7 +16,7 @@ use Rattle.paper.specs.Items.{raw-byte?}
 unfoldable pub variable-bytes : List (List ℕ) → List ℕ → List ℕ
 variable-bytes ns n = (0x80 + number-of ns n) ∷ []
 
--- the bytes of a token over a name table; before those of a statement's first stands its offset
+-- the bytes of a token over a name table; before those of a statement's first token stands its offset
 unfoldable pub own-bytes : List (List ℕ) → Token → List ℕ
 own-bytes ns (statement t) = t ∷ []
 own-bytes ns (assigned n) = 0x36 ∷ variable-bytes ns n
@@ -64,7 +64,7 @@ line-bytes ns n ts = let body = token-bytes ns 3 ts in n % 256 ∷ n / 256 ∷ (
 unfoldable pub line-number : List ℕ → ℕ
 line-number l = getD l 0 0 + 256 * getD l 1 0
 
--- the numbers that a line may have
+-- the numbers that a line may have: at most 32767
 unfoldable pub lawful-number? : ℕ → Bool
 lawful-number? n = leb n 32767
 

@@ -1,4 +1,4 @@
--- The name table: its bytes as names, what is sound, finding and adding; and the entries of the values' table.
+-- The name table (document 01, "Tables"): its bytes as names, what is sound, finding and adding; and the entries of the values' table.
 use Prim.Native.Nat.{ℕ, suc, _+_, _-_}
 use mathlib.Core.Bool.{Bool, true, false, not, _&&_, _||_}
 use mathlib.Core.List.{List, [], _∷_, _++_}
@@ -29,13 +29,13 @@ unfoldable pub name-bytes : List (List ℕ) → List ℕ
 name-bytes [] = []
 name-bytes (n ∷ ns) = marked n ++ name-bytes ns
 
--- a letter, then letters or digits, then possibly `$` or `(`
+-- what may stand after a name's letters and digits: nothing, `$` or `(`
 unfoldable pub name-end? : List ℕ → Bool
 name-end? [] = true
 name-end? (x ∷ []) = eqb x 36 || eqb x 40
 name-end? (x ∷ y ∷ ys) = false
 
--- a name that a table may hold
+-- a letter, then letters or digits, then possibly `$` or `(`
 unfoldable pub name? : List ℕ → Bool
 name? n = letter? (getD n 0 0) && name-end? (drop (run letter-or-digit? n) n)
 

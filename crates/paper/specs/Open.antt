@@ -12,6 +12,7 @@ use Rattle.paper.specs.WellFormed as WellFormed′
 use Rattle.paper.specs.Listing as Listing′
 use Rattle.paper.specs.Store as Store′
 use Rattle.paper.specs.Calls as Calls′
+use Rattle.paper.specs.Hex as Hex′
 
 unfoldable pub all-Bytes : Unit {0}
 unfolding Bytes′.bytes Bytes′.digit? Bytes′.letter? Bytes′.letter-or-digit? Bytes′.blank? Bytes′.run Bytes′.same Bytes′.every Bytes′.among Bytes′.joined
@@ -65,6 +66,10 @@ unfoldable pub all-Calls : Unit {0}
 unfolding Calls′.names-of Calls′.lines-of Calls′.sound-state Calls′.refusal Calls′.place-of Calls′.outcome Calls′.translate Calls′.stored Calls′.lacks-room Calls′.accept Calls′.answered Calls′.delete Calls′.head-of Calls′.at-head Calls′.enter-sound Calls′.enter Calls′.not-listed Calls′.list-sound Calls′.list
 all-Calls = tt
 
+unfoldable pub all-Hex : Unit {0}
+unfolding Hex′.nibble Hex′.pairs Hex′.hex
+all-Hex = tt
+
 unfoldable pub everything : Unit {0}
-unfolding all-Bytes all-Words all-Tokens all-Constants all-Names all-Items all-Machine all-Grammar all-Line all-WellFormed all-Listing all-Store all-Calls
+unfolding all-Bytes all-Words all-Tokens all-Constants all-Names all-Items all-Machine all-Grammar all-Line all-WellFormed all-Listing all-Store all-Calls all-Hex
 everything = tt

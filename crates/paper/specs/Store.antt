@@ -1,4 +1,4 @@
--- The store: lines end to end, in rising order of their numbers.
+-- The store (document 01, "Tables"): lines end to end, in rising order of their numbers.
 use Prim.Native.Nat.{ℕ, zero, suc, pred, _+_, _-_}
 use mathlib.Core.Bool.{Bool, true, false, _&&_}
 use mathlib.Core.List.{List, [], _∷_, _++_}

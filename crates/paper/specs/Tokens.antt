@@ -1,4 +1,5 @@
--- Tokens, as a line holds them one after the other; and what class of item each is as it is written.
+-- Tokens, as a line holds them one after the other (document 01, "Token line"), and the class of item that each is read as. What an item of
+-- a text carries is a token too, so that nothing beside it can disagree with it.
 use Prim.Native.Nat.{ℕ}
 use mathlib.Core.Bool.{Bool, true, false}
 use mathlib.Core.List.{List, [], _∷_}

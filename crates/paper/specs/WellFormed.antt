@@ -1,4 +1,4 @@
--- Well-formed lines.
+-- Well-formed lines (document 01, "Items and grammar", its last paragraph).
 use Prim.Native.Nat.{ℕ}
 use mathlib.Core.Path.{_≡_}
 use mathlib.Core.Bool.{Bool, true, false, not, _&&_}

@@ -1,0 +1,141 @@
+"""Writes crates/paper/specs/Recorded.antt: recorded calls, chosen from a folder of vectors, as a table that `enter` and `list` of paper must meet.
+
+  python3 scripts/recorded.py FOLDER      (from the repository's root; FOLDER has enter.txt, enter.answers, list.txt, list.answers)
+
+Chosen are: for every row of the grammar that an accepted text of the vectors uses, a short one that uses it; and some calls of every answer,
+none longer than is quick to compute with. The fields of a call are those of the protocol: hexadecimal bytes, decimal numbers, `-` for no bytes.
+"""
+import re
+import sys
+from collections import Counter
+
+import grammar
+
+LONGEST = 1100  # characters of a call: the time to compute grows with it
+EACH_ANSWER = 9
+
+STATEMENTS, OPERATORS = grammar.words("statements"), {**grammar.words("functions"), **grammar.words("read-operators")}
+
+
+def classes(text):
+    """The classes of a line's items after its number, as far as they can be read."""
+    rest, first, out = text.lstrip(b" ").lstrip(b"0123456789").decode("latin1"), True, []
+    while True:
+        rest = rest.lstrip(" ")
+        if not rest:
+            return out + ["line-end"]
+        name = re.match(r"[A-Z][A-Z0-9]*\$?", rest)
+        number = re.match(r"(\d+\.?\d*|\.\d+)(E[+-]?\d\d?)?", rest)
+        string = re.match('"[^"\x9b]*"', rest)
+        if name:
+            word = name[0]
+            rest = rest[len(word) :]
+            if first and word in STATEMENTS:
+                of = STATEMENTS[word][1]
+            elif word in OPERATORS:
+                of = OPERATORS[word][1]
+            else:
+                kind = "string" if word[-1] == "$" else "array" if rest[:1] == "(" else "numeric"
+                of = "first-" + kind if first else kind if kind == "array" else kind + "-variable"
+            if of == "remark":
+                return out + [of, "raw-text", "raw-end"]
+        elif number:
+            rest, of = rest[number.end() :], "number"
+        elif string:
+            rest, of = rest[string.end() :], "quoted"
+        elif first and rest[0] == "?":
+            rest, of = rest[1:], "print-word"
+        else:
+            symbol = rest[:2] if rest[:2] in OPERATORS else rest[:1]
+            rest, of = rest[len(symbol) :], OPERATORS.get(symbol, (0, "unfit"))[1]
+        out.append(of)
+        first = of in ("colon", "then-word")
+
+
+def rows_used(text):
+    """The rows of the grammar that the reading of an accepted text uses."""
+    stack, used = ["want-statement"], set()
+    for of in classes(text):
+        while (stack[0], of) not in TABLE:
+            assert stack[0] in EMPTY, (text, stack, of)
+            stack.pop(0)
+        used.add((stack[0], of))
+        stack = TABLE[stack[0], of] + stack[1:]
+    assert stack == [], (text, stack)
+    return used
+
+
+TABLE = {(f, c): ws for f, c, e, ws in grammar.rows()}
+EMPTY = grammar.may_be_empty()
+
+
+def calls(folder, name):
+    """The calls of one file with their answers."""
+    lines = [open(f"{folder}/{name}.{end}").read().split("\n")[:-1] for end in ("txt", "answers")]
+    return [(a.split(" "), b.split(" ")) for a, b in zip(*lines)]
+
+
+def size(call):
+    return sum(len(field) for field in call[0])
+
+
+def chosen(folder):
+    """The calls of the table."""
+    entered, listed = calls(folder, "enter"), calls(folder, "list")
+    taken, rows = [], Counter()
+    for call in sorted(entered, key=size):
+        text = bytes.fromhex(call[0][1].replace("-", ""))
+        if call[1][0] == "0" and text.strip(b" 0123456789"):
+            new = rows_used(text)
+            if any(not rows[r] for r in new):
+                rows.update(new)
+                taken.append(call)
+    for of in (entered, listed):
+        answers = Counter()
+        for call in of:
+            if call not in taken and size(call) <= LONGEST and answers[call[1][0]] < EACH_ANSWER:
+                answers[call[1][0]] += 1
+                taken.append(call)
+    return taken
+
+
+def quoted(field):
+    return '""' if field == "-" else f'"{field}"'
+
+
+def state(names, size_of_names, count, values, store, used):
+    return f"(state {quoted(names)} {size_of_names} {count} {quoted(values)} {quoted(store)} {used})"
+
+
+def row(call):
+    """A call and its answer as a row of the table."""
+    asked, answer = call
+    if asked[0] == "enter":
+        text, names, size_of_names, count, values, store, used = asked[1:]
+        number, place, added, used_after, size_after, count_after, names_after, values_after, store_after = answer
+        before = state(names, size_of_names, count, values, store, used)
+        after = state(names_after, size_after, count_after, values_after, store_after, used_after)
+        return f"enters {quoted(text)} {before} {number} {place} {added} {after}"
+    line, names, size_of_names, count, values, store, used, output = asked[1:]
+    return f"lists {line} {state(names, size_of_names, count, values, store, used)} {quoted(output)} {answer[0]} {answer[1]} {quoted(answer[2])}"
+
+
+HEAD = open("scripts/Recorded.head").read()
+GROUP = 20
+
+
+def main():
+    table = [row(c) for c in chosen(sys.argv[1])]
+    out = HEAD
+    for i in range(0, len(table), GROUP):
+        n = i // GROUP
+        out += f"\nunfoldable pub calls-{n} : List Call\ncalls-{n} =\n    " + "\n    ∷ ".join(table[i : i + GROUP]) + "\n    ∷ []\n"
+        out += f"\npub agree-{n} : failing {i} calls-{n} ≡ []\nunfolding everything state same-state meets failing calls-{n}\nagree-{n} = refl\n"
+    groups = [f"calls-{i}" for i in range((len(table) + GROUP - 1) // GROUP)]
+    out += f"\n-- all calls\nunfoldable pub calls : List Call\ncalls = {' ++ '.join(groups)}\n"
+    out += f"\n-- to unfold it is to unfold the tables\nunfoldable pub all-calls : Unit {{0}}\nunfolding state calls {' '.join(groups)}\nall-calls = tt\n"
+    open("crates/paper/specs/Recorded.antt", "w").write(out)
+    print(len(table), "calls")
+
+
+main()
