@@ -1,2 +1,4 @@
 pub mod Tests
 pub mod Runs
+pub mod Lines
+pub mod Names

@@ -1,0 +1,127 @@
+// Total helpers on byte slices: one byte read or written, bytes copied, tests of a byte, and the end of a run of bytes.
+ghost use mathlib.Core.Path.{_≡_};
+ghost use Prim.Native.Nat.{_+_, _-_, _≤_};
+ghost use lib.Dec.{leb};
+ghost use lib.ListN.{length, getD, set, take, drop};
+ghost use lib.Seq.{sets};
+ghost use Rattle.paper.specs.Bytes.{pick, run, digit?, letter?, letter-or-digit?};
+ghost use Rattle.paper.specs.Items.{string-byte?};
+ghost use Rattle.buffers.specs.Runs.{test-of};
+
+// The byte at a place, 0 past the end.
+pub fn byte_at(s: &[u8], at: usize) -> u8
+    ensures { λ r. ⌜ r ≡ getD (now (s .entry)) at 0 ⌝ }
+{
+    if at < s.len() { s[at] } else { 0 }
+}
+
+// Puts a byte at a place, and nothing past the end.
+pub fn put(out: &mut [u8], at: usize, b: u8)
+    ensures { λ _. ⌜ now (out .exit) ≡ set (now (out .entry)) at b ⌝ }
+{
+    if at < out.len() {
+        out[at] = b;
+    }
+}
+
+// How many of `size` bytes fit into `length` bytes from `at` on.
+fn fitting(length: usize, at: usize, size: usize) -> usize
+    ensures { λ r. ⌜ r ≡ pick (leb size (length - at)) size (length - at) ⌝ }
+{
+    if length <= at {
+        return 0;
+    }
+    let room = length - at;
+    if size <= room { size } else { room }
+}
+
+// Copies bytes to a place, as many as fit.
+pub fn copy(out: &mut [u8], at: usize, src: &[u8])
+    ensures { λ _. ⌜ now (out .exit) ≡ sets (now (out .entry)) at (now (src .entry)) ⌝ }
+{
+    let n = fitting(out.len(), at, src.len());
+    let mut i: usize = 0;
+    while i < n {
+        out[at + i] = src[i];
+        i += 1;
+    }
+}
+
+// Whether a byte is one of 0 to 9.
+pub fn is_digit(b: u8) -> bool
+    ensures { λ r. ⌜ r ≡ digit? b ⌝ }
+{
+    if 48 <= b { b <= 57 } else { false }
+}
+
+// Whether a byte is one of A to Z.
+pub fn is_letter(b: u8) -> bool
+    ensures { λ r. ⌜ r ≡ letter? b ⌝ }
+{
+    if 65 <= b { b <= 90 } else { false }
+}
+
+// Whether a byte is one of those that names are made of.
+pub fn is_letter_or_digit(b: u8) -> bool
+    ensures { λ r. ⌜ r ≡ letter-or-digit? b ⌝ }
+{
+    if is_digit(b) { true } else { is_letter(b) }
+}
+
+// Whether a byte may stand in a quoted string: neither a quote nor 9B.
+fn is_string_byte(b: u8) -> bool
+    ensures { λ r. ⌜ r ≡ string-byte? b ⌝ }
+{
+    match b {
+        34 => false,
+        0x9B => false,
+        _ => true,
+    }
+}
+
+// What a run of bytes is made of.
+pub enum Run {
+    Blanks,
+    Digits,
+    NameBytes,
+    StringBytes,
+    RawBytes,
+    LowBytes,
+}
+
+// Whether a byte may stand in a run.
+fn passes(kind: Run, b: u8) -> bool
+    ensures { λ r. ⌜ r ≡ test-of kind b ⌝ }
+{
+    match kind {
+        Run::Blanks => b == 32,
+        Run::Digits => is_digit(b),
+        Run::NameBytes => is_letter_or_digit(b),
+        Run::StringBytes => is_string_byte(b),
+        Run::RawBytes => b != 0x9B,
+        Run::LowBytes => b < 128,
+    }
+}
+
+// The end of the longest run of a kind from a place on.
+pub fn run_end(s: &[u8], from: usize, kind: Run) -> usize
+    ensures { λ r. ⌜ (r ≡ from + run (test-of kind) (drop from (now (s .entry)))) × (from ≤ length (now (s .entry)) → r ≤ length (now (s .entry))) ⌝ }
+{
+    let mut i = from;
+    while i < s.len() {
+        let b = s[i];
+        if passes(kind, b) {
+            i += 1;
+        } else {
+            return i;
+        }
+    }
+    i
+}
+
+// The first n bytes of a slice, or all of it where it has fewer.
+pub fn front<'a>(s: &'a [u8], n: usize) -> &'a [u8]
+    ensures { λ r. ⌜ now r ≡ take n (now (s .entry)) ⌝ }
+{
+    if n < s.len() { &s[..n] } else { s }
+}

@@ -1,0 +1,4 @@
+pub mod Edits
+pub mod Moves
+pub mod Search
+pub mod Walk

@@ -1,0 +1,44 @@
+// Moves of bytes inside a store.
+ghost use mathlib.Core.Path.{_≡_};
+ghost use Prim.Native.Nat.{_+_, _-_, _≤_};
+ghost use lib.ListN.{length, drop};
+ghost use lib.Seq.{paste};
+
+// Moves `n` bytes at `from` down to `at`, the first of them first.
+fn move_down(s: &mut [u8], at: usize, from: usize, n: usize)
+    requires { ⌜ (at ≤ from) × (from + n ≤ length (now s)) ⌝ }
+    ensures { λ _. ⌜ now (s .exit) ≡ paste (now (s .entry)) at (drop from (now (s .entry))) n ⌝ }
+{
+    let mut i: usize = 0;
+    while i < n {
+        s[at + i] = s[from + i];
+        i += 1;
+    }
+}
+
+// Moves `n` bytes at `from` up to `at`, the last of them first.
+fn move_up(s: &mut [u8], at: usize, from: usize, n: usize)
+    requires { ⌜ (from ≤ at) × (at + n ≤ length (now s)) ⌝ }
+    ensures { λ _. ⌜ now (s .exit) ≡ paste (now (s .entry)) at (drop from (now (s .entry))) n ⌝ }
+{
+    let mut i = n;
+    while 0 < i {
+        i -= 1;
+        s[at + i] = s[from + i];
+    }
+}
+
+// Makes room for `new` bytes at `at` in the place of `old` ones: the bytes after these, up to `used`, move once, and not at all when the two counts are equal.
+pub(crate) fn resize(s: &mut [u8], at: usize, old: usize, new: usize, used: usize)
+    requires { ⌜ (at + old ≤ used) × (used ≤ length (now s)) × (used - old + new ≤ length (now s)) ⌝ }
+    ensures { λ _. ⌜ now (s .exit) ≡ paste (now (s .entry)) (at + new) (drop (at + old) (now (s .entry))) (used - (at + old)) ⌝ }
+{
+    let from = at + old;
+    let to = at + new;
+    let n = used - from;
+    if new < old {
+        move_down(s, to, from, n);
+    } else if old < new {
+        move_up(s, to, from, n);
+    }
+}

@@ -1,0 +1,4 @@
+pub mod Classes
+pub mod Search
+pub mod Symbols
+pub mod Cuts

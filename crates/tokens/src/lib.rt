@@ -1,0 +1,536 @@
+// Tokens: their numbers as named constants of three types, the class and the spelling of each, and the words and symbols that they
+// are read from.
+pub mod class;
+mod tables;
+
+ghost use mathlib.Core.Path.{_≡_};
+ghost use mathlib.Core.List.{[], _∷_};
+ghost use Prim.Native.Nat.{_-_};
+ghost use lib.Dec.{leb};
+ghost use lib.ListN.{take, drop};
+ghost use Rattle.paper.specs.Bytes.{pick};
+ghost use Rattle.paper.specs.Words.{find-word, word-of, statements, operators, word-operator?};
+ghost use Rattle.paper.specs.Tokens.{operator-class, read-as};
+ghost use Rattle.paper.specs.Line.{raw-statement?};
+ghost use Rattle.tokens.specs.Tables.{token-found, statement-found, reserved-found, pair-found, symbol-found};
+ghost use Rattle.tokens.specs.Parts.{statement-part, operator-part, bytes-at};
+
+// A token that begins a statement.
+pub struct StatementToken(pub u8);
+
+// A token of an operator, or one that says what bytes follow or that a line ends.
+pub struct OperatorToken(pub u8);
+
+// A token of a function.
+pub struct FunctionToken(pub u8);
+
+impl StatementToken {
+    pub const REM: StatementToken = StatementToken(0x00);
+
+    pub const DATA: StatementToken = StatementToken(0x01);
+
+    pub const INPUT: StatementToken = StatementToken(0x02);
+
+    pub const COLOR: StatementToken = StatementToken(0x03);
+
+    pub const LIST: StatementToken = StatementToken(0x04);
+
+    pub const ENTER: StatementToken = StatementToken(0x05);
+
+    pub const LET: StatementToken = StatementToken(0x06);
+
+    pub const IF: StatementToken = StatementToken(0x07);
+
+    pub const FOR: StatementToken = StatementToken(0x08);
+
+    pub const NEXT: StatementToken = StatementToken(0x09);
+
+    pub const GOTO: StatementToken = StatementToken(0x0A);
+
+    pub const GOSUB: StatementToken = StatementToken(0x0C);
+
+    pub const TRAP: StatementToken = StatementToken(0x0D);
+
+    pub const BYE: StatementToken = StatementToken(0x0E);
+
+    pub const CONT: StatementToken = StatementToken(0x0F);
+
+    pub const COM: StatementToken = StatementToken(0x10);
+
+    pub const CLOSE: StatementToken = StatementToken(0x11);
+
+    pub const CLR: StatementToken = StatementToken(0x12);
+
+    pub const DEG: StatementToken = StatementToken(0x13);
+
+    pub const DIM: StatementToken = StatementToken(0x14);
+
+    pub const END: StatementToken = StatementToken(0x15);
+
+    pub const NEW: StatementToken = StatementToken(0x16);
+
+    pub const OPEN: StatementToken = StatementToken(0x17);
+
+    pub const LOAD: StatementToken = StatementToken(0x18);
+
+    pub const SAVE: StatementToken = StatementToken(0x19);
+
+    pub const STATUS: StatementToken = StatementToken(0x1A);
+
+    pub const NOTE: StatementToken = StatementToken(0x1B);
+
+    pub const POINT: StatementToken = StatementToken(0x1C);
+
+    pub const XIO: StatementToken = StatementToken(0x1D);
+
+    pub const ON: StatementToken = StatementToken(0x1E);
+
+    pub const POKE: StatementToken = StatementToken(0x1F);
+
+    pub const PRINT: StatementToken = StatementToken(0x20);
+
+    pub const RAD: StatementToken = StatementToken(0x21);
+
+    pub const READ: StatementToken = StatementToken(0x22);
+
+    pub const RESTORE: StatementToken = StatementToken(0x23);
+
+    pub const RETURN: StatementToken = StatementToken(0x24);
+
+    pub const RUN: StatementToken = StatementToken(0x25);
+
+    pub const STOP: StatementToken = StatementToken(0x26);
+
+    pub const POP: StatementToken = StatementToken(0x27);
+
+    pub const QUESTION: StatementToken = StatementToken(0x28);
+
+    pub const GET: StatementToken = StatementToken(0x29);
+
+    pub const PUT: StatementToken = StatementToken(0x2A);
+
+    pub const GRAPHICS: StatementToken = StatementToken(0x2B);
+
+    pub const PLOT: StatementToken = StatementToken(0x2C);
+
+    pub const POSITION: StatementToken = StatementToken(0x2D);
+
+    pub const DOS: StatementToken = StatementToken(0x2E);
+
+    pub const DRAWTO: StatementToken = StatementToken(0x2F);
+
+    pub const SETCOLOR: StatementToken = StatementToken(0x30);
+
+    pub const LOCATE: StatementToken = StatementToken(0x31);
+
+    pub const SOUND: StatementToken = StatementToken(0x32);
+
+    pub const LPRINT: StatementToken = StatementToken(0x33);
+
+    pub const CSAVE: StatementToken = StatementToken(0x34);
+
+    pub const CLOAD: StatementToken = StatementToken(0x35);
+
+    pub const LET_WITHOUT_WORD: StatementToken = StatementToken(0x36);
+}
+
+impl OperatorToken {
+    pub const NUMBER: OperatorToken = OperatorToken(0x0E);
+
+    pub const STRING: OperatorToken = OperatorToken(0x0F);
+
+    pub const COMMA: OperatorToken = OperatorToken(0x12);
+
+    pub const COLON: OperatorToken = OperatorToken(0x14);
+
+    pub const SEMICOLON: OperatorToken = OperatorToken(0x15);
+
+    pub const LINE_END: OperatorToken = OperatorToken(0x16);
+
+    pub const GOTO: OperatorToken = OperatorToken(0x17);
+
+    pub const GOSUB: OperatorToken = OperatorToken(0x18);
+
+    pub const TO: OperatorToken = OperatorToken(0x19);
+
+    pub const STEP: OperatorToken = OperatorToken(0x1A);
+
+    pub const THEN: OperatorToken = OperatorToken(0x1B);
+
+    pub const NUMBER_SIGN: OperatorToken = OperatorToken(0x1C);
+
+    pub const LESS_OR_EQUAL: OperatorToken = OperatorToken(0x1D);
+
+    pub const UNEQUAL: OperatorToken = OperatorToken(0x1E);
+
+    pub const GREATER_OR_EQUAL: OperatorToken = OperatorToken(0x1F);
+
+    pub const LESS: OperatorToken = OperatorToken(0x20);
+
+    pub const GREATER: OperatorToken = OperatorToken(0x21);
+
+    pub const EQUAL: OperatorToken = OperatorToken(0x22);
+
+    pub const POWER: OperatorToken = OperatorToken(0x23);
+
+    pub const TIMES: OperatorToken = OperatorToken(0x24);
+
+    pub const PLUS: OperatorToken = OperatorToken(0x25);
+
+    pub const MINUS: OperatorToken = OperatorToken(0x26);
+
+    pub const DIVIDED_BY: OperatorToken = OperatorToken(0x27);
+
+    pub const NOT: OperatorToken = OperatorToken(0x28);
+
+    pub const OR: OperatorToken = OperatorToken(0x29);
+
+    pub const AND: OperatorToken = OperatorToken(0x2A);
+
+    pub const OPEN: OperatorToken = OperatorToken(0x2B);
+
+    pub const CLOSE: OperatorToken = OperatorToken(0x2C);
+
+    pub const NUMBER_ASSIGNED: OperatorToken = OperatorToken(0x2D);
+
+    pub const STRING_ASSIGNED: OperatorToken = OperatorToken(0x2E);
+
+    pub const STRING_LESS_OR_EQUAL: OperatorToken = OperatorToken(0x2F);
+
+    pub const STRING_UNEQUAL: OperatorToken = OperatorToken(0x30);
+
+    pub const STRING_GREATER_OR_EQUAL: OperatorToken = OperatorToken(0x31);
+
+    pub const STRING_LESS: OperatorToken = OperatorToken(0x32);
+
+    pub const STRING_GREATER: OperatorToken = OperatorToken(0x33);
+
+    pub const STRING_EQUAL: OperatorToken = OperatorToken(0x34);
+
+    pub const PREFIX_PLUS: OperatorToken = OperatorToken(0x35);
+
+    pub const PREFIX_MINUS: OperatorToken = OperatorToken(0x36);
+
+    pub const SUBSTRING_OPEN: OperatorToken = OperatorToken(0x37);
+
+    pub const ARRAY_OPEN: OperatorToken = OperatorToken(0x38);
+
+    pub const DIM_ARRAY_OPEN: OperatorToken = OperatorToken(0x39);
+
+    pub const FUNCTION_OPEN: OperatorToken = OperatorToken(0x3A);
+
+    pub const DIM_STRING_OPEN: OperatorToken = OperatorToken(0x3B);
+
+    pub const INNER_COMMA: OperatorToken = OperatorToken(0x3C);
+
+    pub const RAW_END: OperatorToken = OperatorToken(0x9B);
+}
+
+impl FunctionToken {
+    pub const STR: FunctionToken = FunctionToken(0x3D);
+
+    pub const CHR: FunctionToken = FunctionToken(0x3E);
+
+    pub const USR: FunctionToken = FunctionToken(0x3F);
+
+    pub const ASC: FunctionToken = FunctionToken(0x40);
+
+    pub const VAL: FunctionToken = FunctionToken(0x41);
+
+    pub const LEN: FunctionToken = FunctionToken(0x42);
+
+    pub const ADR: FunctionToken = FunctionToken(0x43);
+
+    pub const ATN: FunctionToken = FunctionToken(0x44);
+
+    pub const COS: FunctionToken = FunctionToken(0x45);
+
+    pub const PEEK: FunctionToken = FunctionToken(0x46);
+
+    pub const SIN: FunctionToken = FunctionToken(0x47);
+
+    pub const RND: FunctionToken = FunctionToken(0x48);
+
+    pub const FRE: FunctionToken = FunctionToken(0x49);
+
+    pub const EXP: FunctionToken = FunctionToken(0x4A);
+
+    pub const LOG: FunctionToken = FunctionToken(0x4B);
+
+    pub const CLOG: FunctionToken = FunctionToken(0x4C);
+
+    pub const SQR: FunctionToken = FunctionToken(0x4D);
+
+    pub const SGN: FunctionToken = FunctionToken(0x4E);
+
+    pub const ABS: FunctionToken = FunctionToken(0x4F);
+
+    pub const INT: FunctionToken = FunctionToken(0x50);
+
+    pub const PADDLE: FunctionToken = FunctionToken(0x51);
+
+    pub const STICK: FunctionToken = FunctionToken(0x52);
+
+    pub const PTRIG: FunctionToken = FunctionToken(0x53);
+
+    pub const STRIG: FunctionToken = FunctionToken(0x54);
+}
+
+// The words of statements and then those of operators and functions, end to end in the order of their tokens.
+pub const WORDS: [u8; 355] =
+    *b"REMDATAINPUTCOLORLISTENTERLETIFFORNEXTGOTOGOSUBTRAPBYECONTCOMCLOSECLRDEGDIMENDNEWOPENLOADSAVE\
+    STATUSNOTEPOINTXIOONPOKEPRINTRADREADRESTORERETURNRUNSTOPPOP?GETPUTGRAPHICSPLOTPOSITIONDOSDRAWTO\
+    SETCOLORLOCATESOUNDLPRINTCSAVECLOAD\
+    ,:;GOTOGOSUBTOSTEPTHEN#<=<>>=<>=^*+-/NOTORAND()STR$CHR$USRASCVALLENADRATNCOSPEEKSINRNDFREEXPLOG\
+    CLOGSQRSGNABSINTPADDLESTICKPTRIGSTRIG";
+
+// What a search of a table gives: a token, or nothing.
+pub(crate) enum Found {
+    Token(u8),
+    Nothing,
+}
+
+// What a name is as a statement's word.
+pub enum Statement {
+    Word(StatementToken),
+    Nothing,
+}
+
+// What a name is as a word operator or function.
+pub enum Reserved {
+    Operator(OperatorToken),
+    Function(FunctionToken),
+    Nothing,
+}
+
+// A symbol at two bytes: of both, of the first, or none.
+pub enum Symbol {
+    Two(OperatorToken),
+    One(OperatorToken),
+    Nothing,
+}
+
+// Where a spelling stands: among the fixed words or in the name table.
+pub enum Source {
+    Fixed,
+    Names,
+}
+
+// A part of one of two slices.
+pub struct Part {
+    pub source: Source,
+    pub from: usize,
+    pub end: usize,
+}
+
+// The class of a statement's word.
+pub fn statement_class(token: StatementToken) -> u8
+    ensures { λ r. ⌜ r ≡ (word-of statements (token .0)) .class ⌝ }
+{
+    tables::entry(&tables::STATEMENT_CLASSES, token.0 as usize, class::UNFIT)
+}
+
+// The class of an operator or function.
+pub fn operator_class(token: u8) -> u8
+    ensures { λ r. ⌜ r ≡ operator-class token ⌝ }
+{
+    if token == OperatorToken::RAW_END.0 {
+        return class::RAW_END;
+    }
+    if token < tables::FIRST_OPERATOR {
+        return class::UNFIT;
+    }
+    tables::entry(
+        &tables::OPERATOR_CLASSES,
+        (token - tables::FIRST_OPERATOR) as usize,
+        class::UNFIT,
+    )
+}
+
+// Whether an operator is a word: GOTO GOSUB TO STEP THEN, NOT OR AND.
+pub fn is_word_operator(token: u8) -> bool
+    ensures { λ r. ⌜ r ≡ word-operator? token ⌝ }
+{
+    if token < OperatorToken::GOTO.0 {
+        return false;
+    }
+    if token <= OperatorToken::THEN.0 {
+        return true;
+    }
+    if token < OperatorToken::NOT.0 {
+        return false;
+    }
+    token <= OperatorToken::AND.0
+}
+
+// Whether a statement holds raw text: REM, DATA.
+pub fn is_raw_statement(token: StatementToken) -> bool
+    ensures { λ r. ⌜ r ≡ raw-statement? (token .0) ⌝ }
+{
+    statement_class(token) == class::REMARK
+}
+
+// The operator that one with this token is read as: the first with the same spelling.
+pub fn read_as(token: u8) -> u8
+    ensures { λ r. ⌜ r ≡ read-as token ⌝ }
+{
+    if token < tables::FIRST_PLACED {
+        return token;
+    }
+    tables::entry(
+        &tables::READ_AS,
+        (token - tables::FIRST_PLACED) as usize,
+        token,
+    )
+}
+
+// The statement word that is the whole of a name.
+pub fn statement_word(name: &[u8]) -> Statement
+    ensures { λ r. ⌜ r ≡ statement-found (find-word statements (now (name .entry))) ⌝ }
+{
+    match tables::find(&WORDS, 0, &tables::STATEMENT_LENGTHS, 0, name) {
+        Found::Token(t) => Statement::Word(StatementToken(t)),
+        Found::Nothing => Statement::Nothing,
+    }
+}
+
+// The word operator or function that is the whole of a name.
+pub fn reserved_word(name: &[u8]) -> Reserved
+    ensures { λ r. ⌜ r ≡ reserved-found (find-word operators (now (name .entry))) ⌝ }
+{
+    match tables::find(
+        &WORDS,
+        tables::STATEMENT_BYTES,
+        &tables::OPERATOR_LENGTHS,
+        tables::FIRST_OPERATOR,
+        name,
+    ) {
+        Found::Token(t) => {
+            if t < FunctionToken::STR.0 {
+                Reserved::Operator(OperatorToken(t))
+            } else {
+                Reserved::Function(FunctionToken(t))
+            }
+        }
+        Found::Nothing => Reserved::Nothing,
+    }
+}
+
+// The symbol of two bytes that these are; a letter begins none.
+fn pair(b: u8, c: u8) -> Found
+    ensures { λ r. ⌜ r ≡ token-found (pair-found b (find-word operators (b ∷ c ∷ []))) ⌝ }
+{
+    match b {
+        b'<' => match c {
+            b'=' => Found::Token(OperatorToken::LESS_OR_EQUAL.0),
+            b'>' => Found::Token(OperatorToken::UNEQUAL.0),
+            _ => Found::Nothing,
+        },
+        b'>' => match c {
+            b'=' => Found::Token(OperatorToken::GREATER_OR_EQUAL.0),
+            _ => Found::Nothing,
+        },
+        _ => Found::Nothing,
+    }
+}
+
+// The symbol of one byte that this is.
+fn sign(b: u8) -> Found
+    ensures { λ r. ⌜ r ≡ token-found (find-word operators (b ∷ [])) ⌝ }
+{
+    match b {
+        b',' => Found::Token(OperatorToken::COMMA.0),
+        b':' => Found::Token(OperatorToken::COLON.0),
+        b';' => Found::Token(OperatorToken::SEMICOLON.0),
+        b'#' => Found::Token(OperatorToken::NUMBER_SIGN.0),
+        b'<' => Found::Token(OperatorToken::LESS.0),
+        b'>' => Found::Token(OperatorToken::GREATER.0),
+        b'=' => Found::Token(OperatorToken::EQUAL.0),
+        b'^' => Found::Token(OperatorToken::POWER.0),
+        b'*' => Found::Token(OperatorToken::TIMES.0),
+        b'+' => Found::Token(OperatorToken::PLUS.0),
+        b'-' => Found::Token(OperatorToken::MINUS.0),
+        b'/' => Found::Token(OperatorToken::DIVIDED_BY.0),
+        b'(' => Found::Token(OperatorToken::OPEN.0),
+        b')' => Found::Token(OperatorToken::CLOSE.0),
+        _ => Found::Nothing,
+    }
+}
+
+// The longest symbol that two bytes begin with: of two, or of one.
+pub fn longest_symbol(b: u8, c: u8) -> Symbol
+    ensures { λ r. ⌜ r ≡ symbol-found (pair-found b (find-word operators (b ∷ c ∷ []))) (find-word operators (b ∷ [])) ⌝ }
+{
+    match pair(b, c) {
+        Found::Token(t) => Symbol::Two(OperatorToken(t)),
+        Found::Nothing => match sign(b) {
+            Found::Token(t) => Symbol::One(OperatorToken(t)),
+            Found::Nothing => Symbol::Nothing,
+        },
+    }
+}
+
+// Where a statement's word stands among the fixed words; an empty part if the token has none.
+pub fn statement_part(token: StatementToken) -> Part
+    ensures { λ r. ⌜ r ≡ statement-part (token .0) ⌝ }
+{
+    let t = token.0 as usize;
+    let from = tables::entry(&tables::STATEMENT_STARTS, t, 0) as usize;
+    let size = tables::entry(&tables::STATEMENT_LENGTHS, t, 0) as usize;
+    Part {
+        source: Source::Fixed,
+        from,
+        end: from + size,
+    }
+}
+
+// Where the spelling of an operator or function stands among the fixed words; an empty part if the token has none.
+pub fn operator_part(token: u8) -> Part
+    ensures { λ r. ⌜ r ≡ operator-part token ⌝ }
+{
+    let read = read_as(token);
+    if read < tables::FIRST_OPERATOR {
+        return Part {
+            source: Source::Fixed,
+            from: 0,
+            end: 0,
+        };
+    }
+    let i = (read - tables::FIRST_OPERATOR) as usize;
+    let from = tables::STATEMENT_BYTES + tables::entry(&tables::OPERATOR_STARTS, i, 0) as usize;
+    let size = tables::entry(&tables::OPERATOR_LENGTHS, i, 0) as usize;
+    Part {
+        source: Source::Fixed,
+        from,
+        end: from + size,
+    }
+}
+
+// The lesser of two numbers.
+fn lesser(a: usize, b: usize) -> usize
+    ensures { λ r. ⌜ r ≡ pick (leb a b) a b ⌝ }
+{
+    if a <= b { a } else { b }
+}
+
+// The bytes of a slice from one place to another, as far as they are there.
+fn between<'a>(s: &'a [u8], from: usize, end: usize) -> &'a [u8]
+    ensures { λ r. ⌜ now r ≡ take (end - from) (drop from (now (s .entry))) ⌝ }
+{
+    let last = lesser(end, s.len());
+    let first = lesser(from, last);
+    &s[first..last]
+}
+
+// The spelling that stands at a part of the fixed words or of the name table, uncopied.
+pub fn spelling<'a>(words: &'a [u8], names: &'a [u8], part: Part) -> &'a [u8]
+    ensures { λ r. ⌜ now r ≡ bytes-at (now (words .entry)) (now (names .entry)) part ⌝ }
+{
+    let from = part.from;
+    let end = part.end;
+    let source = part.source;
+    match source {
+        Source::Fixed => between(words, from, end),
+        Source::Names => between(names, from, end),
+    }
+}
