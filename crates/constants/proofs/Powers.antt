@@ -1,0 +1,82 @@
+-- Powers of ten and of a hundred, and the exponent and ten digits that paper's six bytes have.
+use Prim.Native.Nat.{ℕ, zero, suc, _+_, _-_, _*_, _/_, _%_, _^_, _≤_, _<_}
+use native.Mathlib.Nat.{pow-suc, pow-succ', pow-zero, add-zero, add-suc, mul-assoc, one-le-pow, mul-le-mul-left, le-trans, mul-one, le-div-iff-mul-le, div-lt-iff-lt-mul, one-le-mul, mul-div-mul-right}
+use native.Mathlib.Omega.{arith}
+use mathlib.Core.Path.{_≡_, refl, sym, ap, subst, _∙_}
+use mathlib.Core.Bool.{Bool, true, false}
+use mathlib.Core.List.{List, [], _∷_}
+use lib.Dec.{leb, eqb}
+use borrow.Author.Tests.{lt-leb, le-leb, ne-eqb}
+use Rattle.paper.specs.Bytes.{pick}
+use Rattle.paper.specs.Constants.{powers, six-at, six, five}
+
+-- a power of a sum is a product
+pub pow-add : (n a b : ℕ) → n ^ (a + b) ≡ n ^ a * n ^ b
+pow-add n a zero = ap (λ (z : ℕ). n ^ z) (add-zero a) ∙ sym (mul-one (n ^ a)) ∙ ap (λ (z : ℕ). n ^ a * z) (sym (pow-zero n))
+pow-add n a (suc b) =
+    ap (λ (z : ℕ). n ^ z) (add-suc a b) ∙ pow-suc n (a + b) ∙ ap (λ (z : ℕ). z * n) (pow-add n a b) ∙ mul-assoc (n ^ a) (n ^ b) n ∙ ap (λ (z : ℕ). n ^ a * z) (sym (pow-suc n b))
+
+-- a hundred is two tens
+pub pow-twice : (k : ℕ) → 10 ^ (2 * k) ≡ 100 ^ k
+pow-twice zero = refl
+pow-twice (suc k) =
+    let e : 2 * suc k ≡ 2 * k + 2 = omega arith in
+    ap (λ (z : ℕ). 10 ^ z) e ∙ pow-add 10 (2 * k) 2 ∙ ap (λ (z : ℕ). z * 100) (pow-twice k) ∙ sym (pow-suc 100 k)
+
+-- powers of ten are above zero
+pub ten-pos : (k : ℕ) → zero < 10 ^ k
+ten-pos k = one-le-pow k 10 (omega arith)
+
+hundred-pos : (k : ℕ) → zero < 100 ^ k
+hundred-pos k = one-le-pow k 100 (omega arith)
+
+-- a quotient of powers of ten goes by their difference
+pub same-quotient : (v a b c d : ℕ) → a + d ≡ c + b → v * 10 ^ a / 10 ^ b ≡ v * 10 ^ c / 10 ^ d
+same-quotient v a b c d e =
+    sym (mul-div-mul-right (v * 10 ^ a) (10 ^ b) (ten-pos d))
+    ∙ ap (λ (n : ℕ). n / (10 ^ b * 10 ^ d)) (mul-assoc v (10 ^ a) (10 ^ d) ∙ ap (λ (n : ℕ). v * n) (sym (pow-add 10 a d) ∙ ap (λ (n : ℕ). 10 ^ n) e ∙ pow-add 10 c b) ∙ sym (mul-assoc v (10 ^ c) (10 ^ b)))
+    ∙ ap (λ (n : ℕ). v * 10 ^ c * 10 ^ b / n) (swapped (10 ^ b) (10 ^ d))
+    ∙ mul-div-mul-right (v * 10 ^ c) (10 ^ d) (ten-pos b)
+  where
+    swapped : (x y : ℕ) → x * y ≡ y * x
+    swapped x y = omega arith
+
+-- the ten digits that paper divides out, with powers of ten alone
+pub quotient-is : (v u d k m t : ℕ) → u + 106 + m ≡ t + (d + 2 * k) → v * 10 ^ u * 100 ^ 53 / (10 ^ d * 100 ^ k) ≡ v * 10 ^ t / 10 ^ m
+quotient-is v u d k m t e =
+    ap (λ (n : ℕ). n / (10 ^ d * 100 ^ k)) (mul-assoc v (10 ^ u) (100 ^ 53) ∙ ap (λ (n : ℕ). v * n) (sym (pow-add 10 u 106)))
+    ∙ ap (λ (n : ℕ). v * 10 ^ (u + 106) / n) (ap (λ (n : ℕ). 10 ^ d * n) (sym (pow-twice k)) ∙ sym (pow-add 10 d (2 * k)))
+    ∙ same-quotient v (u + 106) (d + 2 * k) t m e
+
+first : (n m k : ℕ) → n * 100 * 100 ^ k ≤ m → n * 100 ≤ m
+first n m k lo = le-trans (subst (λ (z : ℕ). z ≤ n * 100 * 100 ^ k) (mul-one (n * 100)) (mul-le-mul-left (n * 100) (hundred-pos k))) lo
+
+-- the climb by hundreds stops at the only exponent that fits
+powers-is : (f n m k : ℕ) → n * 100 ^ k ≤ m → m < n * 100 ^ suc k → k ≤ f → powers f n m ≡ k
+unfolding powers
+powers-is zero n m k lo hi h = omega arith
+powers-is (suc f) n m zero lo hi h = rw (lt-leb (n * 100) m hi)
+powers-is (suc f) n m (suc k) lo hi h =
+    let lo′ : n * 100 * 100 ^ k ≤ m = subst (λ (z : ℕ). z ≤ m) (ap (λ (z : ℕ). n * z) (pow-succ' 100 k) ∙ sym (mul-assoc n 100 (100 ^ k))) lo in
+    let hi′ : m < n * 100 * 100 ^ suc k = subst (λ (z : ℕ). m < z) (ap (λ (z : ℕ). n * z) (pow-succ' 100 (suc k)) ∙ sym (mul-assoc n 100 (100 ^ suc k))) hi in
+    rw (le-leb (n * 100) m (first n m k lo′)) (ap suc (powers-is f (n * 100) m k lo′ hi′ (omega arith)))
+
+-- with the scale as a variable, so that no numeral of a hundred digits is met
+scale-low : (x p b : ℕ) → 100000000 * b ≤ x * (p * 100000000) → b ≤ x * p
+scale-low x p b h = omega arith
+
+scale-high : (x p b : ℕ) → x * (p * 100000000) < 10000000000 * b → x * p < b * 100
+scale-high x p b h = omega arith
+
+-- the exponent and the digits of a constant, from its value cut to ten digits
+pub six-is : (v u d k q : ℕ) → zero < v → k ≤ 97 → v * 10 ^ u * 100 ^ 53 / (10 ^ d * 100 ^ k) ≡ q → 100000000 ≤ q → q < 10000000000 → six v u d ≡ (k + 15) ∷ five q
+unfolding six six-at
+six-is v u d k q hv hk hq lo hi =
+    let x : ℕ = v * 10 ^ u in
+    let b : ℕ = 10 ^ d * 100 ^ k in
+    let pos : zero < b = one-le-mul (ten-pos d) (hundred-pos k) in
+    let below : b ≤ x * 100 ^ 49 = scale-low x (100 ^ 49) b (le-div-iff-mul-le pos .0 (subst (λ (z : ℕ). 100000000 ≤ z) (sym hq) lo)) in
+    let above : x * 100 ^ 49 < b * 100 = scale-high x (100 ^ 49) b (div-lt-iff-lt-mul pos .0 (subst (λ (z : ℕ). z < 10000000000) (sym hq) hi)) in
+    let found : powers 97 (10 ^ d) (x * 100 ^ 49) ≡ k =
+    powers-is 97 (10 ^ d) (x * 100 ^ 49) k below (subst (λ (z : ℕ). x * 100 ^ 49 < z) (mul-assoc (10 ^ d) (100 ^ k) 100 ∙ ap (λ (z : ℕ). 10 ^ d * z) (sym (pow-suc 100 k))) above) hk in
+    rw (ne-eqb v 0 (λ e. omega arith), found, hq)

@@ -1,0 +1,6 @@
+pub mod Tables
+pub mod Places
+pub mod Answers
+pub mod Uses
+pub mod Standing
+pub mod Texts

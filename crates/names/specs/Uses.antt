@@ -1,0 +1,113 @@
+-- What follows from what the functions answer, for their callers.
+use Prim.Native.Nat.{ℕ, zero, suc, _+_, _-_, _*_, _≤_, _<_}
+use native.Mathlib.Omega.{arith}
+use mathlib.Core.Path.{_≡_, refl, subst, sym, ap, _∙_}
+use mathlib.Core.Bool.{Bool, true, false, _&&_, _||_}
+use mathlib.Core.List.{List, [], _∷_, _++_, append-assoc}
+use lib.Dec.{leb, ltb, eqb}
+use lib.ListN.{length, take, drop, getD, length-append}
+use lib.Seq.{drop-append-seam}
+use borrow.Author.Tests.{ltb-true, ltb-false, lt-ltb, le-ltb}
+use Rattle.paper.specs.Bytes.{pick, every}
+use Rattle.paper.specs.Names.{in-front, names-in, name-bytes, marked, number-of, known?, add-name, most-names}
+use Rattle.paper.specs.Calls.{State, names-of, lacks-room}
+use Rattle.buffers.specs.Sets.{written}
+use Rattle.laws.specs.Names.{closed?, closed-append, closed-names, names-some, plain-name, names-of-more, name-added, add-append, number-added, length-marked}
+use Rattle.names.specs.declared.Numbered.{Numbered}
+use Rattle.names.specs.Answers.{Numbers, lacks, Room}
+
+-- the names in some bytes have as many bytes
+pub length-bytes : (bs : List ℕ) → length (name-bytes (names-in bs)) ≡ length bs
+unfolding names-in name-bytes marked in-front
+length-bytes [] = refl
+length-bytes (b ∷ bs) = go (leb 128 b) (names-in bs) (length-bytes bs)
+  where
+    go : (t : Bool) (r : List (List ℕ)) → length (name-bytes r) ≡ length bs → length (name-bytes (pick t (((b - 128) ∷ []) ∷ r) (in-front b r))) ≡ suc (length bs)
+    go true r h = ap suc h
+    go false [] h = ap suc h
+    go false (n ∷ ns) h =
+        let a : length (marked (b ∷ n) ++ name-bytes ns) ≡ suc (length n) + length (name-bytes ns) = length-append (marked (b ∷ n)) (name-bytes ns) ∙ ap (λ (k : ℕ). k + length (name-bytes ns)) (length-marked (b ∷ n)) in
+        let c : length (marked n ++ name-bytes ns) ≡ length n + length (name-bytes ns) = length-append (marked n) (name-bytes ns) ∙ ap (λ (k : ℕ). k + length (name-bytes ns)) (length-marked n) in
+        omega arith
+
+-- ---- a name's number
+
+plain-added : (ns : List (List ℕ)) (n : List ℕ) → plain-name n ≡ true → every plain-name (name-added ns n) ≡ true
+unfolding name-added every
+plain-added ns n h = go (known? ns n)
+  where
+    go : (t : Bool) → every plain-name (pick t [] (n ∷ [])) ≡ true
+    go true = refl
+    go false = rw (h)
+
+-- Where the new names before were whole, the name has bytes with their top bits clear, and there was room: the new names after.
+module _ {ns : List (List ℕ)} {n old new : List ℕ} {f : ℕ} {r : Numbered} (a : Numbers ns n old f r new) (ends : closed? (take f old) ≡ true) (plain : plain-name n ≡ true) (room : r .size ≤ length old) where
+  added : take (r .size) new ≡ take f old ++ name-bytes (name-added ns n)
+  added =
+      ap (λ (k : ℕ). take k new) (a .size) ∙ ap (take (f + length (name-bytes (name-added ns n)))) (a .fresh)
+      ∙ written old f (name-bytes (name-added ns n)) (omega (arith, a .size))
+
+  -- they end with a name
+  pub numbers-closed : closed? (take (r .size) new) ≡ true
+  numbers-closed = ap closed? added ∙ closed-append (take f old) (name-bytes (name-added ns n)) ends (closed-names (name-added ns n))
+
+  -- they are those before, and the name if it is new
+  pub numbers-names : names-in (take (r .size) new) ≡ names-in (take f old) ++ name-added ns n
+  numbers-names = ap names-in added ∙ names-of-more (take f old) (name-added ns n) ends (plain-added ns n plain)
+
+  -- the names of a table, and the new ones: as the name is added to them
+  pub numbers-all : (old-names : List (List ℕ)) → ns ≡ old-names ++ names-in (take f old) → old-names ++ names-in (take (r .size) new) ≡ add-name ns n
+  numbers-all os e =
+      ap (λ (l : List (List ℕ)). os ++ l) numbers-names ∙ sym (append-assoc os (names-in (take f old)) (name-added ns n))
+      ∙ ap (λ (l : List (List ℕ)). l ++ name-added ns n) (sym e) ∙ sym (add-append ns n)
+
+  -- the name's number among them
+  pub numbers-number : r .number ≡ number-of (add-name ns n) n
+  numbers-number = a .number ∙ sym (number-added ns n)
+
+-- ---- the rooms
+
+-- Of a state whose count of names is right this is the paper's test.
+pub lacks-is : (s : State) (new : List (List ℕ)) → length (names-of s) ≡ s .name-count
+    → lacks (length (s .names)) (s .name-size) (length (s .values)) (s .name-count) new ≡ lacks-room s (names-of s ++ new)
+unfolding lacks lacks-room
+lacks-is s new e =
+    let old = names-of s in
+    let seam : drop (length old) (old ++ new) ≡ new = drop-append-seam old new in
+    let size : length (old ++ new) ≡ s .name-count + length new = length-append old new ∙ ap (λ (k : ℕ). k + length new) e in
+    let some : ltb (length old) (length (old ++ new)) ≡ ltb 0 (length new) = more (length old) (length new) (length (old ++ new)) (length-append old new) in
+    sym (rw (some, seam, size))
+  where
+    more : (a b c : ℕ) → c ≡ a + b → ltb a c ≡ ltb 0 b
+    more a b c h = go (ltb 0 b) refl
+      where
+        go : (t : Bool) → ltb 0 b ≡ t → ltb a c ≡ t
+        go true k = lt-ltb a c (omega (arith, ltb-true 0 b k))
+        go false k = le-ltb a c (omega (arith, ltb-false 0 b k))
+
+or-first : (a b : Bool) → a || b ≡ false → a ≡ false
+or-first true b h = h
+or-first false b h = refl
+
+or-second : (a b : Bool) → a || b ≡ false → b ≡ false
+or-second true b h = let z : _≡_ {A = ℕ} 0 1 = cc in absurd (omega arith)
+or-second false b h = h
+
+-- Where nothing is lacking there is room; where no name is new the table itself must have it.
+pub room-left : (names : List ℕ) (size : ℕ) (values : List ℕ) (count : ℕ) (fresh : List ℕ) → lacks (length names) size (length values) count (names-in fresh) ≡ false
+    → closed? fresh ≡ true → count ≤ most-names → size ≤ length names → 8 * count ≤ length values → Room names size values count fresh
+unfolding lacks names-in
+room-left names size values count [] h c k l m = record { whole = c; few = omega arith; name-room = omega arith; value-room = omega arith }
+room-left names size values count (b ∷ bs) h c k l m =
+    let ns = names-in (b ∷ bs) in
+    let many = ltb most-names (count + length ns) in
+    let long = ltb (length names) (size + length (name-bytes ns)) in
+    let wide = ltb (length values) (8 * (count + length ns)) in
+    let some : ltb 0 (length ns) ≡ true = lt-ltb 0 (length ns) (names-some b bs) in
+    let none : many || (long || wide) ≡ false = sym (rw (some)) ∙ h in
+    record {
+      whole = c;
+      few = ltb-false most-names (count + length ns) (or-first many (long || wide) none);
+      name-room = omega (arith, length-bytes (b ∷ bs), ltb-false (length names) (size + length (name-bytes ns)) (or-first long wide (or-second many (long || wide) none)));
+      value-room = ltb-false (length values) (8 * (count + length ns)) (or-second long wide (or-second many (long || wide) none));
+    }

@@ -1,0 +1,209 @@
+-- An accepted text has put in a line that is whole and well-formed, or taken one out; every other line is the same, and the state is sound.
+use Prim.Native.Nat.{ℕ, suc, _+_, _-_, _/_, _%_, _≤_}
+use native.Mathlib.Nat.{le-trans}
+use native.Mathlib.Omega.{arith}
+use mathlib.Core.Path.{_≡_, refl, subst, sym, ap, _∙_}
+use mathlib.Core.Bool.{Bool, true, false}
+use mathlib.Core.List.{List, [], _∷_, _++_, append-nil, map}
+use lib.Dec.{T, eqb, leb, eqb→eq, le→leb}
+use lib.ListN.{length, take, drop, length-append, length-take}
+use borrow.Author.Tests.{eq-eqb, eqb-true}
+use Rattle.paper.specs.Bytes.{pick, blank?, run, every, among, joined}
+use Rattle.paper.specs.Classes.{colon, line-end, raw-end}
+use Rattle.paper.specs.Tokens.{Token, class}
+use Rattle.paper.specs.Names.{add-names}
+use Rattle.paper.specs.Machine.{Taken, left, read}
+use Rattle.paper.specs.Grammar.{Gives, start}
+use Rattle.paper.specs.Line.{variable-bytes, own-bytes, begins?, to-next, token-bytes, line-bytes, line-number, lawful-number?}
+use Rattle.paper.specs.WellFormed.{WellFormed, right-token?}
+use Rattle.paper.specs.Store.{lines-from, lines-in, whole-line?, sound-lines, room, first-is?, lines-below, lines-not-below, lines-above, stored?, put-line, take-out}
+use Rattle.paper.specs.Calls.{State, names-of, lines-of, sound-state, Entered, refusal, tokens, translate, stored, lacks-room, head-of, enter}
+use Rattle.laws.specs.Tests.{and-left, and-both, or-else, is-true}
+use Rattle.promises.specs.Place.{sources}
+use Rattle.promises.specs.TokenRuns.{on-taken, on-run}
+use Rattle.promises.specs.Given.{look-token, tokens-given}
+use Rattle.promises.specs.Neighbours.{Apart, first-class?}
+use Rattle.promises.specs.Closed.{closed, end-class?}
+use Rattle.promises.specs.Reading.{side}
+use Rattle.promises.specs.Decoding.{Shapes, no-tokens, a-statement, a-text, a-target, an-operator, a-variable, a-constant, a-string, line-number-of}
+use Rattle.promises.specs.Shaped.{shapes, starts-statement, first-only}
+use Rattle.promises.specs.RoundTrip.{token-of, as-tokens, tokens-same, Known, known}
+use Rattle.promises.specs.Accepted.{names-new, stored-well-formed}
+use Rattle.promises.specs.NameTable.{NamesGood, adds-good, adds-longer}
+use Rattle.promises.specs.Refusals.{four-or-five}
+use Rattle.promises.specs.Stored.{old-lines, put-sound, out-sound, out-less, bytes-back, Holds, holds}
+use Rattle.promises.specs.States.{SoundState, state-says, names-good, Room, no-more, room-for, made, stored-made, kept}
+use Rattle.promises.specs.Answers.{not-outright, Numbered, Answer, refused-outright, refused-there, puts-line, drops-line, answer}
+use Rattle.promises.specs.Terms.{items-after, Kept, AtMostOne, no-line, one-line, PutIn, TakenOut, Edited, line-put, line-gone}
+
+-- ---- a well-formed line is a whole line
+
+size-some : (ns : List (List ℕ)) (ts : List Token) → Shapes ns ts → 1 ≤ length ts → (p : ℕ) → 1 ≤ length (token-bytes ns p ts)
+unfolding token-bytes own-bytes begins? variable-bytes
+size-some ns ts no-tokens h p = absurd (omega arith)
+size-some ns ts (a-statement k r x y s) h p = omega arith
+size-some ns ts (a-text k b x y a) h p = omega arith
+size-some ns ts (a-target n r x s) h p = omega arith
+size-some ns ts (an-operator j r x y z s) h p = omega arith
+size-some ns ts (a-variable n r x s) h p = omega arith
+size-some ns ts (a-constant b r x s) h p = omega arith
+size-some ns ts (a-string b r s) h p = omega arith
+
+size-three : (ns : List (List ℕ)) (ts : List Token) → Shapes ns ts → to-next ns ts ≡ 0 → 2 ≤ length ts → (p : ℕ) → 3 ≤ length (token-bytes ns p ts)
+unfolding token-bytes to-next own-bytes begins? variable-bytes
+size-three ns ts no-tokens e h p = absurd (omega arith)
+size-three ns ts (a-statement k r x y s) e h p = omega (arith, size-some ns r s (omega arith) (suc p + 1))
+size-three ns ts (a-text k b x y a) e h p = omega (arith, length-append b (0x9b ∷ []))
+size-three ns ts (a-target n r x s) e h p = omega arith
+size-three ns ts (an-operator j r x y z s) e h p = absurd (omega arith)
+size-three ns ts (a-variable n r x s) e h p = absurd (omega arith)
+size-three ns ts (a-constant b r x s) e h p = absurd (omega arith)
+size-three ns ts (a-string b r s) e h p = absurd (omega arith)
+
+end-not-first : (c : ℕ) → T (end-class? c) → T (first-class? c) → ⊥
+unfolding end-class? first-class? among
+end-not-first c e f = or-else (eqb c line-end) (eqb c raw-end) e (λ h. subst (λ (z : ℕ). T (first-class? z)) (eqb→eq c line-end h) f) (λ h. subst (λ (z : ℕ). T (first-class? z)) (eqb→eq c raw-end h) f)
+
+two-tokens : (es : List (Taken Gives Token)) → Apart colon (sources es) → T (closed (map class (sources es))) → 2 ≤ length (tokens-given es)
+unfolding sources tokens-given closed
+two-tokens [] a c = absurd c
+two-tokens (x ∷ []) a c = absurd (end-not-first (class (x .from)) c (first-only (class (x .from)) (side colon (class (x .from)) (a .0))))
+two-tokens (x ∷ y ∷ xs) a c = omega arith
+
+number-is : (n c : ℕ) (b : List ℕ) → line-number (n % 256 ∷ n / 256 ∷ c ∷ b) ≡ n
+unfolding line-number
+number-is n c b = omega arith
+
+whole : (ns : List (List ℕ)) (n : ℕ) (ts : List Token) → T (lawful-number? n) → 3 ≤ length (token-bytes ns 3 ts) → T (whole-line? (line-bytes ns n ts))
+unfolding whole-line? line-bytes
+whole ns n ts h t =
+    let b : List ℕ = token-bytes ns 3 ts in
+    let six : 6 ≤ suc (suc (suc (length b))) = omega arith in
+    let e : eqb (3 + length b) (suc (suc (suc (length b)))) ≡ true = eq-eqb (3 + length b) (suc (suc (suc (length b)))) (omega arith) in
+    let m : T (lawful-number? (line-number (n % 256 ∷ n / 256 ∷ (3 + length b) ∷ b))) = subst (λ (z : ℕ). T (lawful-number? z)) (sym (number-is n (3 + length b) b)) h in
+    and-both (leb 6 (suc (suc (suc (length b))))) _ (le→leb 6 (suc (suc (suc (length b)))) six)
+    (and-both (eqb (3 + length b) (suc (suc (suc (length b))))) _ (subst T (sym e) tt) m)
+
+-- a well-formed line is a whole line
+pub well-formed-whole : (ns : List (List ℕ)) (l : List ℕ) → WellFormed ns l → T (whole-line? l)
+unfolding on-run
+well-formed-whole ns l w =
+    let es : List (Taken Gives Token) = on-taken token-of (w .lawful .taken) in
+    let js : List Token = map token-of (w .items) in
+    let e : read look-token start js ≡ left es [] = sym (as-tokens (w .items)) ∙ ap (on-run token-of) (w .lawful .reads) in
+    let g : tokens-given es ≡ w .tokens = sym (tokens-same (w .lawful .taken)) ∙ w .lawful .gives in
+    let k : Known ns js es = known ns js es e (subst (λ (z : List Token). T (every (right-token? ns) z)) (sym g) (w .right)) in
+    let sh : Shapes ns (tokens-given es) = shapes ns es (k .fit) colon (k .side-by-side) (k .fine) (k .ended) tt tt in
+    let three : 3 ≤ length (token-bytes ns 3 (tokens-given es)) = size-three ns (tokens-given es) sh (starts-statement ns es (k .fit) (k .side-by-side) (k .fine)) (two-tokens es (k .side-by-side) (k .ended)) 3 in
+    subst (λ (z : List ℕ). T (whole-line? z)) (w .bytes) (whole ns (w .number) (w .tokens) (w .lawful-number) (subst (λ (z : List Token). 3 ≤ length (token-bytes ns 3 z)) g three))
+
+-- ---- the lines of a store, cut at a number
+
+-- what stands where a number belongs, and what stands above it
+record CutAt (n : ℕ) (r : List (List ℕ)) (above : List (List ℕ)) : Type 0 where
+  pub there : List (List ℕ)
+  pub are : r ≡ there ++ above
+  pub one : AtMostOne n there
+
+cut-go : (n : ℕ) (l : List ℕ) (ls : List (List ℕ)) (b : Bool) → eqb (line-number l) n ≡ b → CutAt n (l ∷ ls) (pick b ls (l ∷ ls))
+cut-go n l ls true e = record { there = l ∷ []; are = refl; one = one-line l (eqb-true (line-number l) n e) }
+cut-go n l ls false e = record { there = []; are = refl; one = no-line }
+
+cut-at : (n : ℕ) (r : List (List ℕ)) → CutAt n r (pick (first-is? n r) (drop 1 r) r)
+unfolding first-is?
+cut-at n [] = record { there = []; are = refl; one = no-line }
+cut-at n (l ∷ ls) = cut-go n l ls (eqb (line-number l) n) refl
+
+cut-lines : (n : ℕ) (ls : List (List ℕ)) → CutAt n (lines-not-below n ls) (lines-above n ls)
+unfolding lines-above
+cut-lines n ls = cut-at n (lines-not-below n ls)
+
+put-in : (l : List ℕ) (ls : List (List ℕ)) → PutIn (line-number l) l ls (put-line l ls)
+unfolding put-line
+put-in l ls =
+    let n : ℕ = line-number l in
+    let c = cut-lines n ls in
+    record {
+      below = lines-below n ls;
+      replaced = c .there;
+      above = lines-above n ls;
+      was = sym (old-lines n ls) ∙ ap (λ (z : List (List ℕ)). lines-below n ls ++ z) (c .are);
+      is = refl;
+      number = refl;
+      same-number = c .one;
+    }
+
+removed-go : (n : ℕ) (ls r : List (List ℕ)) → T (first-is? n r) → lines-below n ls ++ r ≡ ls → TakenOut n ls (lines-below n ls ++ pick (first-is? n r) (drop 1 r) r)
+unfolding first-is?
+removed-go n ls [] t e = absurd t
+removed-go n ls (l ∷ r) t e =
+    rw (is-true (eqb (line-number l) n) t)
+    (record { below = lines-below n ls; line = l; above = r; was = sym e; is = refl; number = eqb→eq (line-number l) n t })
+
+taken-out : (n : ℕ) (ls : List (List ℕ)) → T (stored? n ls) → TakenOut n ls (take-out n ls)
+unfolding take-out lines-above stored?
+taken-out n ls t = removed-go n ls (lines-not-below n ls) t (old-lines n ls)
+
+-- what the old lines take is what is used
+pub used-bytes : (s : State) → T (sound-state s) → joined (lines-of s) ≡ take (s .used) (s .store)
+unfolding lines-of lines-in sound-lines
+used-bytes s t =
+    let ls : List (List ℕ) = lines-from 0 (take (s .used) (s .store)) in
+    bytes-back (take (s .used) (s .store)) 0 (and-left (every whole-line? ls) _ (state-says s t .lines))
+
+-- ---- an accepted text
+
+lines-are : (s : State) (ns ls : List (List ℕ)) → Holds ls (s .store) → lines-of (stored s ns ls) ≡ ls
+unfolding stored lines-of
+lines-are s ns ls h = h .lines
+
+put-done : (text : List ℕ) (s : State) (t : Numbered text s) (ts : List Token) → translate (t .place) (t .rest) ≡ tokens ts → (ns : List (List ℕ)) → add-names (names-of s) ts ≡ ns → lacks-room s ns ≡ false
+    → length (joined (put-line (line-bytes ns (t .number) ts) (lines-of s))) ≤ room (s .store)
+    → Edited text s (record { number = 0; place = 0; added = length ns - length (names-of s); after = stored s ns (put-line (line-bytes ns (t .number) ts) (lines-of s)) })
+put-done text s t ts tr ns en lacks fits =
+    let o : SoundState s = state-says s (t .sound) in
+    let longer = adds-longer ts (names-of s) in
+    let new : List (List ℕ) = longer .0 in
+    let is : ns ≡ names-of s ++ new = sym en ∙ longer .1 in
+    let n : ℕ = t .number in
+    let l : List ℕ = line-bytes ns n ts in
+    let ls : List (List ℕ) = put-line l (lines-of s) in
+    let a : State = stored s ns ls in
+    let wf : WellFormed ns l = subst (λ (z : List (List ℕ)). WellFormed z (line-bytes z n ts)) en (stored-well-formed (names-of s) n (t .place) (t .rest) ts (t .lawful) tr) in
+    let good : NamesGood (names-of s ++ new) = subst NamesGood (en ∙ is) (adds-good ts (names-of s) (names-new (t .place) (t .rest) ts tr) (names-good (names-of s) (o .names))) in
+    let r : Room s new = room-for s new o (subst (λ (z : List (List ℕ)). lacks-room s z ≡ false) is lacks) in
+    let h : Holds ls (s .store) = holds ls (s .store) (put-sound l (lines-of s) (well-formed-whole ns l wf) (o .lines)) fits in
+    let made-so : a ≡ made s new ls = ap (λ (z : List (List ℕ)). stored s z ls) is ∙ stored-made s new ls in
+    let k : Kept s a new = subst (λ (z : State). Kept s z new) (sym made-so) (kept s new ls o good r h) in
+    let names : names-of a ≡ ns = k .names ∙ sym is in
+    let put : PutIn n l (lines-of s) ls = subst (λ (z : ℕ). PutIn z l (lines-of s) ls) (line-number-of ns n ts) (put-in l (lines-of s)) in
+    line-put n (t .place) (t .rest) ts new (t .head) tr (names ∙ sym en) (omega (arith, ap length is, length-append (names-of s) new)) k
+    (subst (λ (z : List (List ℕ)). PutIn n (line-bytes z n ts) (lines-of s) (lines-of a)) (sym names) (subst (PutIn n l (lines-of s)) (sym (lines-are s ns ls h)) put))
+    (subst (λ (z : List (List ℕ)). WellFormed z (line-bytes z n ts)) (sym names) wf)
+
+gone-done : (text : List ℕ) (s : State) (t : Numbered text s) → run blank? (t .rest) ≡ length (t .rest) → T (stored? (t .number) (lines-of s))
+    → Edited text s (record { number = 0; place = 0; added = 0; after = stored s (names-of s) (take-out (t .number) (lines-of s)) })
+gone-done text s t b st =
+    let o : SoundState s = state-says s (t .sound) in
+    let n : ℕ = t .number in
+    let ls : List (List ℕ) = take-out n (lines-of s) in
+    let a : State = stored s (names-of s) ls in
+    let is : names-of s ≡ names-of s ++ [] = sym (append-nil (names-of s)) in
+    let used : length (joined (lines-of s)) ≤ room (s .store) = omega (arith, ap length (used-bytes s (t .sound)), length-take (s .used) (s .store), o .used-fits) in
+    let fits : length (joined ls) ≤ room (s .store) = le-trans (out-less n (lines-of s)) used in
+    let h : Holds ls (s .store) = holds ls (s .store) (out-sound n (lines-of s) (o .lines)) fits in
+    let made-so : a ≡ made s [] ls = ap (λ (z : List (List ℕ)). stored s z ls) is ∙ stored-made s [] ls in
+    let k : Kept s a [] = subst (λ (z : State). Kept s z []) (sym made-so) (kept s [] ls o (subst NamesGood is (names-good (names-of s) (o .names))) (no-more s o) h) in
+    line-gone n (t .place) (t .rest) (t .head) b refl k (subst (TakenOut n (lines-of s)) (sym (lines-are s (names-of s) ls h)) (taken-out n (lines-of s) st))
+
+-- an answer with number 0 is one of the two edits
+pub edited-so : (text : List ℕ) (s : State) (e : Entered) → Answer text s e → e .number ≡ 0 → Edited text s e
+unfolding refusal among
+edited-so text s e (refused-outright k h) z = absurd (not-outright k 0 h tt z)
+edited-so text s e (refused-there k q h) z = absurd (four-or-five (items-after (head-of text)) k q h (λ x. omega arith) (λ x. omega arith))
+edited-so text s e (puts-line t ts tr lacks fits) z = put-done text s t ts tr (add-names (names-of s) ts) refl lacks fits
+edited-so text s e (drops-line t b st) z = gone-done text s t b st
+
+-- every accepted text did one of the two edits
+pub edited : (text : List ℕ) (s : State) → (enter text s) .number ≡ 0 → Edited text s (enter text s)
+edited text s z = edited-so text s (enter text s) (answer text s) z

@@ -1,0 +1,117 @@
+-- The promises, about the definitions of `paper`. The terms in which they are stated are in Terms.antt.
+use Prim.Native.Nat.{ℕ, zero, _+_, _≤_, _<_}
+use mathlib.Core.Path.{_≡_, sym, _∙_}
+use mathlib.Core.Bool.{Bool}
+use mathlib.Core.Logic.{_⊎_}
+use mathlib.Core.List.{List, List·Memᴰ}
+use lib.Dec.{T}
+use lib.ListN.{length, take}
+use Rattle.paper.specs.Tokens.{constant}
+use Rattle.paper.specs.Constants.{in-range, six, zero-bytes, right-constant?, constant-text}
+use Rattle.paper.specs.Names.{sound-names}
+use Rattle.paper.specs.Items.{item, item-at}
+use Rattle.paper.specs.Line.{line-number}
+use Rattle.paper.specs.WellFormed.{WellFormed, well-formed?}
+use Rattle.paper.specs.Listing.{listing}
+use Rattle.paper.specs.Store.{room, put-line}
+use Rattle.paper.specs.Calls.{State, names-of, lines-of, sound-state, Entered, enter, Listed, list}
+use Rattle.promises.specs.Terms.{items-in, NoReading, OutOfRange, Edited, Written, HoldsWellFormed, CutTo, bytes?, old-size, with-lines, accepted-with}
+use Rattle.promises.specs.ConstantRight as ConstantRight′
+use Rattle.promises.specs.ConstantSize as ConstantSize′
+use Rattle.promises.specs.RoundTrip as RoundTrip′
+use Rattle.promises.specs.WellFormedTest as WellFormedTest′
+use Rattle.promises.specs.Answers as Answers′
+use Rattle.promises.specs.Editing as Editing′
+use Rattle.promises.specs.WellFormedLines as WellFormedLines′
+use Rattle.promises.specs.ReEntry as ReEntry′
+
+-- 1. Place. At the place of refusal 4 stands the first item such that no lawful sequence begins with the items up to it. At the place of
+-- refusal 5 stands the first constant out of range; the grammar takes it there, so that no place for 4 stands left of it, or there.
+-- Every other answer has place 0.
+pub place-of-4 : (text : List ℕ) (s : State) → (enter text s) .number ≡ 4 → NoReading (items-in text) ((enter text s) .place)
+place-of-4 text s h = Answers′.place-four text s h
+
+-- refusal 5
+pub place-of-5 : (text : List ℕ) (s : State) → (enter text s) .number ≡ 5 → OutOfRange (items-in text) ((enter text s) .place)
+place-of-5 text s h = Answers′.place-five text s h
+
+-- every other answer
+pub no-place : (text : List ℕ) (s : State) → ((enter text s) .number ≡ 4 → ⊥) → ((enter text s) .number ≡ 5 → ⊥) → (enter text s) .place ≡ 0
+no-place text s h k = Answers′.no-place text s h k
+
+-- 2. A refused call leaves every buffer and count as given, and answers counts 0. An accepted listing writes the text of the line and leaves
+-- every other byte as it was.
+pub refused-text : (text : List ℕ) (s : State) → ((enter text s) .number ≡ 0 → ⊥) → ((enter text s) .after ≡ s) × ((enter text s) .added ≡ 0)
+refused-text text s h = Answers′.unchanged text s h
+
+-- a refused listing
+pub refused-listing : (n : ℕ) (s : State) (output : List ℕ) → ((list n s output) .number ≡ 0 → ⊥) → ((list n s output) .output ≡ output) × ((list n s output) .written ≡ 0)
+refused-listing n s output h = Answers′.unwritten n s output h
+
+-- an accepted listing
+pub accepted-listing : (n : ℕ) (s : State) (output : List ℕ) → (list n s output) .number ≡ 0 → Written n s output (list n s output)
+accepted-listing n s output h = Answers′.writes n s output h
+
+-- 3. The store. An accepted text has put one line in, in the place of the one with its number if there was one, or taken one out. Every
+-- other line's bytes are the same; the whole state is sound, so the numbers rise; old names and values stand; the new names come after
+-- them in order of first appearance, with their value entries; and from the new ends on no byte of any buffer has changed.
+pub accepted-text : (text : List ℕ) (s : State) → (enter text s) .number ≡ 0 → Edited text s (enter text s)
+accepted-text text s h = Editing′.edited text s h
+
+-- 4. Constants. Six right bytes are listed in at most 15 bytes, and that text is read as the same six bytes. The six bytes of a value in
+-- range are its first ten digits, with the lower ones cut, never rounded; zero is six zero bytes.
+pub constant-listed : (b : List ℕ) → T (right-constant? b) → length (constant-text b) ≤ 15
+constant-listed b h = ConstantSize′.fifteen b h
+
+-- and read again
+pub constant-read : (b : List ℕ) → T (right-constant? b) → (first : Bool) (p : ℕ) → item-at first p (constant-text b) ≡ item p (length (constant-text b)) (constant b)
+constant-read b h first p = ConstantSize′.reads-back b h first p
+
+-- the lower digits are cut
+pub constant-cut : (v u d : ℕ) → zero < v → T (in-range v u d) → CutTo v u d
+constant-cut v u d h r = ConstantRight′.cut v u d h r
+
+-- zero
+pub constant-zero : (u d : ℕ) → six 0 u d ≡ zero-bytes
+constant-zero u d = ConstantRight′.cut-zero u d
+
+-- and what is made of a value is right
+pub constant-right : (v u d : ℕ) → T (in-range v u d) → T (right-constant? (six v u d))
+constant-right v u d r = ConstantRight′.six-right v u d r
+
+-- 5. Entry stores only well-formed lines: after an accepted text every line of the store stood there before, or is well-formed over the names
+-- after the call; and a store of well-formed lines stays one, whatever is entered.
+pub stored-line : (text : List ℕ) (s : State) → (enter text s) .number ≡ 0 → (l : List ℕ) → List·Memᴰ l (lines-of ((enter text s) .after)) → List·Memᴰ l (lines-of s) ⊎ WellFormed (names-of ((enter text s) .after)) l
+stored-line text s h l m = WellFormedLines′.lines-after text s (enter text s) (Editing′.edited text s h) l m
+
+-- over any number of calls
+pub stored-lines : (text : List ℕ) (s : State) → HoldsWellFormed s → HoldsWellFormed ((enter text s) .after)
+stored-lines text s h = WellFormedLines′.stays-well-formed text s h
+
+-- The test that a listing makes before it answers 10 says what the definition of well-formed says.
+pub well-formed-test : (ns : List (List ℕ)) (l : List ℕ) → (T (well-formed? ns l) → WellFormed ns l) × (WellFormed ns l → T (well-formed? ns l))
+well-formed-test ns l = (WellFormedTest′.test-says ns l, WellFormedTest′.says-test ns l)
+
+-- 6. Re-entry. Over sound tables with room for it, a well-formed line whose listing has at most 120 bytes is put in, byte for byte, by
+-- entering that listing; no name is added, and nothing else changes. So a line that is listed from the store, entered again, leaves the
+-- state as it is.
+pub re-entry : (s : State) → T (sound-state s) → (l : List ℕ) → T (bytes? l) → WellFormed (names-of s) l → length (listing (names-of s) l) ≤ 120 → s .used + length l ≤ room (s .store) + old-size (line-number l) s
+    → enter (listing (names-of s) l) s ≡ accepted-with (with-lines s (put-line l (lines-of s)))
+re-entry s o l b w h r = ReEntry′.entered-again s o l w h b r
+
+-- listed, and entered again
+pub listed-again : (n : ℕ) (s : State) (output : List ℕ) → T (bytes? (s .store)) → (list n s output) .number ≡ 0 → (list n s output) .written ≤ 120
+    → enter (take ((list n s output) .written) ((list n s output) .output)) s ≡ accepted-with s
+listed-again n s output b h k = ReEntry′.listed-again n s output h k b
+
+-- 7. No two different well-formed lines over one sound name table have the same listing, of any length.
+pub one-listing : (ns : List (List ℕ)) → T (sound-names ns) → (l m : List ℕ) → WellFormed ns l → WellFormed ns m → listing ns l ≡ listing ns m → l ≡ m
+one-listing ns s l m v w e = RoundTrip′.one-listing ns s l m v w e
+
+-- 8. Tightness. Two outcomes that satisfy a call's contract are equal.
+pub one-entered : (text : List ℕ) (s : State) (a b : Entered) → a ≡ enter text s → b ≡ enter text s → a ≡ b
+one-entered text s a b h k = h ∙ sym k
+
+-- the same of a listing
+pub one-listed : (n : ℕ) (s : State) (output : List ℕ) (a b : Listed) → a ≡ list n s output → b ≡ list n s output → a ≡ b
+one-listed n s output a b h k = h ∙ sym k

@@ -1,0 +1,170 @@
+-- The state after an accepted edit: sound again, with the old names and values in front of the new ones, and every other byte as it was.
+use Prim.Native.Nat.{ℕ, suc, _+_, _*_, _≤_}
+use native.Mathlib.Omega.{arith}
+use mathlib.Core.Path.{_≡_, refl, subst, sym, ap, ap₂, _∙_}
+use mathlib.Core.Bool.{true, false, _||_}
+use mathlib.Core.List.{List, [], _∷_, _++_}
+use lib.Dec.{T, leb, ltb, eqb, leb→le, le→leb, eqb→eq, eqb-refl}
+use lib.ListN.{length, take, drop, length-append}
+use lib.Seq.{drop-append-seam}
+use borrow.Author.Tests.{ltb-false, lt-ltb}
+use Rattle.paper.specs.Bytes.{every, same, joined}
+use Rattle.paper.specs.Names.{names-in, name-bytes, name?, all-different, most-names, sound-names, sound-table, value-entries}
+use Rattle.paper.specs.Store.{sound-lines, room, sound-store, overwritten}
+use Rattle.paper.specs.Calls.{State, names-of, lines-of, sound-state, stored, lacks-room}
+use Rattle.laws.specs.Tests.{and-left, and-right, and-both, as-T}
+use Rattle.promises.specs.Terms.{Kept}
+use Rattle.promises.specs.Lists.{or-false-left, or-false-right, same-eq, same-refl}
+use Rattle.promises.specs.NameTable.{NamesGood, names-back, name-bytes-append}
+use Rattle.promises.specs.Stored.{Extended, extended, over-past, Holds}
+
+-- what a sound state is
+pub record SoundState (s : State) : Type 0 where
+  pub table-fits : s .name-size ≤ length (s .names)
+  pub bytes : name-bytes (names-of s) ≡ take (s .name-size) (s .names)
+  pub count : length (names-of s) ≡ s .name-count
+  pub names : T (sound-names (names-of s))
+  pub values-fit : 8 * s .name-count ≤ length (s .values)
+  pub used-fits : s .used ≤ room (s .store)
+  pub lines : T (sound-lines (lines-of s))
+
+-- what the test of soundness says
+pub state-says : (s : State) → T (sound-state s) → SoundState s
+unfolding sound-state sound-table sound-store names-of lines-of
+state-says s t =
+    let bs : List ℕ = take (s .name-size) (s .names) in
+    let a = and-left (sound-table (s .names) (s .name-size) (s .name-count)) _ t in
+    let b = and-right (leb (s .name-size) (length (s .names))) _ a in
+    let c = and-right (same (name-bytes (names-in bs)) bs) _ b in
+    let d = and-right (sound-table (s .names) (s .name-size) (s .name-count)) _ t in
+    let e = and-right (leb (8 * s .name-count) (length (s .values))) _ d in
+    record {
+      table-fits = leb→le (s .name-size) (length (s .names)) (and-left (leb (s .name-size) (length (s .names))) _ a);
+      bytes = same-eq (name-bytes (names-in bs)) bs (and-left (same (name-bytes (names-in bs)) bs) _ b);
+      count = eqb→eq (length (names-in bs)) (s .name-count) (and-left (eqb (length (names-in bs)) (s .name-count)) _ c);
+      names = and-right (eqb (length (names-in bs)) (s .name-count)) _ c;
+      values-fit = leb→le (8 * s .name-count) (length (s .values)) (and-left (leb (8 * s .name-count) (length (s .values))) _ d);
+      used-fits = leb→le (s .used) (room (s .store)) (and-left (leb (s .used) (room (s .store))) _ e);
+      lines = and-right (leb (s .used) (room (s .store))) _ e;
+    }
+
+-- ---- names of a sound table
+
+few : (ns : List (List ℕ)) → T (sound-names ns) → length ns ≤ 128
+unfolding sound-names
+few ns t = leb→le (length ns) 128 (and-left (leb (length ns) most-names) _ t)
+
+-- sound names are good
+pub names-good : (ns : List (List ℕ)) → T (sound-names ns) → NamesGood ns
+unfolding sound-names
+names-good ns t =
+    let a = and-right (leb (length ns) most-names) _ t in
+    let b = and-right (every name? ns) _ a in
+    record { names = and-left (every name? ns) _ a; different = and-left (all-different ns) _ b; no-words = and-right (all-different ns) _ b }
+
+good-names : (ns : List (List ℕ)) → length ns ≤ 128 → NamesGood ns → T (sound-names ns)
+unfolding sound-names
+good-names ns h g =
+    and-both (leb (length ns) most-names) _ (le→leb (length ns) 128 h)
+    (and-both (every name? ns) _ (g .names) (and-both (all-different ns) _ (g .different) (g .no-words)))
+
+-- ---- room for new names
+
+-- room for the new names, their bytes and their values
+pub record Room (s : State) (new : List (List ℕ)) : Type 0 where
+  pub count : length (names-of s) + length new ≤ 128
+  pub bytes : s .name-size + length (name-bytes new) ≤ length (s .names)
+  pub values : 8 * (length (names-of s) + length new) ≤ length (s .values)
+
+-- no new names need no room
+pub no-more : (s : State) → SoundState s → Room s []
+unfolding name-bytes
+no-more s o = let f = few (names-of s) (o .names) in record { count = omega (arith, f); bytes = omega (arith, o .table-fits); values = omega (arith, o .count, o .values-fit) }
+
+room-go : (s : State) (new : List (List ℕ)) (k : ℕ) → k ≡ length (names-of s) + length new
+    → ltb most-names k || (ltb (length (s .names)) (s .name-size + length (name-bytes new)) || ltb (length (s .values)) (8 * k)) ≡ false → Room s new
+room-go s new k e h =
+    let a = or-false-right (ltb most-names k) _ h in
+    let x : k ≤ 128 = ltb-false 128 k (or-false-left (ltb most-names k) _ h) in
+    let y : s .name-size + length (name-bytes new) ≤ length (s .names) = ltb-false _ _ (or-false-left (ltb (length (s .names)) (s .name-size + length (name-bytes new))) _ a) in
+    let z : 8 * k ≤ length (s .values) = ltb-false _ _ (or-false-right (ltb (length (s .names)) (s .name-size + length (name-bytes new))) _ a) in
+    record { count = omega arith; bytes = y; values = omega arith }
+
+-- a line that is not refused with 6 has room for its names
+pub room-for : (s : State) (new : List (List ℕ)) → SoundState s → lacks-room s (names-of s ++ new) ≡ false → Room s new
+unfolding lacks-room
+room-for s [] o h = no-more s o
+room-for s (n ∷ new) o h =
+    let k : length (names-of s ++ n ∷ new) ≡ length (names-of s) + length (n ∷ new) = length-append (names-of s) (n ∷ new) in
+    let l : ltb (length (names-of s)) (length (names-of s ++ n ∷ new)) ≡ true = lt-ltb (length (names-of s)) (length (names-of s ++ n ∷ new)) (omega arith) in
+    room-go s (n ∷ new) (length (names-of s ++ n ∷ new)) k (rw (l, drop-append-seam (names-of s) (n ∷ new)) at h)
+
+-- ---- the state with new names and lines
+
+-- the state that `stored` makes, with the new names by themselves
+unfoldable pub made : State → List (List ℕ) → List (List ℕ) → State
+made s new ls =
+    record {
+      names = overwritten (take (s .name-size) (s .names) ++ name-bytes new) (s .names);
+      name-size = s .name-size + length (name-bytes new);
+      name-count = length (names-of s ++ new);
+      values = overwritten (take (8 * s .name-count) (s .values) ++ value-entries (s .name-count) new) (s .values);
+      store = overwritten (joined ls) (s .store);
+      used = length (joined ls);
+    }
+
+-- it is the same state
+pub stored-made : (s : State) (new ls : List (List ℕ)) → stored s (names-of s ++ new) ls ≡ made s new ls
+unfolding stored made
+stored-made s new ls = rw (drop-append-seam (names-of s) new)
+
+entries-size : (i : ℕ) (ns : List (List ℕ)) → length (value-entries i ns) ≡ 8 * length ns
+unfolding value-entries
+entries-size i [] = refl
+entries-size i (n ∷ ns) = let e = entries-size (suc i) ns in omega arith
+
+table-sound : (s : State) (new : List (List ℕ)) → SoundState s → NamesGood (names-of s ++ new) → Room s new → (out : List ℕ) → take (s .name-size + length (name-bytes new)) out ≡ take (s .name-size) (s .names) ++ name-bytes new → length out ≡ length (s .names)
+    → (names-in (take (s .name-size + length (name-bytes new)) out) ≡ names-of s ++ new) × T (sound-table out (s .name-size + length (name-bytes new)) (length (names-of s ++ new)))
+unfolding sound-table
+table-sound s new o g r out e l =
+    let ns : List (List ℕ) = names-of s ++ new in
+    let size : ℕ = s .name-size + length (name-bytes new) in
+    let bytes : take size out ≡ name-bytes ns = e ∙ ap (λ (z : List ℕ). z ++ name-bytes new) (sym (o .bytes)) ∙ sym (name-bytes-append (names-of s) new) in
+    let back : names-in (take size out) ≡ ns = ap names-in bytes ∙ names-back ns (g .names) in
+    let few : length ns ≤ 128 = subst (λ (z : ℕ). z ≤ 128) (sym (length-append (names-of s) new)) (r .count) in (
+      back,
+      and-both (leb size (length out)) _ (le→leb size (length out) (subst (λ (z : ℕ). size ≤ z) (sym l) (r .bytes)))
+          (and-both (same (name-bytes (names-in (take size out))) (take size out)) _
+          (as-T _ (ap₂ same (ap name-bytes back) bytes ∙ same-refl (name-bytes ns)))
+          (and-both (eqb (length (names-in (take size out))) (length ns)) _
+          (subst (λ (z : List (List ℕ)). T (eqb (length z) (length ns))) (sym back) (eqb-refl (length ns)))
+          (subst (λ (z : List (List ℕ)). T (sound-names z)) (sym back) (good-names ns few g)))),
+    )
+
+-- new names that are good and have room, and sound lines that have room, leave a sound state
+pub kept : (s : State) (new ls : List (List ℕ)) → SoundState s → NamesGood (names-of s ++ new) → Room s new → Holds ls (s .store) → Kept s (made s new ls) new
+unfolding made names-of lines-of sound-state
+kept s new ls o g r h =
+    let n : Extended (s .name-size) (name-bytes new) (s .names) = extended (s .name-size) (name-bytes new) (s .names) (r .bytes) in
+    let es : List ℕ = value-entries (s .name-count) new in
+    let el : length es ≡ 8 * length new = entries-size (s .name-count) new in
+    let v : Extended (8 * s .name-count) es (s .values) = extended (8 * s .name-count) es (s .values) (omega (arith, r .values, o .count)) in
+    let t = table-sound s new o g r (overwritten (take (s .name-size) (s .names) ++ name-bytes new) (s .names)) (n .both) (n .same-size) in
+    let c : 8 * length (names-of s ++ new) ≡ 8 * s .name-count + length es = omega (arith, length-append (names-of s) new, o .count) in
+    let fits : 8 * length (names-of s ++ new) ≤ length (s .values) = omega (arith, r .values, length-append (names-of s) new) in
+    record {
+      sound =
+          and-both (sound-table (overwritten (take (s .name-size) (s .names) ++ name-bytes new) (s .names)) (s .name-size + length (name-bytes new)) (length (names-of s ++ new))) _ (t .1)
+          (and-both (leb (8 * length (names-of s ++ new)) (length (overwritten (take (8 * s .name-count) (s .values) ++ es) (s .values)))) _
+          (le→leb (8 * length (names-of s ++ new)) _ (subst (λ (z : ℕ). 8 * length (names-of s ++ new) ≤ z) (sym (v .same-size)) fits)) (h .sound));
+      names = t .0;
+      old-names = n .kept;
+      old-values = v .kept;
+      new-values = subst (λ (z : ℕ). take z (drop (8 * s .name-count) (overwritten (take (8 * s .name-count) (s .values) ++ es) (s .values))) ≡ es) el (v .there);
+      past-names = n .past;
+      past-values = subst (λ (z : ℕ). drop z (overwritten (take (8 * s .name-count) (s .values) ++ es) (s .values)) ≡ drop z (s .values)) (sym c) (v .past);
+      past-store = over-past (joined ls) (s .store);
+      names-size = n .same-size;
+      values-size = v .same-size;
+      store-size = h .same-size;
+    }
