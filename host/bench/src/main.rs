@@ -1,0 +1,179 @@
+//! Times entry and listing: nanoseconds for each line, the library beside the reference.
+//!
+//!   bench [--rounds N]
+//!
+//! Each figure is the median of the rounds; the two sides take turns. Without the feature
+//! `library` only the reference is timed.
+
+mod program;
+mod sides;
+
+use std::env;
+use std::hint::black_box;
+use std::time::Instant;
+
+use program::{program, text, Program, STEP};
+use sides::{Reference, Side};
+
+/// What is timed.
+#[derive(Clone, Copy)]
+enum Task {
+    EnterAlone,
+    Enter(usize),
+    Replace(usize),
+    Delete(usize),
+    List(usize),
+}
+
+const TASKS: [Task; 9] = [
+    Task::EnterAlone,
+    Task::Enter(200),
+    Task::Enter(2000),
+    Task::Replace(200),
+    Task::Replace(2000),
+    Task::Delete(200),
+    Task::Delete(2000),
+    Task::List(200),
+    Task::List(2000),
+];
+const NAME_COUNTS: [usize; 3] = [0, 18, 128];
+
+impl Task {
+    /// How many lines the store has.
+    fn lines(self) -> usize {
+        match self {
+            Task::EnterAlone => 0,
+            Task::Enter(lines) | Task::Replace(lines) | Task::Delete(lines) | Task::List(lines) => {
+                lines
+            }
+        }
+    }
+
+    fn title(self) -> String {
+        match self {
+            Task::EnterAlone => "enter alone".into(),
+            Task::Enter(lines) => format!("enter into {lines}"),
+            Task::Replace(lines) => format!("replace in {lines}"),
+            Task::Delete(lines) => format!("delete from {lines}"),
+            Task::List(lines) => format!("list of {lines}"),
+        }
+    }
+}
+
+/// What a round needs: a program, and the texts or numbers of its calls.
+struct Job {
+    task: Task,
+    program: Program,
+    texts: Vec<Vec<u8>>,
+    numbers: Vec<usize>,
+}
+
+/// Calls of one round.
+const CALLS: usize = 24;
+
+/// Sets up a task: its calls are spread over the whole program.
+fn job(task: Task, names: usize) -> Job {
+    let lines = task.lines();
+    let place = |call: usize| call * lines.max(1) / CALLS;
+    let mut texts = Vec::new();
+    let mut numbers = Vec::new();
+    for call in 0..CALLS {
+        let number = place(call) * STEP + STEP;
+        numbers.push(number);
+        texts.push(match task {
+            Task::EnterAlone => text(names, number, call * 3),
+            // Between two lines, each time a new number.
+            Task::Enter(_) => text(names, number + 1 + call % 8, call * 3),
+            // Another statement than the one that stands there.
+            Task::Replace(_) => text(names, number, call * 3 + 6),
+            Task::Delete(_) => number.to_string().into_bytes(),
+            Task::List(_) => Vec::new(),
+        });
+    }
+    Job {
+        task,
+        program: program(names, lines),
+        texts,
+        numbers,
+    }
+}
+
+/// Runs a round and gives the nanoseconds for each call.
+fn round<S: Side>(job: &Job) -> f64 {
+    let mut work = job.program.clone();
+    let mut out = [0; 1024];
+    let start = Instant::now();
+    for call in 0..CALLS {
+        let number = match job.task {
+            Task::List(_) => {
+                let (number, written) = S::list(
+                    black_box(job.numbers[call]),
+                    &work.names,
+                    &work.values,
+                    &work.store,
+                    &work.record,
+                    &mut out,
+                );
+                black_box(&out[..written]);
+                number
+            }
+            _ => {
+                if let Task::EnterAlone = job.task {
+                    work.record.used = 0;
+                }
+                S::enter(
+                    black_box(&job.texts[call]),
+                    &mut work.names,
+                    &mut work.values,
+                    &mut work.store,
+                    &mut work.record,
+                )
+            }
+        };
+        assert_eq!(number, 0);
+    }
+    let time = start.elapsed();
+    black_box(&work.store);
+    time.as_nanos() as f64 / CALLS as f64
+}
+
+/// The median.
+fn median(mut times: Vec<f64>) -> f64 {
+    times.sort_by(f64::total_cmp);
+    times[times.len() / 2]
+}
+
+fn main() {
+    let mut words = env::args().skip(1);
+    let rounds = match (words.next().as_deref(), words.next()) {
+        (Some("--rounds"), Some(count)) => count.parse().expect("a number of rounds"),
+        _ => 500,
+    };
+    println!("ns for each line, median of {rounds} rounds of {CALLS} calls");
+    println!("| task | names | reference | library | ratio |");
+    println!("|---|---|---|---|---|");
+    for task in TASKS {
+        for names in NAME_COUNTS {
+            let job = job(task, names);
+            let mut reference = Vec::new();
+            let mut library: Vec<f64> = Vec::new();
+            for _ in 0..rounds {
+                reference.push(round::<Reference>(&job));
+                #[cfg(feature = "library")]
+                library.push(round::<sides::Library>(&job));
+            }
+            let reference = median(reference);
+            let (shown, ratio) = if library.is_empty() {
+                ("-".into(), "-".into())
+            } else {
+                let library = median(std::mem::take(&mut library));
+                (
+                    format!("{library:.0}"),
+                    format!("{:.2}", library / reference),
+                )
+            };
+            let title = task.title();
+            println!("| {title} | {names} | {reference:.0} | {shown} | {ratio} |");
+        }
+    }
+}

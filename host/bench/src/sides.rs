@@ -1,0 +1,100 @@
+//! The two implementations behind one shape.
+
+use reference::Record;
+
+/// An implementation that can be timed.
+pub trait Side {
+    /// Enters a text and gives the answer's number.
+    fn enter(
+        text: &[u8],
+        names: &mut [u8],
+        values: &mut [u8],
+        store: &mut [u8],
+        record: &mut Record,
+    ) -> usize;
+
+    /// Lists a line and gives the answer's number and the bytes written.
+    fn list(
+        line: usize,
+        names: &[u8],
+        values: &[u8],
+        store: &[u8],
+        record: &Record,
+        out: &mut [u8],
+    ) -> (usize, usize);
+}
+
+/// The independent implementation.
+pub struct Reference;
+
+impl Side for Reference {
+    #[inline(never)]
+    fn enter(
+        text: &[u8],
+        names: &mut [u8],
+        values: &mut [u8],
+        store: &mut [u8],
+        record: &mut Record,
+    ) -> usize {
+        reference::enter(text, names, values, store, record).number
+    }
+
+    #[inline(never)]
+    fn list(
+        line: usize,
+        names: &[u8],
+        values: &[u8],
+        store: &[u8],
+        record: &Record,
+        out: &mut [u8],
+    ) -> (usize, usize) {
+        let answer = reference::list(line, names, values, store, record, out);
+        (answer.number, answer.written)
+    }
+}
+
+/// The proved library.
+#[cfg(feature = "library")]
+pub struct Library;
+
+#[cfg(feature = "library")]
+impl Side for Library {
+    #[inline(never)]
+    fn enter(
+        text: &[u8],
+        names: &mut [u8],
+        values: &mut [u8],
+        store: &mut [u8],
+        record: &mut Record,
+    ) -> usize {
+        let mut lent = lend(record);
+        let answer = virgontey::enter(text, names, values, store, &mut lent);
+        record.used = lent.used;
+        record.name_count = lent.name_count;
+        record.name_bytes = lent.name_bytes;
+        answer.number
+    }
+
+    #[inline(never)]
+    fn list(
+        line: usize,
+        names: &[u8],
+        values: &[u8],
+        store: &[u8],
+        record: &Record,
+        out: &mut [u8],
+    ) -> (usize, usize) {
+        let answer = virgontey::list(line, names, values, store, &lend(record), out);
+        (answer.number, answer.written)
+    }
+}
+
+/// The record as the library's wrapper takes it.
+#[cfg(feature = "library")]
+fn lend(record: &Record) -> virgontey::Record {
+    virgontey::Record {
+        used: record.used,
+        name_count: record.name_count,
+        name_bytes: record.name_bytes,
+    }
+}

@@ -1,0 +1,584 @@
+//! Cases: calls over made-up tables and stores, with what the reference answers.
+
+use std::collections::{BTreeMap, VecDeque};
+
+use protocol::{run_reference, Answer, Call, Tables};
+use reference::Record;
+
+use crate::lines::{any_line, change};
+use crate::random::Random;
+use crate::texts::{any_text, bulky_text, delete_text, lawful_text, new_name, spoil};
+
+/// One call, what the reference answers, and what the demands say of it besides.
+pub struct Case {
+    pub call: Call,
+    pub expected: Answer,
+    /// Cases with one number here are over one name table.
+    pub table: u64,
+    pub promise: Promise,
+}
+
+/// What a call must do beyond agreeing with the reference.
+#[derive(Clone, Copy, PartialEq, Eq, Debug)]
+pub enum Promise {
+    /// Nothing special.
+    None,
+    /// The text is a stored line's listing: the same bytes must be stored and no name added.
+    SameLine,
+    /// The line was just entered: it must list.
+    WellFormed,
+}
+
+/// Makes cases without end, the same ones for the same seed.
+pub struct Cases {
+    random: Random,
+    /// Counts of tables and stores are below this.
+    count_bound: u64,
+    world: World,
+    left_in_world: usize,
+    waiting: VecDeque<Case>,
+    table: u64,
+}
+
+/// Tables and a store, with their lines taken apart.
+#[derive(Default)]
+struct World {
+    tables: Tables,
+    names: Vec<Vec<u8>>,
+    lines: BTreeMap<usize, Vec<u8>>,
+}
+
+impl Iterator for Cases {
+    type Item = Case;
+
+    fn next(&mut self) -> Option<Case> {
+        if let Some(case) = self.waiting.pop_front() {
+            return Some(case);
+        }
+        if self.left_in_world == 0 {
+            self.world = new_world(&mut self.random);
+            // Calls over large stores take long.
+            let large = self.world.tables.store.len() > 20_000;
+            let most = if large { 12 } else { 60 };
+            self.left_in_world = self.random.between(8, most);
+            self.table += 1;
+        }
+        self.left_in_world -= 1;
+        Some(match self.random.below(100) {
+            0..=54 => self.enter_case(),
+            55..=76 => self.list_case(),
+            77..=89 => self.foreign_case(),
+            _ => self.unsound_case(),
+        })
+    }
+}
+
+impl Cases {
+    /// Cases from a seed, with counts below this bound.
+    pub fn new(seed: u64, count_bound: u64) -> Cases {
+        Cases {
+            random: Random::new(seed),
+            count_bound,
+            world: World::default(),
+            left_in_world: 0,
+            waiting: VecDeque::new(),
+            table: 0,
+        }
+    }
+
+    /// A case over the present name table.
+    fn case(&self, call: Call, promise: Promise) -> Case {
+        let expected = run_reference(call.clone());
+        Case {
+            call,
+            expected,
+            table: self.table,
+            promise,
+        }
+    }
+
+    /// A text for this world.
+    fn text(&mut self) -> Vec<u8> {
+        let random = &mut self.random;
+        match random.below(100) {
+            0..=49 => lawful_text(random, &self.world.names),
+            50..=74 => {
+                let mut text = lawful_text(random, &self.world.names);
+                spoil(random, &mut text);
+                text
+            }
+            75..=82 => any_text(random),
+            83..=88 => delete_text(random),
+            89..=92 => self.fitting_text(),
+            _ => bulky_text(random),
+        }
+    }
+
+    /// A remark whose line just fills the store, or is one byte shorter or longer.
+    fn fitting_text(&mut self) -> Vec<u8> {
+        let tables = &self.world.tables;
+        let room = tables.store.len().min(65535);
+        let free = room.saturating_sub(tables.record.used);
+        let length = (free + self.random.below(3)).saturating_sub(7);
+        let mut text = self.random.below(32768).to_string().into_bytes();
+        text.extend(b" REM ");
+        text.resize(text.len() + length.min(110), b'F');
+        text
+    }
+
+    /// Enters a text; sometimes the world goes on from what it leaves.
+    fn enter_case(&mut self) -> Case {
+        let call = Call::Enter {
+            text: self.text(),
+            tables: self.world.tables.clone(),
+        };
+        let case = self.case(call, Promise::None);
+        if let Answer::Enter {
+            number: 0,
+            added,
+            tables,
+            ..
+        } = &case.expected
+        {
+            let tables = tables.clone();
+            let added = *added;
+            if self.random.chance(30) {
+                if let Some(line) = changed_line(&self.world.tables, &tables) {
+                    let call = Call::List {
+                        line,
+                        tables: tables.clone(),
+                        out: self.random.bytes(1024),
+                    };
+                    let mut listed = self.case(call, Promise::WellFormed);
+                    listed.table = if added == 0 { self.table } else { 0 };
+                    self.waiting.push_back(listed);
+                }
+            }
+            if self.random.chance(50) {
+                self.world.adopt(tables);
+                self.table += (added > 0) as u64;
+            }
+        }
+        case
+    }
+
+    /// Lists a line of the world, then sometimes enters the listing.
+    fn list_case(&mut self) -> Case {
+        let line = self.some_line();
+        let tables = self.world.tables.clone();
+        self.list_over(line, tables)
+    }
+
+    /// Lists a line that was changed by a foreign hand.
+    fn foreign_case(&mut self) -> Case {
+        let Some(line) = self.stored_line() else {
+            return self.list_case();
+        };
+        let other = self.stored_line().unwrap_or(line);
+        let random = &mut self.random;
+        let new = if random.chance(90) {
+            change(random, &self.world.lines[&line], &self.world.lines[&other])
+        } else {
+            any_line(random, line)
+        };
+        let mut lines = self.world.lines.clone();
+        lines.insert(line, new);
+        let mut tables = self.world.tables.clone();
+        let spare = random.below(10);
+        let Some(store) = joined(&lines) else {
+            return self.list_case();
+        };
+        tables.record.used = store.len();
+        tables.store = store;
+        tables.store.extend(random.bytes(spare));
+        self.list_over(line, tables)
+    }
+
+    /// Lists a line over these tables; a short listing is sometimes entered again.
+    fn list_over(&mut self, line: usize, tables: Tables) -> Case {
+        let ample = self.random.chance(60);
+        let room = if ample { 1024 } else { self.random.below(80) };
+        let call = Call::List {
+            line,
+            tables: tables.clone(),
+            out: self.random.bytes(room),
+        };
+        let case = self.case(call, Promise::None);
+        if let Answer::List {
+            number: 0,
+            written,
+            out,
+        } = &case.expected
+        {
+            if *written <= 120 && self.random.chance(70) {
+                let call = Call::Enter {
+                    text: out[..*written].to_vec(),
+                    tables,
+                };
+                let again = self.case(call, Promise::SameLine);
+                self.waiting.push_back(again);
+            }
+        }
+        case
+    }
+
+    /// The number of a stored line.
+    fn stored_line(&mut self) -> Option<usize> {
+        if self.world.lines.is_empty() {
+            return None;
+        }
+        let place = self.random.below(self.world.lines.len());
+        self.world.lines.keys().nth(place).copied()
+    }
+
+    /// A number to list, mostly of a stored line.
+    fn some_line(&mut self) -> usize {
+        if self.random.chance(90) {
+            if let Some(line) = self.stored_line() {
+                return line;
+            }
+        }
+        match self.random.below(10) {
+            0..=6 => self.random.below(60),
+            7 | 8 => self.random.below(40000),
+            _ => self.any_count(),
+        }
+    }
+
+    /// A count of any size.
+    fn any_count(&mut self) -> usize {
+        let bits = self.random.bits() >> self.random.below(64);
+        (bits % self.count_bound) as usize
+    }
+
+    /// A count near the given one, or any.
+    fn wrong_count(&mut self, count: usize) -> usize {
+        let greatest = (self.count_bound - 1) as usize;
+        let wrong = match self.random.below(8) {
+            0 => self.any_count(),
+            1 => greatest,
+            2 => 0,
+            3 => 128 + self.random.below(3),
+            4 => count.saturating_add(self.random.below(20)),
+            5 => count.saturating_sub(self.random.below(20)),
+            6 => count.saturating_sub(1),
+            _ => count.saturating_add(1),
+        };
+        wrong.min(greatest)
+    }
+
+    /// A call over tables that are mostly unsound.
+    fn unsound_case(&mut self) -> Case {
+        let mut tables = self.world.tables.clone();
+        for _ in 0..self.random.between(1, 2) {
+            self.upset(&mut tables);
+        }
+        let call = if self.random.chance(50) {
+            Call::Enter {
+                text: self.text(),
+                tables,
+            }
+        } else {
+            Call::List {
+                line: self.some_line(),
+                tables,
+                out: self.random.bytes(200),
+            }
+        };
+        let mut case = self.case(call, Promise::None);
+        case.table = 0;
+        case
+    }
+
+    /// Makes one change that tables rarely survive.
+    fn upset(&mut self, tables: &mut Tables) {
+        let record = tables.record;
+        let name_bytes = record.name_bytes.min(tables.names.len());
+        let values = record.name_count.saturating_mul(8);
+        match self.random.below(14) {
+            0 => tables.record.used = self.wrong_count(record.used),
+            1 => tables.record.name_count = self.wrong_count(record.name_count),
+            2 => tables.record.name_bytes = self.wrong_count(record.name_bytes),
+            3 => cut(&mut self.random, &mut tables.names, record.name_bytes),
+            4 => cut(&mut self.random, &mut tables.values, values),
+            5 => cut(&mut self.random, &mut tables.store, record.used),
+            6..=8 if name_bytes > 0 => {
+                let place = self.random.below(name_bytes);
+                let byte = &mut tables.names[place];
+                match self.random.below(4) {
+                    0 => *byte ^= 0x80,
+                    1 => *byte = *byte & 0x80 | self.random.byte() & 0x7F,
+                    2 => *byte = *byte & 0x80 | b"$(1A"[self.random.below(4)],
+                    _ => *byte = self.random.byte(),
+                }
+            }
+            9 if record.name_count > 0 => self.rename(tables),
+            10 if record.used > 0 => self.shorten_line(tables),
+            _ if record.used > 0 && tables.store.len() >= 3 => {
+                let heads = head_places(tables);
+                let head = heads[self.random.below(heads.len())];
+                let place = head + self.random.below(3);
+                tables.store[place] = match self.random.below(4) {
+                    0 => tables.store[place].wrapping_add(1),
+                    1 => tables.store[place].wrapping_sub(1),
+                    2 => self.random.below(9) as u8,
+                    _ => self.random.byte(),
+                };
+            }
+            _ => tables.record.used = self.wrong_count(record.used),
+        }
+    }
+
+    /// Gives the tables a store of which one line has from 3 to 6 bytes.
+    fn shorten_line(&mut self, tables: &mut Tables) {
+        let Some(number) = self.stored_line() else {
+            return;
+        };
+        let mut lines = self.world.lines.clone();
+        if let Some(line) = lines.get_mut(&number) {
+            line.truncate(self.random.between(3, 6));
+            line[2] = line.len() as u8;
+        }
+        let spare = self.random.below(9);
+        tables.store = lines.values().flatten().copied().collect();
+        tables.record.used = tables.store.len();
+        tables.store.extend(self.random.bytes(spare));
+    }
+
+    /// Gives a name of the table another's spelling, or a fixed word's.
+    fn rename(&mut self, tables: &mut Tables) {
+        let mut names = plain_names(tables);
+        let place = self.random.below(names.len());
+        names[place] = if self.random.chance(50) {
+            names[self.random.below(names.len())].clone()
+        } else {
+            let words = [
+                "NOT", "OR", "AND(", "GOTO", "GOSUB(", "TO", "STEP", "THEN", "STR$", "CHR$", "USR",
+                "SIN(", "RND", "STRIG", "STR$(", "A$(", "1A", "$", "PRINT", "?", "STR(", "CHR",
+                "IF(", "NOT$", "AB",
+            ];
+            self.random.pick(&words).as_bytes().to_vec()
+        };
+        let spare = self.random.below(9);
+        tables.names = stored_names(&names);
+        tables.record.name_bytes = tables.names.len();
+        tables.names.extend(self.random.bytes(spare));
+    }
+}
+
+/// Cuts a buffer near its used end.
+fn cut(random: &mut Random, buffer: &mut Vec<u8>, used: usize) {
+    let near = used.saturating_add(random.below(4)).saturating_sub(2);
+    buffer.truncate(near);
+}
+
+/// Where the lines of a sound store start.
+fn head_places(tables: &Tables) -> Vec<usize> {
+    let mut places = Vec::new();
+    let mut at = 0;
+    while at + 3 <= tables.record.used.min(tables.store.len()) {
+        places.push(at);
+        at += (tables.store[at + 2] as usize).max(3);
+    }
+    if places.is_empty() {
+        places.push(0);
+    }
+    places
+}
+
+/// The number of a line that an edit put in or replaced.
+fn changed_line(before: &Tables, after: &Tables) -> Option<usize> {
+    let old = lines_of(before);
+    lines_of(after)
+        .into_iter()
+        .find(|(number, line)| old.get(number) != Some(line))
+        .map(|(number, _)| number)
+}
+
+/// The lines of a sound store.
+fn lines_of(tables: &Tables) -> BTreeMap<usize, Vec<u8>> {
+    let mut lines = BTreeMap::new();
+    let mut rest = &tables.store[..tables.record.used];
+    while !rest.is_empty() {
+        let (line, behind) = rest.split_at(rest[2] as usize);
+        lines.insert(line[0] as usize + 256 * line[1] as usize, line.to_vec());
+        rest = behind;
+    }
+    lines
+}
+
+/// The names of a sound table, plain.
+fn plain_names(tables: &Tables) -> Vec<Vec<u8>> {
+    let mut names = vec![Vec::new()];
+    for byte in &tables.names[..tables.record.name_bytes.min(tables.names.len())] {
+        if let Some(name) = names.last_mut() {
+            name.push(byte & 0x7F);
+        }
+        if *byte >= 0x80 {
+            names.push(Vec::new());
+        }
+    }
+    names.pop();
+    if names.is_empty() {
+        names.push(b"A".to_vec());
+    }
+    names
+}
+
+/// Names as a table holds them.
+fn stored_names(names: &[Vec<u8>]) -> Vec<u8> {
+    let mut bytes = Vec::new();
+    for name in names {
+        bytes.extend_from_slice(name);
+        if let Some(last) = bytes.last_mut() {
+            *last |= 0x80;
+        }
+    }
+    bytes
+}
+
+/// The lines end to end, if a store can hold them.
+fn joined(lines: &BTreeMap<usize, Vec<u8>>) -> Option<Vec<u8>> {
+    let store: Vec<u8> = lines.values().flatten().copied().collect();
+    (store.len() <= 65535).then_some(store)
+}
+
+/// Spare room behind a buffer: none, little or plenty.
+fn spare(random: &mut Random, plenty: usize) -> Vec<u8> {
+    let count = match random.below(10) {
+        0 => 0,
+        1 | 2 => random.below(24),
+        _ => random.between(plenty / 2, plenty),
+    };
+    random.bytes(count)
+}
+
+impl World {
+    /// Goes on from the tables that an accepted edit left.
+    fn adopt(&mut self, tables: Tables) {
+        self.lines = lines_of(&tables);
+        self.names = if tables.record.name_count == 0 {
+            Vec::new()
+        } else {
+            plain_names(&tables)
+        };
+        self.tables = tables;
+    }
+}
+
+/// Makes sound tables and a store.
+fn new_world(random: &mut Random) -> World {
+    let count = match random.below(20) {
+        0..=3 => 0,
+        4..=11 => random.between(1, 10),
+        12..=15 => random.between(11, 40),
+        16 | 17 => random.between(100, 127),
+        _ => 128,
+    };
+    let mut names: Vec<Vec<u8>> = Vec::new();
+    while names.len() < count {
+        let mut name = new_name(random);
+        if random.chance(1) {
+            let tail = vec![b'Q'; random.below(300)];
+            name.splice(1..1, tail);
+        }
+        if !names.contains(&name) {
+            names.push(name);
+        }
+    }
+
+    // Lines come from texts entered one by one into an empty store.
+    let mut tables = Tables {
+        names: stored_names(&names),
+        values: random.bytes(1024),
+        store: vec![0; 300],
+        record: Record::default(),
+    };
+    tables.record.name_count = count;
+    tables.record.name_bytes = tables.names.len();
+    tables.names.resize(8192, 0);
+    let mut lines: BTreeMap<usize, Vec<u8>> = BTreeMap::new();
+    let wanted = match random.below(40) {
+        0..=5 => 0,
+        6..=30 => random.between(1, 8),
+        31..=38 => random.between(9, 30),
+        _ => random.between(100, 250),
+    };
+    for _ in 0..wanted {
+        tables.record.used = 0;
+        let text = lawful_text(random, &names);
+        let call = Call::Enter { text, tables };
+        let Answer::Enter { tables: left, .. } = run_reference(call) else {
+            unreachable!("an entry is answered as an entry");
+        };
+        tables = left;
+        for (number, line) in lines_of(&tables) {
+            let number = if wanted > 30 {
+                random.below(32768)
+            } else {
+                number
+            };
+            let mut line = line;
+            line[0] = number as u8;
+            line[1] = (number >> 8) as u8;
+            lines.insert(number, line);
+        }
+    }
+    make_foreign(random, &mut lines);
+    if random.below(60) == 0 {
+        fill_with_remarks(random, &mut lines);
+    }
+
+    let store: Vec<u8> = lines.values().flatten().copied().collect();
+    tables.record.used = store.len();
+    tables.names.truncate(tables.record.name_bytes);
+    tables.names.extend(spare(random, 200));
+    tables.values.truncate(8 * tables.record.name_count);
+    tables.values.extend(spare(random, 300));
+    tables.store = store;
+    tables.store.extend(spare(random, 600));
+    tables.names.truncate(protocol::MOST_NAMES);
+    tables.store.truncate(protocol::MOST_STORE);
+    let mut world = World::default();
+    world.adopt(tables);
+    world
+}
+
+/// Lets a foreign hand change a few lines.
+fn make_foreign(random: &mut Random, lines: &mut BTreeMap<usize, Vec<u8>>) {
+    if lines.is_empty() || random.chance(50) {
+        return;
+    }
+    let numbers: Vec<usize> = lines.keys().copied().collect();
+    for _ in 0..random.between(1, 4) {
+        let number = numbers[random.below(numbers.len())];
+        let other = numbers[random.below(numbers.len())];
+        let new = change(random, &lines[&number], &lines[&other]);
+        lines.insert(number, new);
+    }
+}
+
+/// Fills a store up to near its greatest size.
+fn fill_with_remarks(random: &mut Random, lines: &mut BTreeMap<usize, Vec<u8>>) {
+    let mut total: usize = lines.values().map(Vec::len).sum();
+    let aim = match random.below(4) {
+        0 => random.between(65534, 65538),
+        _ => 65535 - random.below(120),
+    };
+    let mut number = 1000;
+    while total + 6 <= aim {
+        let length = (aim - total).min(random.between(200, 255));
+        let mut line = vec![
+            number as u8,
+            (number >> 8) as u8,
+            length as u8,
+            length as u8,
+            0,
+        ];
+        line.resize(length - 1, b'R');
+        line.push(0x9B);
+        let old = lines.insert(number, line).map_or(0, |line| line.len());
+        total = total + length - old;
+        number += 1;
+    }
+}

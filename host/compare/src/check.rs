@@ -1,0 +1,218 @@
+//! What every answer must hold to, whoever gives it: the reference is not asked here.
+
+use std::collections::HashMap;
+
+use protocol::{Answer, Call, Tables};
+
+use crate::cases::{Case, Promise};
+
+/// Keeps what the demands compare between calls.
+#[derive(Default)]
+pub struct Checker {
+    table: u64,
+    /// Listings over the present name table, each with its line.
+    listings: HashMap<Vec<u8>, Vec<u8>>,
+    /// How often each answer was given.
+    pub counts: [u64; 12],
+    /// Listings entered again, and pairs of equal listings seen.
+    pub entered_again: u64,
+    pub listed_again: u64,
+}
+
+impl Checker {
+    /// Tests an answer; says what is wrong with it.
+    pub fn check(&mut self, case: &Case, answer: &Answer) -> Result<(), String> {
+        if *answer != case.expected {
+            return Err("the answers differ".into());
+        }
+        if let Some(count) = self.counts.get_mut(answer.number()) {
+            *count += 1;
+        }
+        match (&case.call, answer) {
+            (
+                Call::Enter { text: _, tables },
+                Answer::Enter {
+                    number,
+                    place,
+                    added,
+                    used,
+                    tables: after,
+                },
+            ) => {
+                require(*used == after.record.used, "used and the record differ")?;
+                require(
+                    *place == 0 || *number == 4 || *number == 5,
+                    "a place without cause",
+                )?;
+                if *number != 0 {
+                    require(tables == after, "a refusal changed something")?;
+                    require(*added == 0, "a refusal added names")?;
+                } else {
+                    check_edit(tables, after, *added)?;
+                }
+                self.check_entered(case, answer)
+            }
+            (
+                Call::List { line, tables, out },
+                Answer::List {
+                    number,
+                    written,
+                    out: after,
+                },
+            ) => {
+                require(out.len() == after.len(), "the output has another length")?;
+                require(
+                    out[*written..] == after[*written..],
+                    "bytes past the listing changed",
+                )?;
+                if *number != 0 {
+                    require(*written == 0, "a refused listing wrote")?;
+                    require(
+                        case.promise != Promise::WellFormed,
+                        "an entered line does not list",
+                    )?;
+                    return Ok(());
+                }
+                let listing = &after[..*written];
+                let Some(bytes) = find(tables, *line) else {
+                    return Err("a line that is not there was listed".into());
+                };
+                self.check_listing(case.table, listing, bytes)
+            }
+            _ => Err("an answer of the other kind".into()),
+        }
+    }
+
+    /// A listing that was entered must have left everything as it was.
+    fn check_entered(&mut self, case: &Case, answer: &Answer) -> Result<(), String> {
+        if case.promise != Promise::SameLine {
+            return Ok(());
+        }
+        self.entered_again += 1;
+        let (
+            Call::Enter { tables, .. },
+            Answer::Enter {
+                number,
+                added,
+                tables: after,
+                ..
+            },
+        ) = (&case.call, answer)
+        else {
+            return Err("an answer of the other kind".into());
+        };
+        require(
+            *number == 0 && *added == 0,
+            "a listing was not taken as it is",
+        )?;
+        require(tables == after, "a listing gave other bytes")
+    }
+
+    /// Equal listings over one table come from equal lines.
+    fn check_listing(&mut self, table: u64, listing: &[u8], line: &[u8]) -> Result<(), String> {
+        if table == 0 {
+            return Ok(());
+        }
+        if table != self.table {
+            self.table = table;
+            self.listings.clear();
+        }
+        match self.listings.get(listing) {
+            Some(known) => {
+                self.listed_again += 1;
+                require(known == line, "two lines have one listing")
+            }
+            None => {
+                self.listings.insert(listing.to_vec(), line.to_vec());
+                Ok(())
+            }
+        }
+    }
+}
+
+/// Says what is wrong unless `holds`.
+fn require(holds: bool, wrong: &str) -> Result<(), String> {
+    if holds {
+        Ok(())
+    } else {
+        Err(wrong.into())
+    }
+}
+
+/// The bytes of a stored line.
+fn find(tables: &Tables, number: usize) -> Option<&[u8]> {
+    lines(tables)?
+        .into_iter()
+        .find(|line| number_of(line) == number)
+}
+
+/// A line's number.
+fn number_of(line: &[u8]) -> usize {
+    line[0] as usize + 256 * line[1] as usize
+}
+
+/// The lines of a store, if they lie end to end up to the used count.
+fn lines(tables: &Tables) -> Option<Vec<&[u8]>> {
+    let mut rest = tables.store.get(..tables.record.used)?;
+    let mut lines = Vec::new();
+    while !rest.is_empty() {
+        let length = *rest.get(2)? as usize;
+        if length < 6 || length > rest.len() {
+            return None;
+        }
+        let (line, behind) = rest.split_at(length);
+        lines.push(line);
+        rest = behind;
+    }
+    Some(lines)
+}
+
+/// An accepted edit: order, other lines, names, and all bytes behind the new ends.
+fn check_edit(before: &Tables, after: &Tables, added: usize) -> Result<(), String> {
+    let (Some(old), Some(new)) = (lines(before), lines(after)) else {
+        return Err("the store does not hold lines end to end".into());
+    };
+    let rising = new
+        .windows(2)
+        .all(|pair| number_of(pair[0]) < number_of(pair[1]));
+    require(rising, "line numbers do not rise")?;
+
+    // All but at most one line are the same, in the same order.
+    let front = old.iter().zip(&new).take_while(|(a, b)| a == b).count();
+    let old_rest = &old[front..];
+    let new_rest = &new[front..];
+    let same = old_rest == new_rest
+        || (!old_rest.is_empty() && old_rest[1..] == *new_rest)
+        || (!new_rest.is_empty() && *old_rest == new_rest[1..])
+        || (!old_rest.is_empty() && !new_rest.is_empty() && old_rest[1..] == new_rest[1..]);
+    require(same, "another line changed")?;
+
+    let counts = (before.record, after.record);
+    require(
+        counts.1.name_count == counts.0.name_count + added,
+        "the count of names is wrong",
+    )?;
+    let kept = counts.0.name_bytes;
+    require(counts.1.name_bytes >= kept, "names were lost")?;
+    require(
+        before.names[..kept] == after.names[..kept],
+        "an old name changed",
+    )?;
+    let old_values = 8 * counts.0.name_count;
+    require(
+        before.values[..old_values] == after.values[..old_values],
+        "an old value changed",
+    )?;
+    tail(&before.names, &after.names, counts.1.name_bytes)?;
+    tail(&before.values, &after.values, 8 * counts.1.name_count)?;
+    tail(&before.store, &after.store, counts.1.used)
+}
+
+/// Bytes behind a new end are as they were.
+fn tail(before: &[u8], after: &[u8], end: usize) -> Result<(), String> {
+    require(before.len() == after.len(), "a buffer has another length")?;
+    require(
+        before[end..] == after[end..],
+        "bytes behind a new end changed",
+    )
+}

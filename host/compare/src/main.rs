@@ -1,0 +1,206 @@
+//! Compares the reference with another implementation over generated calls.
+//!
+//!   compare [--calls N] [--seed S] [--through PROGRAM]
+//!
+//! Without the feature `library` the other side is the reference itself, reached through the
+//! protocol's text, so that generator and checks are tried. With it, it is the proved library.
+//! `--through` takes any program that speaks the protocol on standard input and output.
+//! `--long` runs 50,000,000 calls.
+
+mod cases;
+mod check;
+mod lines;
+mod paths;
+mod random;
+mod texts;
+
+use std::process::ExitCode;
+use std::sync::mpsc;
+use std::time::Instant;
+use std::{env, io, thread};
+
+use cases::{Case, Cases};
+use check::Checker;
+use protocol::{write_answer, write_call, Answer};
+
+/// Differences shown in full before the run stops.
+const MOST_SHOWN: u64 = 5;
+
+struct Options {
+    calls: u64,
+    seed: u64,
+    through: Option<String>,
+}
+
+fn main() -> ExitCode {
+    let options = match read_options() {
+        Ok(options) => options,
+        Err(wrong) => {
+            eprintln!("{wrong}");
+            return ExitCode::from(2);
+        }
+    };
+    let start = Instant::now();
+    let mut run = Run::default();
+    let result = match &options.through {
+        Some(program) => run.through_program(&options, program),
+        None => {
+            run.in_process(&options);
+            Ok(())
+        }
+    };
+    if let Err(wrong) = result {
+        eprintln!("{wrong}");
+        return ExitCode::from(2);
+    }
+    run.report(&options, start.elapsed().as_secs_f64());
+    if run.differences == 0 && run.done == options.calls {
+        ExitCode::SUCCESS
+    } else {
+        ExitCode::FAILURE
+    }
+}
+
+/// Reads the options.
+fn read_options() -> Result<Options, String> {
+    let mut options = Options {
+        calls: 1_000_000,
+        seed: 1,
+        through: None,
+    };
+    let mut words = env::args().skip(1);
+    while let Some(word) = words.next() {
+        if word == "--long" {
+            options.calls = 50_000_000;
+            continue;
+        }
+        let value = words.next().ok_or(format!("{word} lacks its value"))?;
+        let number = || {
+            value
+                .parse::<u64>()
+                .map_err(|_| format!("{value} is no number"))
+        };
+        match word.as_str() {
+            "--calls" => options.calls = number()?,
+            "--seed" => options.seed = number()?,
+            "--through" => options.through = Some(value),
+            _ => return Err(format!("{word} is no option")),
+        }
+    }
+    Ok(options)
+}
+
+/// A run, as far as it has come.
+#[derive(Default)]
+struct Run {
+    checker: Checker,
+    done: u64,
+    differences: u64,
+}
+
+impl Run {
+    /// Tests one answer; false when enough has gone wrong.
+    fn take(&mut self, case: &Case, answer: Option<Answer>) -> bool {
+        self.done += 1;
+        let result = match &answer {
+            Some(answer) => self.checker.check(case, answer),
+            None => Err("there is no answer".into()),
+        };
+        if let Err(wrong) = result {
+            self.differences += 1;
+            println!("call {}: {wrong} ({:?})", self.done, case.promise);
+            println!("  {}", shown(&write_call(&case.call)));
+            println!("  reference: {}", shown(&write_answer(&case.expected)));
+            if let Some(answer) = &answer {
+                println!("  other:     {}", shown(&write_answer(answer)));
+            }
+        }
+        self.differences < MOST_SHOWN
+    }
+
+    /// Runs all calls in this process.
+    fn in_process(&mut self, options: &Options) {
+        #[cfg(feature = "library")]
+        let (run, bound) = (paths::through_library, u64::MAX);
+        #[cfg(not(feature = "library"))]
+        let (run, bound) = (paths::through_text, 1 << 63);
+        for case in Cases::new(options.seed, bound).take(options.calls as usize) {
+            let answer = run(&case.call);
+            if !self.take(&case, answer) {
+                return;
+            }
+        }
+    }
+
+    /// Runs all calls through a program.
+    fn through_program(&mut self, options: &Options, program: &str) -> io::Result<()> {
+        let (mut child, mut input, mut output) = paths::start(program)?;
+        let (sender, receiver) = mpsc::channel();
+        let cases = Cases::new(options.seed, 1 << 63).take(options.calls as usize);
+        let writer = thread::spawn(move || -> io::Result<()> {
+            for case in cases {
+                paths::send(&mut input, &case.call)?;
+                if sender.send(case).is_err() {
+                    break;
+                }
+            }
+            io::Write::flush(&mut input)
+        });
+        for case in receiver {
+            let answer = paths::receive(&mut output, &case.call)?;
+            if !self.take(&case, answer) {
+                child.kill()?;
+                break;
+            }
+        }
+        let _ = writer.join();
+        child.wait()?;
+        Ok(())
+    }
+
+    /// Says what was done and found.
+    fn report(&self, options: &Options, seconds: f64) {
+        let other = match &options.through {
+            Some(program) => program,
+            None if virgontey::LINKED => "the library",
+            None => "the reference through text",
+        };
+        println!("compared with {other}, seed {}", options.seed);
+        for (number, count) in self.checker.counts.iter().enumerate() {
+            println!("  answer {number:2}: {count}");
+        }
+        println!(
+            "  listings entered again: {}, listings met again: {}",
+            self.checker.entered_again, self.checker.listed_again
+        );
+        println!(
+            "{} calls in {seconds:.0} s, {} differences",
+            self.done, self.differences
+        );
+    }
+}
+
+/// A line of the protocol for people.
+fn shown(line: &[u8]) -> String {
+    String::from_utf8_lossy(line).into_owned()
+}
+
+#[cfg(test)]
+mod tests {
+    use super::*;
+
+    /// A short run: no difference, and every answer is given.
+    #[test]
+    fn short_run() {
+        let options = Options {
+            calls: 10_000,
+            seed: 7,
+            through: None,
+        };
+        let mut run = Run::default();
+        run.in_process(&options);
+        assert_eq!((run.done, run.differences), (options.calls, 0));
+        assert!(run.checker.counts.iter().all(|count| *count > 0));
+        assert!(run.checker.entered_again > 0 && run.checker.listed_again > 0);
+    }
+}

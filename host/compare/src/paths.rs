@@ -1,0 +1,102 @@
+//! The implementations that the reference is compared with.
+
+use std::io::{self, BufRead, BufReader, BufWriter, Write};
+use std::process::{Child, ChildStdin, ChildStdout, Command, Stdio};
+
+use protocol::{read_answer, write_call, Answer, Call};
+#[cfg(not(feature = "library"))]
+use protocol::{read_call, run_reference, write_answer};
+
+/// The reference once more, with call and answer sent through the protocol's text.
+#[cfg(not(feature = "library"))]
+pub fn through_text(call: &Call) -> Option<Answer> {
+    let line = write_call(call);
+    let answer = run_reference(read_call(&line)?);
+    let to_enter = matches!(call, Call::Enter { .. });
+    read_answer(&write_answer(&answer), to_enter)
+}
+
+/// The proved library.
+#[cfg(feature = "library")]
+pub fn through_library(call: &Call) -> Option<Answer> {
+    Some(match call.clone() {
+        Call::Enter { text, mut tables } => {
+            let mut record = lend(&tables.record);
+            let answer = virgontey::enter(
+                &text,
+                &mut tables.names,
+                &mut tables.values,
+                &mut tables.store,
+                &mut record,
+            );
+            tables.record.used = record.used;
+            tables.record.name_count = record.name_count;
+            tables.record.name_bytes = record.name_bytes;
+            Answer::Enter {
+                number: answer.number,
+                place: answer.place,
+                added: answer.added,
+                used: answer.used,
+                tables,
+            }
+        }
+        Call::List {
+            line,
+            tables,
+            mut out,
+        } => {
+            let record = lend(&tables.record);
+            let answer = virgontey::list(
+                line,
+                &tables.names,
+                &tables.values,
+                &tables.store,
+                &record,
+                &mut out,
+            );
+            Answer::List {
+                number: answer.number,
+                written: answer.written,
+                out,
+            }
+        }
+    })
+}
+
+/// The record as the library's wrapper takes it.
+#[cfg(feature = "library")]
+fn lend(record: &reference::Record) -> virgontey::Record {
+    virgontey::Record {
+        used: record.used,
+        name_count: record.name_count,
+        name_bytes: record.name_bytes,
+    }
+}
+
+/// Starts a program that speaks the protocol.
+pub fn start(program: &str) -> io::Result<(Child, BufWriter<ChildStdin>, BufReader<ChildStdout>)> {
+    let mut child = Command::new(program)
+        .stdin(Stdio::piped())
+        .stdout(Stdio::piped())
+        .spawn()?;
+    let no_pipe = || io::Error::other("the program has no pipe");
+    let input = child.stdin.take().ok_or_else(no_pipe)?;
+    let output = child.stdout.take().ok_or_else(no_pipe)?;
+    Ok((child, BufWriter::new(input), BufReader::new(output)))
+}
+
+/// Sends a call to such a program.
+pub fn send(input: &mut impl Write, call: &Call) -> io::Result<()> {
+    input.write_all(&write_call(call))?;
+    input.write_all(b"\n")
+}
+
+/// Takes a program's answer to a call.
+pub fn receive(output: &mut impl BufRead, call: &Call) -> io::Result<Option<Answer>> {
+    let mut line = Vec::new();
+    output.read_until(b'\n', &mut line)?;
+    if line.pop() != Some(b'\n') {
+        return Ok(None);
+    }
+    Ok(read_answer(&line, matches!(call, Call::Enter { .. })))
+}

@@ -1,0 +1,104 @@
+//! The reference behind the C interface of include/virgontey.h.
+
+#![no_std]
+
+use core::slice;
+use reference::Record;
+
+/// A lent buffer; a null pointer stands for no bytes.
+unsafe fn lent<'a, T>(start: *const T, length: usize) -> &'a [T] {
+    if length == 0 {
+        return &[];
+    }
+    slice::from_raw_parts(start, length)
+}
+
+/// A lent buffer that may be changed; a null pointer stands for no bytes.
+unsafe fn lent_mut<'a, T>(start: *mut T, length: usize) -> &'a mut [T] {
+    if length == 0 {
+        return &mut [];
+    }
+    slice::from_raw_parts_mut(start, length)
+}
+
+/// Reads the editor record.
+fn read_record(record: &[usize]) -> Record {
+    Record {
+        used: record[0],
+        name_count: record[1],
+        name_bytes: record[2],
+    }
+}
+
+/// # Safety
+/// Each pointer must be good for its length, and no two buffers may overlap.
+#[no_mangle]
+pub unsafe extern "C" fn virgontey_enter(
+    text: *const u8,
+    text_len: usize,
+    names: *mut u8,
+    names_len: usize,
+    values: *mut u8,
+    values_len: usize,
+    store: *mut u8,
+    store_len: usize,
+    record: *mut usize,
+    record_len: usize,
+    answer: *mut usize,
+    answer_len: usize,
+) {
+    let lent_record = lent_mut(record, record_len);
+    let mut record = read_record(lent_record);
+    let given = reference::enter(
+        lent(text, text_len),
+        lent_mut(names, names_len),
+        lent_mut(values, values_len),
+        lent_mut(store, store_len),
+        &mut record,
+    );
+    lent_record[0] = record.used;
+    lent_record[1] = record.name_count;
+    lent_record[2] = record.name_bytes;
+    let answer = lent_mut(answer, answer_len);
+    answer[0] = given.number;
+    answer[1] = given.place;
+    answer[2] = given.added;
+    answer[3] = given.used;
+}
+
+/// # Safety
+/// Each pointer must be good for its length, and no two buffers may overlap.
+#[no_mangle]
+pub unsafe extern "C" fn virgontey_list(
+    line: usize,
+    names: *const u8,
+    names_len: usize,
+    values: *const u8,
+    values_len: usize,
+    store: *const u8,
+    store_len: usize,
+    record: *const usize,
+    record_len: usize,
+    out: *mut u8,
+    out_len: usize,
+    answer: *mut usize,
+    answer_len: usize,
+) {
+    let given = reference::list(
+        line,
+        lent(names, names_len),
+        lent(values, values_len),
+        lent(store, store_len),
+        &read_record(lent(record, record_len)),
+        lent_mut(out, out_len),
+    );
+    let answer = lent_mut(answer, answer_len);
+    answer[0] = given.number;
+    answer[1] = given.written;
+}
+
+/// The reference does not panic; if it did, it would stop here.
+#[panic_handler]
+fn stop(_: &core::panic::PanicInfo) -> ! {
+    loop {}
+}

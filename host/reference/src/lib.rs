@@ -1,0 +1,222 @@
+//! Document 01 in plain Rust: the entry of a numbered text line into a store of token lines, and
+//! the listing of a stored line. Written from the document alone, to be compared with the proved
+//! library. No heap, no unsafe code.
+
+#![cfg_attr(not(test), no_std)]
+#![forbid(unsafe_code)]
+
+mod constants;
+mod items;
+mod listing;
+mod tables;
+mod translate;
+mod words;
+
+use listing::{spell_line, well_formed, Count, Write};
+use tables::{find_line, store_room, store_sound, values_sound, Names, Variable};
+use tables::{MOST_NAMES, VALUE_SIZE};
+use translate::{read_line_number, translate, NewNames, Translation, LONGEST_LINE, LONGEST_TEXT};
+
+/// The counts that go with the three buffers.
+#[derive(Clone, Copy, PartialEq, Eq, Debug, Default)]
+pub struct Record {
+    /// Bytes of store in use.
+    pub used: usize,
+    /// How many names the table has.
+    pub name_count: usize,
+    /// Bytes of name table in use.
+    pub name_bytes: usize,
+}
+
+/// What an entry answers.
+#[derive(Clone, Copy, PartialEq, Eq, Debug)]
+pub struct EnterAnswer {
+    pub number: usize,
+    pub place: usize,
+    pub added: usize,
+    pub used: usize,
+}
+
+/// What a listing answers.
+#[derive(Clone, Copy, PartialEq, Eq, Debug)]
+pub struct ListAnswer {
+    pub number: usize,
+    pub written: usize,
+}
+
+/// Enters a text: inserts, replaces or deletes a line. The record is updated if it is accepted.
+pub fn enter(
+    text: &[u8],
+    names: &mut [u8],
+    values: &mut [u8],
+    store: &mut [u8],
+    record: &mut Record,
+) -> EnterAnswer {
+    match enter_or_refuse(text, names, values, store, record) {
+        Ok(added) => EnterAnswer {
+            number: 0,
+            place: 0,
+            added,
+            used: record.used,
+        },
+        Err((number, place)) => EnterAnswer {
+            number,
+            place,
+            added: 0,
+            used: record.used,
+        },
+    }
+}
+
+/// Lists the line with this number into `out`.
+pub fn list(
+    number: usize,
+    names: &[u8],
+    values: &[u8],
+    store: &[u8],
+    record: &Record,
+    out: &mut [u8],
+) -> ListAnswer {
+    match list_or_refuse(number, names, values, store, record, out) {
+        Ok(written) => ListAnswer { number: 0, written },
+        Err(number) => ListAnswer { number, written: 0 },
+    }
+}
+
+/// Enters a text; gives the count of names added, or the refusal and its place.
+fn enter_or_refuse(
+    text: &[u8],
+    names: &mut [u8],
+    values: &mut [u8],
+    store: &mut [u8],
+    record: &mut Record,
+) -> Result<usize, (usize, usize)> {
+    let table = sound_names(names, values, store, record).ok_or((1, 0))?;
+    if text.len() > LONGEST_TEXT {
+        return Err((2, 0));
+    }
+    let (number, number_end) = read_line_number(text).ok_or((3, 0))?;
+    let place = find_line(store, record.used, number);
+
+    if items::skip_blanks(text, number_end) == text.len() {
+        if place.length == 0 {
+            return Err((9, 0));
+        }
+        put_line(store, record, place.at, place.length, &[]);
+        return Ok(0);
+    }
+
+    let translation = translate(text, number_end, number, &table)
+        .map_err(|refusal| (refusal.number as usize, refusal.place))?;
+    let Translation { line, new_names } = translation;
+    let new_bytes = new_name_bytes(text, &new_names);
+    if lacks_name_room(names, values, record, new_names.count(), new_bytes) {
+        return Err((6, 0));
+    }
+    if line.length() > LONGEST_LINE {
+        return Err((7, 0));
+    }
+    if record.used - place.length + line.length() > store_room(store) {
+        return Err((8, 0));
+    }
+
+    put_line(store, record, place.at, place.length, line.bytes());
+    add_names(text, &new_names, names, values, record);
+    Ok(new_names.count())
+}
+
+/// Lists a line; gives the count of bytes written, or the refusal.
+fn list_or_refuse(
+    number: usize,
+    names: &[u8],
+    values: &[u8],
+    store: &[u8],
+    record: &Record,
+    out: &mut [u8],
+) -> Result<usize, usize> {
+    let table = sound_names(names, values, store, record).ok_or(1_usize)?;
+    let place = find_line(store, record.used, number);
+    if place.length == 0 {
+        return Err(9);
+    }
+    let line = &store[place.at..place.at + place.length];
+    if !well_formed(line, &table) {
+        return Err(10);
+    }
+    let mut count = Count(0);
+    spell_line(line, &table, &mut count);
+    if count.0 > out.len() {
+        return Err(11);
+    }
+    let mut write = Write { out, written: 0 };
+    spell_line(line, &table, &mut write);
+    Ok(write.written)
+}
+
+/// Tests tables and store; gives the names if all are sound.
+fn sound_names<'a>(
+    names: &'a [u8],
+    values: &[u8],
+    store: &[u8],
+    record: &Record,
+) -> Option<Names<'a>> {
+    let table = Names::new(names, record)?;
+    (values_sound(values, record) && store_sound(store, record)).then_some(table)
+}
+
+/// How many bytes of name table the new names need.
+fn new_name_bytes(text: &[u8], new_names: &NewNames) -> usize {
+    let lengths = (0..new_names.count()).map(|number| new_names.name(text, number).len());
+    lengths.sum()
+}
+
+/// Says whether new names would pass 128 or lack name or value room.
+fn lacks_name_room(
+    names: &[u8],
+    values: &[u8],
+    record: &Record,
+    new_count: usize,
+    new_bytes: usize,
+) -> bool {
+    let count = record.name_count + new_count;
+    new_count > 0
+        && (count > MOST_NAMES
+            || record.name_bytes + new_bytes > names.len()
+            || count * VALUE_SIZE > values.len())
+}
+
+/// Puts `line` in the place of the `old` bytes at `at`, moving the lines behind once.
+fn put_line(store: &mut [u8], record: &mut Record, at: usize, old: usize, line: &[u8]) {
+    store.copy_within(at + old..record.used, at + line.len());
+    store[at..at + line.len()].copy_from_slice(line);
+    record.used = record.used - old + line.len();
+}
+
+/// Adds new names at the end of the tables.
+fn add_names(
+    text: &[u8],
+    new_names: &NewNames,
+    names: &mut [u8],
+    values: &mut [u8],
+    record: &mut Record,
+) {
+    for number in 0..new_names.count() {
+        let name = new_names.name(text, number);
+        let end = record.name_bytes + name.len();
+        names[record.name_bytes..end].copy_from_slice(name);
+        names[end - 1] |= 0x80;
+
+        let variable = match name[name.len() - 1] {
+            b'$' => Variable::String,
+            b'(' => Variable::Array,
+            _ => Variable::Number,
+        };
+        let entry = &mut values[record.name_count * VALUE_SIZE..][..VALUE_SIZE];
+        entry.fill(0);
+        entry[0] = variable.type_byte();
+        entry[1] = record.name_count as u8;
+
+        record.name_bytes = end;
+        record.name_count += 1;
+    }
+}

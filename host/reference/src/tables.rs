@@ -1,0 +1,212 @@
+//! The name table, the value table and the store.
+
+use crate::words::{is_reserved, statement_token};
+use crate::Record;
+
+/// The most names a table holds.
+pub const MOST_NAMES: usize = 128;
+/// The greatest line number.
+pub const GREATEST_LINE: usize = 32767;
+/// The most bytes a store holds, whatever is lent.
+pub const MOST_STORE: usize = 65535;
+/// Bytes of a value entry.
+pub const VALUE_SIZE: usize = 8;
+/// The shortest line: head, offset, statement token, end.
+pub const SHORTEST_LINE: usize = 6;
+
+/// What a variable holds.
+#[derive(Clone, Copy, PartialEq, Eq, Debug)]
+pub enum Variable {
+    Number,
+    Array,
+    String,
+}
+
+impl Variable {
+    /// The type byte of a value entry.
+    pub fn type_byte(self) -> u8 {
+        match self {
+            Variable::Number => 0x00,
+            Variable::Array => 0x40,
+            Variable::String => 0x80,
+        }
+    }
+}
+
+/// A name table that was found sound, with the places where its names start.
+pub struct Names<'a> {
+    bytes: &'a [u8],
+    starts: [usize; MOST_NAMES + 1],
+    count: usize,
+}
+
+impl<'a> Names<'a> {
+    /// Tests a name table and notes where each name starts. None: it is unsound.
+    pub fn new(lent: &'a [u8], record: &Record) -> Option<Names<'a>> {
+        if record.name_count > MOST_NAMES {
+            return None;
+        }
+        let bytes = lent.get(..record.name_bytes)?;
+        let mut names = Names {
+            bytes,
+            starts: [0; MOST_NAMES + 1],
+            count: 0,
+        };
+        let mut start = 0;
+        for _ in 0..record.name_count {
+            let length = 1 + bytes[start..].iter().position(|byte| *byte >= 0x80)?;
+            let name = &bytes[start..start + length];
+            if !is_name(name) || names.find_stored(name).is_some() {
+                return None;
+            }
+            start += length;
+            names.count += 1;
+            names.starts[names.count] = start;
+        }
+        (start == bytes.len()).then_some(names)
+    }
+
+    /// How many names there are.
+    pub fn count(&self) -> usize {
+        self.count
+    }
+
+    /// The bytes of a name, the last with its top bit set.
+    pub fn stored(&self, number: usize) -> &'a [u8] {
+        &self.bytes[self.starts[number]..self.starts[number + 1]]
+    }
+
+    /// What the variable of this number holds; None if there is none.
+    pub fn variable(&self, number: usize) -> Option<Variable> {
+        if number >= self.count {
+            return None;
+        }
+        Some(match self.bytes[self.starts[number + 1] - 1] & 0x7F {
+            b'$' => Variable::String,
+            b'(' => Variable::Array,
+            _ => Variable::Number,
+        })
+    }
+
+    /// Finds a name given as plain text, with its `$` or `(`.
+    pub fn find(&self, name: &[u8]) -> Option<usize> {
+        (0..self.count).find(|number| same_name(self.stored(*number), name))
+    }
+
+    /// Finds a name given as it is stored. Most names differ in their last byte already.
+    fn find_stored(&self, name: &[u8]) -> Option<usize> {
+        let last = name.last()?;
+        (0..self.count).find(|number| {
+            let end = self.starts[*number + 1];
+            self.bytes[end - 1] == *last && self.stored(*number) == name
+        })
+    }
+
+    /// Says whether a name, less its `(`, is spelled like a statement word.
+    pub fn is_statement_word(&self, number: usize) -> bool {
+        word_of(self.stored(number), |word| statement_token(word).is_some())
+    }
+}
+
+/// Says whether a stored name and a plain one are the same.
+fn same_name(stored: &[u8], plain: &[u8]) -> bool {
+    let last = plain.len() - 1;
+    stored.len() == plain.len()
+        && stored[last] == plain[last] | 0x80
+        && stored[..last] == plain[..last]
+}
+
+/// Says whether stored bytes, of which only the last has its top bit set, are a lawful name.
+fn is_name(stored: &[u8]) -> bool {
+    let end = stored.len() - 1;
+    let last = stored[end] & 0x7F;
+    let mark = end > 0 && (last == b'$' || last == b'(');
+    let body = if mark { end } else { end + 1 };
+    let first_holds = (stored[0] & 0x7F).is_ascii_uppercase();
+    let rest_holds = stored[..body].iter().all(|byte| {
+        let plain = byte & 0x7F;
+        plain.is_ascii_uppercase() || plain.is_ascii_digit()
+    });
+    first_holds && rest_holds && !word_of(stored, is_reserved)
+}
+
+/// Asks `test` about a stored name, less its `(`, as a plain word. No fixed word has over 8 letters.
+fn word_of(stored: &[u8], test: impl Fn(&[u8]) -> bool) -> bool {
+    let end = stored.len() - 1;
+    let last = stored[end] & 0x7F;
+    if last == b'(' {
+        return test(&stored[..end]);
+    }
+    let mut word = [0; 8];
+    if stored.len() > word.len() {
+        return false;
+    }
+    word[..end].copy_from_slice(&stored[..end]);
+    word[end] = last;
+    test(&word[..stored.len()])
+}
+
+/// Says whether there is a value entry's room for each name.
+pub fn values_sound(values: &[u8], record: &Record) -> bool {
+    record.name_count <= values.len() / VALUE_SIZE
+}
+
+/// The room that a lent store has.
+pub fn store_room(store: &[u8]) -> usize {
+    store.len().min(MOST_STORE)
+}
+
+/// The number of the line that starts at `at`.
+pub fn line_number(store: &[u8], at: usize) -> usize {
+    store[at] as usize + 256 * store[at + 1] as usize
+}
+
+/// The length of the line that starts at `at`.
+pub fn line_length(store: &[u8], at: usize) -> usize {
+    store[at + 2] as usize
+}
+
+/// Tests the store: lines end to end, numbers rising, the last ending at the used count.
+pub fn store_sound(store: &[u8], record: &Record) -> bool {
+    let used = record.used;
+    if used > store_room(store) {
+        return false;
+    }
+    let mut at = 0;
+    let mut least = 0;
+    while at < used {
+        if used - at < SHORTEST_LINE {
+            return false;
+        }
+        let number = line_number(store, at);
+        let length = line_length(store, at);
+        if number < least || number > GREATEST_LINE {
+            return false;
+        }
+        if length < SHORTEST_LINE || length > used - at {
+            return false;
+        }
+        least = number + 1;
+        at += length;
+    }
+    true
+}
+
+/// Where a line stands in a sound store, or where it would be put.
+pub struct Place {
+    /// The start of the first line whose number is not below the one asked for.
+    pub at: usize,
+    /// The length of the line with just this number, 0 if there is none.
+    pub length: usize,
+}
+
+/// Finds the place of a line in a sound store.
+pub fn find_line(store: &[u8], used: usize, number: usize) -> Place {
+    let mut at = 0;
+    while at < used && line_number(store, at) < number {
+        at += line_length(store, at);
+    }
+    let there = at < used && line_number(store, at) == number;
+    let length = if there { line_length(store, at) } else { 0 };
+    Place { at, length }
+}

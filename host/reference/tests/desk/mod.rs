@@ -1,0 +1,103 @@
+//! A desk with empty tables, for the tests.
+#![allow(dead_code)]
+
+use reference::{enter, list, EnterAnswer, Record};
+
+pub struct Desk {
+    pub names: Vec<u8>,
+    pub values: Vec<u8>,
+    pub store: Vec<u8>,
+    pub record: Record,
+}
+
+impl Desk {
+    /// A desk with the desk program's rooms.
+    pub fn new() -> Desk {
+        Desk::with_rooms(2048, 1024, 32768)
+    }
+
+    /// A desk with these rooms.
+    pub fn with_rooms(names: usize, values: usize, store: usize) -> Desk {
+        Desk {
+            names: vec![0; names],
+            values: vec![0; values],
+            store: vec![0; store],
+            record: Record::default(),
+        }
+    }
+
+    pub fn enter(&mut self, text: &[u8]) -> EnterAnswer {
+        enter(
+            text,
+            &mut self.names,
+            &mut self.values,
+            &mut self.store,
+            &mut self.record,
+        )
+    }
+
+    /// Lists a line; the refusal's number if it is refused.
+    pub fn list(&self, line: usize) -> Result<String, usize> {
+        let mut out = vec![0; 65536];
+        let answer = list(
+            line,
+            &self.names,
+            &self.values,
+            &self.store,
+            &self.record,
+            &mut out,
+        );
+        if answer.number != 0 {
+            assert_eq!(answer.written, 0);
+            return Err(answer.number);
+        }
+        Ok(String::from_utf8(out[..answer.written].to_vec()).unwrap())
+    }
+
+    /// The used bytes of the store, in hex.
+    pub fn hex(&self) -> String {
+        hex(&self.store[..self.record.used])
+    }
+
+    /// The used bytes of the name table, in hex.
+    pub fn names_hex(&self) -> String {
+        hex(&self.names[..self.record.name_bytes])
+    }
+}
+
+pub fn hex(bytes: &[u8]) -> String {
+    let pairs: Vec<String> = bytes.iter().map(|byte| format!("{byte:02X}")).collect();
+    pairs.join(" ")
+}
+
+/// Over empty tables, a text gives this line.
+#[track_caller]
+pub fn gives(text: &str, line: &str) {
+    let mut desk = Desk::new();
+    let answer = desk.enter(text.as_bytes());
+    assert_eq!((answer.number, answer.place), (0, 0), "{text}");
+    assert_eq!(desk.hex(), line, "{text}");
+    assert_eq!(answer.used, desk.record.used);
+    assert_eq!(answer.added, desk.record.name_count);
+}
+
+/// Over empty tables, a text lists so.
+#[track_caller]
+pub fn lists(text: &str, listing: &str) {
+    let mut desk = Desk::new();
+    assert_eq!(desk.enter(text.as_bytes()).number, 0, "{text}");
+    let number = desk.store[0] as usize + 256 * desk.store[1] as usize;
+    assert_eq!(desk.list(number), Ok(listing.to_string()), "{text}");
+}
+
+/// Over empty tables, a text is refused so, and nothing changes.
+#[track_caller]
+pub fn refuses(text: &[u8], number: usize, place: usize) {
+    let mut desk = Desk::new();
+    let answer = desk.enter(text);
+    let shown = String::from_utf8_lossy(text);
+    assert_eq!((answer.number, answer.place), (number, place), "{shown}");
+    assert_eq!((answer.added, answer.used), (0, 0), "{shown}");
+    assert_eq!(desk.record, Record::default(), "{shown}");
+    assert!(desk.store.iter().all(|byte| *byte == 0), "{shown}");
+}

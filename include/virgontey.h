@@ -1,0 +1,94 @@
+/*
+ * Virgontey: enter and list lines of tokenized Atari BASIC.
+ *
+ * Both calls work only in the buffers that are lent to them. Every length, count and byte may have any
+ * value: tables that are not sound are refused. No call keeps a pointer. Buffers must not overlap.
+ *
+ * A pointer may be null only where its length is 0.
+ */
+#ifndef VIRGONTEY_H
+#define VIRGONTEY_H
+
+#include <stddef.h>
+#include <stdint.h>
+
+#ifdef __cplusplus
+extern "C" {
+#endif
+
+/* The editor record: the counts that go with the buffers. All three are 0 for an empty program. */
+enum {
+    VIRGONTEY_RECORD_USED = 0,       /* bytes of store in use */
+    VIRGONTEY_RECORD_NAME_COUNT = 1, /* names in the name table, at most 128 */
+    VIRGONTEY_RECORD_NAME_BYTES = 2, /* bytes of name table in use */
+    VIRGONTEY_RECORD_LENGTH = 3
+};
+
+/* What virgontey_enter answers. */
+enum {
+    VIRGONTEY_ENTER_NUMBER = 0, /* 0 done, otherwise the refusal, see below */
+    VIRGONTEY_ENTER_PLACE = 1,  /* offset in the text for refusals 4 and 5, otherwise 0 */
+    VIRGONTEY_ENTER_ADDED = 2,  /* how many names were added, 0 on a refusal */
+    VIRGONTEY_ENTER_USED = 3,   /* bytes of store in use afterwards, as given on a refusal */
+    VIRGONTEY_ENTER_LENGTH = 4
+};
+
+/* What virgontey_list answers. */
+enum {
+    VIRGONTEY_LIST_NUMBER = 0,  /* 0 done, otherwise the refusal, see below */
+    VIRGONTEY_LIST_WRITTEN = 1, /* bytes written to out, 0 on a refusal */
+    VIRGONTEY_LIST_LENGTH = 2
+};
+
+/* The numbers. */
+enum {
+    VIRGONTEY_DONE = 0,
+    VIRGONTEY_UNSOUND = 1,         /* tables or store are unsound */
+    VIRGONTEY_TEXT_TOO_LONG = 2,   /* text is over 120 bytes */
+    VIRGONTEY_NO_LINE_NUMBER = 3,  /* no digit after blanks, or a number above 32767 */
+    VIRGONTEY_NO_READING = 4,      /* the grammar has no reading; see the place */
+    VIRGONTEY_OUT_OF_RANGE = 5,    /* a constant is out of range; see the place */
+    VIRGONTEY_NAMES_FULL = 6,      /* names would pass 128, or lack name or value room */
+    VIRGONTEY_LINE_TOO_LONG = 7,   /* the token line would pass 255 bytes */
+    VIRGONTEY_STORE_FULL = 8,      /* the store would pass its room */
+    VIRGONTEY_NO_SUCH_LINE = 9,    /* the line to delete or list is not there */
+    VIRGONTEY_NOT_WELL_FORMED = 10, /* the line to list is not well-formed */
+    VIRGONTEY_OUTPUT_TOO_SHORT = 11 /* the listing is longer than the output buffer */
+};
+
+/*
+ * Enters a text: a line number and statements insert or replace a line, a number alone deletes one.
+ *
+ *   text    the typed line, without its end; at most 120 bytes are taken
+ *   names   the name table; names_len is its room
+ *   values  the value table, 8 bytes a name; values_len is its room
+ *   store   the token lines; store_len is its room, of which at most 65,535 bytes are used
+ *   record  the editor record, read and updated; record_len is VIRGONTEY_RECORD_LENGTH
+ *   answer  written; answer_len is VIRGONTEY_ENTER_LENGTH
+ *
+ * On a refusal nothing but the answer changes.
+ */
+void virgontey_enter(const uint8_t *text, size_t text_len, uint8_t *names, size_t names_len,
+                     uint8_t *values, size_t values_len, uint8_t *store, size_t store_len,
+                     size_t *record, size_t record_len, size_t *answer, size_t answer_len);
+
+/*
+ * Lists the line with a number into out, without an end mark. Only the bytes written change there;
+ * on a refusal none do.
+ *
+ *   line    the line's number
+ *   out     where the text goes; out_len is its room. 1,024 bytes hold any line that was entered
+ *           as text under names that were.
+ *   record  the editor record, only read; record_len is VIRGONTEY_RECORD_LENGTH
+ *   answer  written; answer_len is VIRGONTEY_LIST_LENGTH
+ */
+void virgontey_list(size_t line, const uint8_t *names, size_t names_len, const uint8_t *values,
+                    size_t values_len, const uint8_t *store, size_t store_len,
+                    const size_t *record, size_t record_len, uint8_t *out, size_t out_len,
+                    size_t *answer, size_t answer_len);
+
+#ifdef __cplusplus
+}
+#endif
+
+#endif
