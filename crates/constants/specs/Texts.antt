@@ -1,18 +1,20 @@
 -- Six bytes at a place of a list, and how their text is laid out.
-use Prim.Native.Nat.{ℕ, zero, suc, _+_, _-_, _*_, _/_, _%_, _≤_, _<_}
+use Prim.Native.Nat.{ℕ, _+_, _-_, _/_, _%_, _≤_}
 use mathlib.Core.Path.{_≡_}
-use mathlib.Core.Bool.{Bool, true, false, _&&_}
+use mathlib.Core.Bool.{Bool, _&&_}
 use mathlib.Core.List.{List, [], _∷_, _++_}
 use lib.Dec.{leb, ltb, eqb}
-use lib.ListN.{length, take, drop, getD}
+use lib.ListN.{length, drop, getD}
 use lib.Seq.{sets, slice}
 use Rattle.paper.specs.Bytes.{pick}
-use Rattle.paper.specs.Constants.{digits-of, trimmed, with-point, power-text, constant-text}
+use Rattle.paper.specs.Constants.{digits-of, trimmed, with-point, power-text}
 use Rattle.constants.specs.declared.texts.Layout.{Layout}
 
 -- the six bytes at a place, zeros past the end
 unfoldable pub six-here : List ℕ → ℕ → List ℕ
 six-here s p = getD s p 0 ∷ getD s (p + 1) 0 ∷ getD s (p + 2) 0 ∷ getD s (p + 3) 0 ∷ getD s (p + 4) 0 ∷ getD s (p + 5) 0 ∷ []
+
+-- ---- what the helpers say
 
 -- both digits of a byte are at most m
 unfoldable pub digits-most : ℕ → ℕ → Bool

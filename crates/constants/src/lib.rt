@@ -13,9 +13,10 @@ mod texts;
 // A number that is not zero is in range from 10 to the power of -98 on, and below 10 to the power of 98.
 const RANGE: usize = 98;
 
-// The first byte of a constant that is not zero is 64 and its power of a hundred, from -49 to 48.
+// The first byte of a constant that is not zero is 64 and its power of a hundred: -49 at least.
 const FIRST_LEAST: u8 = 0x0f;
 
+// And 48 at most.
 const FIRST_MOST: u8 = 0x70;
 
 // A number's text as it was found: `whole` digits at the front, then, if there is a point, the point and `fraction` digits; the
@@ -33,7 +34,8 @@ pub struct Six {
     pub bytes: [u8; 6],
 }
 
-// The six bytes of the number at the front of a text. The range is tested on the value as it is written; digits after the tenth are cut.
+// The six bytes of the number at the front of a text, where its digits were found. The range is tested on the value as it is written;
+// digits after the tenth are cut.
 pub fn six_bytes(text: &[u8], n: Numeral) -> Six
     requires { ⌜ Written (now text) n ⌝ }
     ensures { λ r. ⌜ r ≡ numeral-six (now (text .entry)) n ⌝ }

@@ -10,9 +10,10 @@ ghost use Rattle.paper.specs.Bytes.{pick};
 ghost use Rattle.paper.specs.Constants.{with-point, constant-text};
 ghost use Rattle.constants.specs.Texts.{six-here, digits-here, lead, power-part, Trims, Ordered, Shaped, Wrote, part-size, size-of};
 
-// The first bytes of constants from 0.01 to below 1E10: their text has no power of ten.
+// The first byte of 0.01: from here on a constant's text has no power of ten.
 const PLAIN_LEAST: u8 = 0x3f;
 
+// The first byte of the constants just below 1E10: from there on the text has one again.
 const PLAIN_MOST: u8 = 0x44;
 
 // How many digits five bytes have.
