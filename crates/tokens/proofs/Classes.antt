@@ -7,8 +7,8 @@ use mathlib.Core.List.{List, [], _∷_}
 use lib.Dec.{T, eqb, leb, ltb}
 use lib.ListN.{length, getD, List·getD-eq-default}
 use borrow.Author.Tests.{ltb-true, ltb-false, le-leb, lt-leb, eqb-true, ne-eqb}
-use Rattle.paper.specs.Bytes.{pick, bytes, same}
-use Rattle.paper.specs.Classes.{unfit, line-end, raw-end}
+use Rattle.paper.specs.Bytes.{bytes, same}
+use Rattle.paper.specs.Classes.{unfit}
 use Rattle.paper.specs.Words.{Word, word, word-of, find-word, statements, operators, read-operators, functions, placed-operators, word-operator?}
 use Rattle.paper.specs.Tokens.{operator-class, read-as, found-or}
 use Rattle.laws.specs.Tests.{is-true}

@@ -4,22 +4,20 @@ use native.Mathlib.Numerals.{add-one}
 use native.Mathlib.Omega.{arith}
 use mathlib.Core.Path.{_≡_, refl, sym, ap, _∙_}
 use mathlib.Core.Bool.{Bool, true, false, not, _&&_}
-use mathlib.Core.List.{List, [], _∷_, _++_}
-use lib.Dec.{eqb, ltb}
+use mathlib.Core.List.{List, [], _∷_}
+use lib.Dec.{eqb}
 use lib.ListN.{length, take, drop, getD, drop-of-length-le, length-drop}
-use lib.Seq.{drop-cons, drop-drop, length-take-le, getD-drop, getD-take}
+use lib.Seq.{drop-cons, drop-drop, length-take-le, take-length}
 use borrow.Author.Tests.{eq-eqb, ne-eqb, lt-ltb, le-ltb}
 use Rattle.paper.specs.Bytes.{pick, bytes, same}
 use Rattle.paper.specs.Classes.{unfit}
 use Rattle.paper.specs.Words.{Word, word, Found, found, nowhere, find-word, word-of, statements, operators, read-operators, functions}
 use Rattle.tokens.specs.declared.Found.{Found as Answer}
 use Rattle.tokens.specs.declared.Found.the-variants.{Token, Nothing}
-use Rattle.tokens.specs.declared.Statement.{Statement}
 use Rattle.tokens.specs.declared.Statement.the-variants.{Word as AWord, Nothing as NoStatement}
-use Rattle.tokens.specs.declared.Reserved.{Reserved}
 use Rattle.tokens.specs.declared.Reserved.the-variants.{Operator, Function, Nothing as NotReserved}
 use Rattle.tokens.specs.Tables.{tabulated, total, end-to-end, read-words, fixed-words, word-size, statement-lengths, operator-lengths, words-of, token-found, statement-found, reserved-found}
-use Rattle.tokens.specs.Same.{no-bool, not-same, same-as}
+use Rattle.tokens.specs.Same.{not-same, same-as}
 use Rattle.tokens.specs.Words.{find-read}
 
 -- ---- one word
@@ -50,12 +48,14 @@ other-first bs s from size z h n =
     (rw (not-same (take size (drop from bs)) s (λ e. n (sym (first-byte bs from size z h) ∙ ap (λ (l : List ℕ). getD l 0 0) e)))
     (and-false (not (eqb size 0))))
 
-pub all-bytes : (r : Bool) (bs s : List ℕ) (from size : ℕ) → (size ≡ 0 → ⊥) → (r ≡ true → take (from + size - from) (drop from bs) ≡ s) → (take (from + size - from) (drop from bs) ≡ s → r ≡ true)
-    → r ≡ stands bs from size s
-all-bytes r bs s from size z f g =
+pub all-bytes : (r : Bool) (bs s : List ℕ) (from size : ℕ) → size ≡ length s → (size ≡ 0 → ⊥) → (r ≡ true → take (from + size - from) (drop from bs) ≡ take size s)
+    → (take (from + size - from) (drop from bs) ≡ take size s → r ≡ true) → r ≡ stands bs from size s
+all-bytes r bs s from size l z f g =
     let n : from + size - from ≡ size = omega arith in
-    same-as r (take (from + size - from) (drop from bs)) s f g
-    ∙ ap (λ (k : ℕ). same (take k (drop from bs)) s) n
+    let w : take size s ≡ s = ap (λ (k : ℕ). take k s) l ∙ take-length s in
+    same-as r (take (from + size - from) (drop from bs)) (take size s) f g
+    ∙ ap (λ (k : ℕ). same (take k (drop from bs)) (take size s)) n
+    ∙ ap (same (take size (drop from bs))) w
     ∙ sym (rw (ne-eqb size 0 z))
 
 -- ---- the table from its i-th word on

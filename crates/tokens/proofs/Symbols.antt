@@ -1,5 +1,5 @@
 -- Symbols of two bytes and of one.
-use Prim.Native.Nat.{ℕ, _<_}
+use Prim.Native.Nat.{ℕ}
 use native.Mathlib.Omega.{arith}
 use mathlib.Core.Path.{_≡_, refl, sym, ap, _∙_}
 use mathlib.Core.Bool.{Bool, true, false}
@@ -8,10 +8,9 @@ use lib.Dec.{eqb}
 use borrow.Author.Tests.{ne-eqb}
 use Rattle.paper.specs.Bytes.{pick, bytes, same, letter?}
 use Rattle.paper.specs.Classes.{to-word, comparison, or-and, comma, colon, semicolon, unfit, equals, factor-sign, plus-minus, open-sign, close-sign}
-use Rattle.paper.specs.Words.{Word, word, Found, found, nowhere, find-word, operators, read-operators, functions, placed-operators}
+use Rattle.paper.specs.Words.{Word, word, Found, found, nowhere, find-word, operators, read-operators, functions}
 use Rattle.tokens.specs.declared.Found.{Found as Answer}
 use Rattle.tokens.specs.declared.Found.the-variants.{Token, Nothing}
-use Rattle.tokens.specs.declared.Symbol.{Symbol}
 use Rattle.tokens.specs.declared.Symbol.the-variants.{Two, One, Nothing as NoSymbol}
 use Rattle.tokens.specs.Tables.{read-words, token-found, pair-found, symbol-found}
 use Rattle.tokens.specs.Same.{no-bool}

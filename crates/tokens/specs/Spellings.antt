@@ -1,15 +1,14 @@
 -- The spelling of each token is what its part of the fixed words shows.
 use Prim.Native.Nat.{ℕ, zero, suc, _+_, _-_, _≤_, _<_}
 use native.Mathlib.Omega.{arith}
-use mathlib.Core.Path.{_≡_, refl, sym, ap, _∙_, subst}
+use mathlib.Core.Path.{_≡_, refl, _∙_, subst}
 use mathlib.Core.Bool.{Bool, true, false, _&&_}
-use mathlib.Core.List.{List, [], _∷_}
-use lib.Dec.{T, eqb, leb, ltb, eqb→eq}
-use lib.ListN.{length, take, drop, getD, List·getD-eq-default}
-use borrow.Author.Tests.{ltb-true, ltb-false, le-ltb, ne-eqb}
+use mathlib.Core.List.{List, []}
+use lib.Dec.{T, eqb, ltb}
+use lib.ListN.{take, drop, List·getD-eq-default}
+use borrow.Author.Tests.{ltb-true, ltb-false, le-ltb}
 use Rattle.paper.specs.Bytes.{pick, bytes, same}
-use Rattle.paper.specs.Classes.{unfit}
-use Rattle.paper.specs.Words.{Word, word, word-of, find-word, found, nowhere, statements, operators, read-operators, functions, placed-operators}
+use Rattle.paper.specs.Words.{word, word-of, find-word, statements, operators, read-operators, functions, placed-operators}
 use Rattle.paper.specs.Tokens.{read-as, found-or}
 use Rattle.laws.specs.Tests.{and-left, and-right, is-true}
 use Rattle.tokens.specs.Tables.{tabulated, total, end-to-end, read-words, fixed-words, word-size, statement-lengths, operator-lengths, starts}

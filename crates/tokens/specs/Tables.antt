@@ -1,12 +1,11 @@
 -- The tables of words as the code lays them out, and what a search of one gives.
 use Prim.Native.Nat.{ℕ, zero, suc, _+_}
-use mathlib.Core.Bool.{Bool, true, false}
 use mathlib.Core.List.{List, [], _∷_, _++_}
 use lib.Dec.{ltb, eqb}
 use lib.ListN.{length, take, drop}
-use Rattle.paper.specs.Bytes.{pick, letter?}
+use Rattle.paper.specs.Bytes.{pick, bytes, letter?}
 use Rattle.paper.specs.Classes.{unfit}
-use Rattle.paper.specs.Words.{Word, Found, found, nowhere, word-of, statements, read-operators, functions}
+use Rattle.paper.specs.Words.{Word, word, Found, found, nowhere, word-of, statements, read-operators, functions}
 use Rattle.tokens.specs.declared.Found.{Found as Answer}
 use Rattle.tokens.specs.declared.Found.the-variants.{Token, Nothing}
 use Rattle.tokens.specs.declared.Statement.{Statement}
@@ -91,3 +90,8 @@ unfoldable pub symbol-found : Found → Found → Symbol
 symbol-found (found t) one = Two (record { 0 = t })
 symbol-found nowhere (found t) = One (record { 0 = t })
 symbol-found nowhere nowhere = NoSymbol
+
+-- To unfold this is to see the bytes of the fixed words.
+unfoldable pub fixed-bytes : Unit {0}
+unfolding fixed-words end-to-end read-words statements read-operators functions word bytes
+fixed-bytes = tt

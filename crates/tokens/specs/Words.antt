@@ -1,17 +1,17 @@
 -- Searches of word tables: parts of a table, words of other lengths, tables in which no spelling stands twice.
-use Prim.Native.Nat.{ℕ, zero, suc, _+_, _≤_, _<_}
+use Prim.Native.Nat.{ℕ, zero, suc, _≤_, _<_}
 use native.Mathlib.Nat.{not-suc-le-zero, le-of-suc-le-suc}
 use native.Mathlib.Omega.{arith}
 use mathlib.Core.Path.{_≡_, refl, sym, ap, _∙_, subst}
 use mathlib.Core.Bool.{Bool, true, false, not, _&&_}
 use mathlib.Core.List.{List, [], _∷_, _++_}
-use lib.Dec.{T, eqb, leb, ltb}
+use lib.Dec.{T, eqb, leb}
 use lib.ListN.{length, getD}
-use borrow.Author.Tests.{eq-eqb, ne-eqb, eqb-true, le-leb, lt-leb}
+use borrow.Author.Tests.{eq-eqb, eqb-true, le-leb, lt-leb}
 use Rattle.paper.specs.Bytes.{pick, bytes, same, every}
 use Rattle.paper.specs.Classes.{unfit}
 use Rattle.paper.specs.Words.{Word, word, Found, found, nowhere, found?, find-word, word-of, statements, operators, read-operators, functions, placed-operators}
-use Rattle.laws.specs.Tests.{and-left, and-right, is-true, is-false, as-T}
+use Rattle.laws.specs.Tests.{and-left, and-right, is-true, is-false}
 use Rattle.tokens.specs.Tables.{read-words}
 use Rattle.tokens.specs.Same.{no-bool, same-refl, same-of, same-equal, not-same}
 

@@ -433,7 +433,7 @@ pub(crate) fn entry(table: &[u8], i: usize, other: u8) -> u8
     if i < table.len() { table[i] } else { other }
 }
 
-// Whether the word of `size` bytes at `from` is the whole of `name`: their lengths and first bytes are compared before the rest.
+// Whether the word of `size` bytes at `from` is the whole of `name`: the lengths and the first bytes are compared before the rest.
 fn is_word(words: &[u8], from: usize, size: usize, name: &[u8]) -> bool
     requires { ⌜ from + size ≤ length (now words) ⌝ }
     ensures { λ r. ⌜ r ≡ (not (eqb size 0) && same (take size (drop from (now (words .entry)))) (now (name .entry))) ⌝ }
@@ -448,7 +448,7 @@ fn is_word(words: &[u8], from: usize, size: usize, name: &[u8]) -> bool
         return false;
     }
     let end = from + size;
-    check::same(&words[from..end], name)
+    check::same(&words[from..end], &name[..size])
 }
 
 // The token of the word that is the whole of `name`. The words stand end to end from `start` on; their lengths are given for each

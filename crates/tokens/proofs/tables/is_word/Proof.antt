@@ -1,5 +1,8 @@
 -- `tokens::tables/is_word` meets its contract.
+use mathlib.Core.Path.{sym}
+use native.Mathlib.Omega.{arith}
 use borrow.Author.Needs.{needs}
+use lib.Seq.{length-take-le}
 use Rattle.tokens.proofs.Search.{other-length, no-bytes, other-first, all-bytes}
 use Rattle.tokens.proofs.tables.is_word.Statement.{statement}
 use Rattle.tokens.proofs.tables.is_word.Tie as tie
@@ -31,11 +34,14 @@ part-same-start c = search needs
 part-same-end : tie.Need-part-same-end
 part-same-end c = search needs
 
+slice-aggregate-same : tie.Need-slice-aggregate-same
+slice-aggregate-same c = sym (length-take-le (c .before .before .before .before .before .before .before .before .before .args .size) (c .before .before .before .before .before .before .before .before .before .args .name .now) (omega arith))
+
 same-requires : tie.Need-same-requires
 same-requires c κs = search needs
 
 returns-4 : tie.Need-returns-4
-returns-4 c = all-bytes (c .same .result) (c .before .before .before .before .before .before .before .before .before .args .words .now) (c .before .before .before .before .before .before .before .before .before .args .name .now) (c .before .before .before .before .before .before .before .before .before .args .from) (c .before .before .before .before .before .before .before .before .before .args .size) (c .before .before .before .before .before .if2 .left) (c .same .ensures .0) (c .same .ensures .1)
+returns-4 c = all-bytes (c .same .result) (c .before .before .before .before .before .before .before .before .before .before .args .words .now) (c .before .before .before .before .before .before .before .before .before .before .args .name .now) (c .before .before .before .before .before .before .before .before .before .before .args .from) (c .before .before .before .before .before .before .before .before .before .before .args .size) (c .before .before .before .before .before .before .before .if1 .left) (c .before .before .before .before .before .before .if2 .left) (c .same .ensures .0) (c .same .ensures .1)
 
 pub is-word-spec : {M : Type 1} → statement M
 is-word-spec =
@@ -50,5 +56,6 @@ is-word-spec =
     sub-same
     part-same-start
     part-same-end
+    slice-aggregate-same
     same-requires
     returns-4)

@@ -1,0 +1,4 @@
+pub mod NameLaws
+pub mod NumberLaws
+pub mod SymbolLaws
+pub mod PlaceLaws
