@@ -1,14 +1,12 @@
 -- The last byte of some bytes, and of a name from the text.
-use Prim.Native.Nat.{ℕ, zero, suc, _+_, _-_, _≤_, _<_}
+use Prim.Native.Nat.{ℕ, suc, _-_}
 use native.Mathlib.Omega.{arith}
-use mathlib.Core.Path.{_≡_, refl, sym, ap, _∙_}
+use mathlib.Core.Path.{_≡_, refl, ap, _∙_}
 use mathlib.Core.Bool.{Bool, true, false}
 use mathlib.Core.List.{List, [], _∷_, _++_}
 use lib.Dec.{leb}
-use lib.ListN.{length, take, drop, getD, length-append}
-use lib.Seq.{take-suc, take-length}
-use Rattle.paper.specs.Bytes.{pick, every}
-use Rattle.laws.specs.Names.{closed?, plain-name, plain-some, plain-low}
+use lib.ListN.{length, getD, length-append}
+use Rattle.laws.specs.Names.{closed?}
 use Rattle.names.specs.Tables.{spelled}
 
 pub closed-none : (bs : List ℕ) → length bs ≡ 0 → true ≡ closed? bs

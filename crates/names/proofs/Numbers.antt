@@ -4,9 +4,8 @@ use native.Mathlib.Omega.{arith}
 use mathlib.Core.Path.{_≡_, refl, subst, sym, ap, _∙_}
 use mathlib.Core.Bool.{Bool, true, false}
 use mathlib.Core.List.{List, [], _∷_, _++_, append-nil}
-use lib.Dec.{ltb}
-use lib.ListN.{length, take, drop, getD, set, length-append}
-use lib.Seq.{sets, take-suc, take-all, take-length}
+use lib.ListN.{length, take, getD, set, length-append}
+use lib.Seq.{sets, take-suc, take-all}
 use borrow.Author.Tests.{ltb-true}
 use Rattle.paper.specs.Bytes.{pick, every}
 use Rattle.paper.specs.Names.{names-in, marked, name-bytes, number-of, known?}

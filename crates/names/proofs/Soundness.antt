@@ -7,8 +7,8 @@ use mathlib.Core.List.{List, [], _∷_, _++_}
 use lib.Dec.{leb, ltb, eqb, eqb·zero-suc, eqb·suc-zero, eqb·suc-suc}
 use lib.ListN.{length, take, drop, getD, length-drop}
 use lib.Seq.{take-all}
-use borrow.Author.Tests.{lt-ltb, le-leb, lt-leb, eqb-true, eq-eqb, ne-eqb}
-use Rattle.paper.specs.Bytes.{pick, same, every}
+use borrow.Author.Tests.{lt-ltb, le-leb, lt-leb, eqb-true}
+use Rattle.paper.specs.Bytes.{same, every}
 use Rattle.paper.specs.Words.{reserved?}
 use Rattle.paper.specs.Names.{names-in, name-bytes, less-open, name?, known?, all-different, sound-names, sound-table}
 use Rattle.laws.specs.Names.{closed?, same-bytes}

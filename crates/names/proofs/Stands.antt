@@ -2,15 +2,15 @@
 use Prim.Native.Nat.{ℕ, zero, suc, _+_, _-_, _≤_, _<_}
 use native.Mathlib.Omega.{arith}
 use mathlib.Core.Path.{_≡_, refl, subst, sym, ap, _∙_}
-use mathlib.Core.Bool.{Bool, true, false}
+use mathlib.Core.Bool.{Bool, false}
 use mathlib.Core.List.{List, [], _∷_, _++_}
 use lib.Dec.{eqb}
-use lib.ListN.{length, take, drop, getD, length-append, length-drop, drop-of-length-le}
+use lib.ListN.{length, take, drop, getD, length-append, length-drop}
 use lib.Seq.{length-take-le}
 use borrow.Author.Tests.{eq-eqb, ne-eqb}
 use Rattle.paper.specs.Bytes.{pick, same, joined, bytes}
 use Rattle.paper.specs.Classes.{numeric-variable, string-variable, array}
-use Rattle.paper.specs.Words.{Found, found, nowhere, word, find-word, found?, statements, statement-word?}
+use Rattle.paper.specs.Words.{word, find-word, found?, statements, statement-word?}
 use Rattle.paper.specs.Tokens.{variable, class, by-kind}
 use Rattle.paper.specs.Names.{names-in, less-open}
 use Rattle.names.specs.declared.Name.{Name}

@@ -1,19 +1,18 @@
 -- Value entries, written one after the other.
-use Prim.Native.Nat.{ℕ, zero, suc, _+_, _-_, _*_, _≤_, _<_}
+use Prim.Native.Nat.{ℕ, suc, _+_, _-_, _*_, _≤_, _<_}
 use native.Mathlib.Numerals.{add-one}
 use native.Mathlib.Omega.{arith}
 use mathlib.Core.Path.{_≡_, refl, sym, ap, _∙_}
 use mathlib.Core.List.{List, [], _∷_, _++_}
 use lib.ListN.{length, take, drop, getD, length-append}
 use lib.Seq.{sets, sets-eq, length-take-le}
-use Rattle.paper.specs.Bytes.{pick}
 use Rattle.paper.specs.Tokens.{by-kind}
 use Rattle.paper.specs.Names.{names-in, name-bytes, value-entries}
 use Rattle.paper.specs.Store.{overwritten}
 use Rattle.buffers.specs.Sets.{sets-append}
 use Rattle.laws.specs.Names.{bytes-of-names}
 use Rattle.names.specs.Tables.{cleared, unmarked, first-size}
-use Rattle.names.specs.Places.{name-bounds, name-parts, name-here}
+use Rattle.names.specs.Places.{name-parts, name-here}
 use Rattle.names.specs.Answers.{Room}
 use Rattle.names.proofs.Walking.{none-left}
 

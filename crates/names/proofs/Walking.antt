@@ -1,17 +1,15 @@
 -- Walking a table name by name: where a name ends, whether it is spelled so, its number, where it begins.
 use Prim.Native.Nat.{ℕ, zero, suc, _+_, _-_, _≤_, _<_}
-use native.Mathlib.Nat.{add-zero}
-use native.Mathlib.Numerals.{add-one}
 use native.Mathlib.Omega.{arith}
 use mathlib.Core.Path.{_≡_, refl, sym, ap, _∙_}
 use mathlib.Core.Bool.{Bool, true, false}
 use mathlib.Core.List.{List, [], _∷_, _++_}
-use lib.Dec.{leb, ltb, eqb}
+use lib.Dec.{ltb}
 use lib.ListN.{length, take, drop, getD, length-append, length-drop, drop-of-length-le}
-use lib.Seq.{take-suc, take-at, take-nil, length-take-le}
+use lib.Seq.{take-suc, take-nil, length-take-le}
 use borrow.Author.Tests.{lt-ltb, le-ltb}
-use Rattle.paper.specs.Bytes.{pick, run, same, joined}
-use Rattle.paper.specs.Names.{names-in, number-of, known?}
+use Rattle.paper.specs.Bytes.{run, same, joined}
+use Rattle.paper.specs.Names.{names-in, number-of}
 use Rattle.buffers.specs.Runs.{low?}
 use Rattle.laws.specs.Names.{same-self, same-eq, same-ne, number-most, less-known, most-unknown}
 use Rattle.names.specs.declared.table.Found.{Found}

@@ -1,13 +1,12 @@
 -- The name with a number: where it stands among the bytes of a table, and its text there.
 use Prim.Native.Nat.{ℕ, zero, suc, _+_, _-_, _≤_, _<_}
 use native.Mathlib.Omega.{arith}
-use mathlib.Core.Path.{_≡_, refl, subst, sym, ap, _∙_}
+use mathlib.Core.Path.{_≡_, refl, sym, ap, _∙_}
 use mathlib.Core.Bool.{Bool, true, false}
-use mathlib.Core.List.{List, [], _∷_, _++_}
+use mathlib.Core.List.{List, [], _∷_}
 use lib.Dec.{leb, eqb}
-use lib.ListN.{length, take, drop, getD, length-append, length-drop, drop-of-length-le}
-use lib.Seq.{take-nil, drop-nil, take-take, take-append-seam, drop-drop, length-take-le}
-use borrow.Author.Tests.{leb-true, leb-false, le-leb, lt-leb}
+use lib.ListN.{length, take, drop, getD, length-append, length-drop}
+use lib.Seq.{take-nil, drop-nil, take-take, drop-drop, length-take-le}
 use Rattle.paper.specs.Bytes.{pick, joined}
 use Rattle.paper.specs.Names.{names-in, less-open}
 use Rattle.names.specs.declared.Name.{Name}

@@ -1,16 +1,16 @@
 -- Names as a text has them: what `number_of` asks of a name holds of each that an item is.
-use Prim.Native.Nat.{ℕ, zero, suc, _+_, _≤_, _<_}
+use Prim.Native.Nat.{ℕ, zero, suc, _<_}
 use native.Mathlib.Omega.{arith}
-use mathlib.Core.Path.{_≡_, refl, sym, ap, _∙_}
+use mathlib.Core.Path.{_≡_, refl, ap, _∙_}
 use mathlib.Core.Bool.{Bool, true, false, _||_}
 use mathlib.Core.List.{List, [], _∷_, _++_}
-use lib.Dec.{eqb, ltb}
+use lib.Dec.{eqb}
 use lib.ListN.{length, take, getD, length-append}
 use lib.Seq.{take-suc, length-take-le}
 use borrow.Author.Tests.{eqb-true}
-use Rattle.paper.specs.Bytes.{pick, digit?, letter?, letter-or-digit?, run, every}
+use Rattle.paper.specs.Bytes.{digit?, letter?, letter-or-digit?, run, every}
 use Rattle.buffers.specs.Runs.{run-within}
-use Rattle.laws.specs.Names.{top-clear?, plain-name, plain-some, plain-low, some-plain, every-append, low-run}
+use Rattle.laws.specs.Names.{top-clear?, plain-name, plain-low, some-plain, every-append, low-run}
 use Rattle.names.specs.Tables.{spelled}
 
 -- a `(` behind a name that has bytes with their top bits clear

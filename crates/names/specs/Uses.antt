@@ -1,11 +1,11 @@
 -- What follows from what the functions answer, for their callers.
-use Prim.Native.Nat.{ℕ, zero, suc, _+_, _-_, _*_, _≤_, _<_}
+use Prim.Native.Nat.{ℕ, suc, _+_, _-_, _*_, _≤_}
 use native.Mathlib.Omega.{arith}
-use mathlib.Core.Path.{_≡_, refl, subst, sym, ap, _∙_}
-use mathlib.Core.Bool.{Bool, true, false, _&&_, _||_}
+use mathlib.Core.Path.{_≡_, refl, sym, ap, _∙_}
+use mathlib.Core.Bool.{Bool, true, false, _||_}
 use mathlib.Core.List.{List, [], _∷_, _++_, append-assoc}
-use lib.Dec.{leb, ltb, eqb}
-use lib.ListN.{length, take, drop, getD, length-append}
+use lib.Dec.{leb, ltb}
+use lib.ListN.{length, take, drop, length-append}
 use lib.Seq.{drop-append-seam}
 use borrow.Author.Tests.{ltb-true, ltb-false, lt-ltb, le-ltb}
 use Rattle.paper.specs.Bytes.{pick, every}
@@ -31,6 +31,15 @@ length-bytes (b ∷ bs) = go (leb 128 b) (names-in bs) (length-bytes bs)
         omega arith
 
 -- ---- a name's number
+
+-- the new names grow by no more than the name
+pub numbers-short : {ns : List (List ℕ)} {n old new : List ℕ} {f : ℕ} {r : Numbered} → Numbers ns n old f r new → (f ≤ r .size) × (r .size ≤ f + length n)
+unfolding name-added name-bytes
+numbers-short {ns} {n} {old} {new} {f} {r} a = (omega (arith, a .size), omega (arith, a .size, go (known? ns n)))
+  where
+    go : (t : Bool) → length (name-bytes (pick t [] (n ∷ []))) ≤ length n
+    go true = omega arith
+    go false = omega (arith, length-append (marked n) [], length-marked n)
 
 plain-added : (ns : List (List ℕ)) (n : List ℕ) → plain-name n ≡ true → every plain-name (name-added ns n) ≡ true
 unfolding name-added every

@@ -5,19 +5,19 @@ mod table;
 use tokens::class;
 ghost use mathlib.Core.Path.{_≡_};
 ghost use mathlib.Core.Bool.{true, _&&_};
-ghost use mathlib.Core.List.{List, [], _∷_, _++_};
+ghost use mathlib.Core.List.{[], _∷_, _++_};
 ghost use Prim.Native.Nat.{_+_, _-_, _*_, _≤_, _<_};
-ghost use lib.Dec.{leb, eqb};
+ghost use lib.Dec.{leb};
 ghost use lib.ListN.{length, take, drop, getD};
 ghost use lib.Seq.{sets};
 ghost use Rattle.paper.specs.Bytes.{pick, joined};
 ghost use Rattle.paper.specs.Tokens.{by-kind};
 ghost use Rattle.paper.specs.Words.{statement-word?};
-ghost use Rattle.paper.specs.Names.{names-in, name-bytes, number-of, less-open, sound-table, value-entries};
+ghost use Rattle.paper.specs.Names.{names-in, name-bytes, less-open, sound-table, value-entries};
 ghost use Rattle.paper.specs.Store.{overwritten};
 ghost use Rattle.laws.specs.Names.{closed?, plain-name};
 ghost use Rattle.names.specs.Tables.{unmarked, first-size, spelled, lawful, sound-rest};
-ghost use Rattle.names.specs.Answers.{Finds, Numbers, lacks, Room, Stands};
+ghost use Rattle.names.specs.Answers.{Numbers, lacks, Room, Stands};
 
 // The most names that a table may hold.
 pub const MOST_NAMES: usize = 128;
@@ -100,8 +100,8 @@ pub struct Numbered {
     pub size: usize,
 }
 
-// How many bytes a name has before its last; `(` is the last of an array's.
-fn front_size(part: &[u8], array: bool) -> usize
+// The place of a name's last byte; a `(` stands behind an array's.
+fn last_place(part: &[u8], array: bool) -> usize
     ensures { λ r. ⌜ r ≡ length (spelled (now (part .entry)) array) - 1 ⌝ }
 {
     let size = part.len();
@@ -111,14 +111,14 @@ fn front_size(part: &[u8], array: bool) -> usize
     if size == 0 { 0 } else { size - 1 }
 }
 
-// A name's last byte, after so many others.
-fn last_byte(part: &[u8], array: bool, front: usize) -> u8
-    ensures { λ r. ⌜ r ≡ pick array 40 (getD (now (part .entry)) front 0) ⌝ }
+// A name's last byte, at its place.
+fn last_byte(part: &[u8], array: bool, at: usize) -> u8
+    ensures { λ r. ⌜ r ≡ pick array 40 (getD (now (part .entry)) at 0) ⌝ }
 {
     if array {
         40
     } else {
-        buffers::byte_at(part, front)
+        buffers::byte_at(part, at)
     }
 }
 
@@ -162,9 +162,9 @@ pub fn number_of(
     requires { ⌜ (f ≤ length (now fresh)) × (plain-name (spelled (now part) array) ≡ true) ⌝ }
     ensures { λ r. ⌜ Numbers (names-in (take size (now (names .entry))) ++ names-in (take f (now (fresh .entry)))) (spelled (now (part .entry)) array) (now (fresh .entry)) f r (now (fresh .exit)) ⌝ }
 {
-    let front = front_size(part, array);
-    let last = last_byte(part, array, front);
-    look_up(table::first(names, size), fresh, f, &part[..front], last)
+    let at = last_place(part, array);
+    let last = last_byte(part, array, at);
+    look_up(buffers::front(names, size), fresh, f, &part[..at], last)
 }
 
 // ---- new names
@@ -196,6 +196,13 @@ pub fn lacks_room(
         return true;
     }
     value_room < 8 * after
+}
+
+// How many names some bytes are.
+pub fn count(bytes: &[u8]) -> usize
+    ensures { λ r. ⌜ r ≡ length (names-in (now (bytes .entry))) ⌝ }
+{
+    table::count(bytes)
 }
 
 // The type byte of a value, by the last byte of its name.
@@ -272,7 +279,7 @@ fn start_of(names: &[u8], number: usize) -> usize
 pub fn name_at(names: &[u8], size: usize, number: usize) -> Name
     ensures { λ r. ⌜ Stands (names-in (take size (now (names .entry)))) number r ⌝ }
 {
-    let used = table::first(names, size);
+    let used = buffers::front(names, size);
     let from = start_of(used, number);
     let end = table::name_end(used, from);
     if end == from {
@@ -305,12 +312,12 @@ pub fn name_at(names: &[u8], size: usize, number: usize) -> Name
 pub fn is_statement_word(names: &[u8], size: usize, number: usize) -> bool
     ensures { λ r. ⌜ r ≡ statement-word? (less-open (getD (names-in (take size (now (names .entry)))) number [])) ⌝ }
 {
-    let used = table::first(names, size);
+    let used = buffers::front(names, size);
     let from = start_of(used, number);
     let end = table::name_end(used, from);
     if end == from {
         return false;
     }
-    let front = end - 1;
-    shape::is_statement(&used[from..front], table::clear(used[front]))
+    let last_at = end - 1;
+    shape::is_statement(&used[from..last_at], table::clear(used[last_at]))
 }

@@ -1,8 +1,8 @@
 // Names as they lie in a table: where one ends, whether it is spelled so, and which of the names it is.
 ghost use mathlib.Core.Path.{_≡_};
-ghost use mathlib.Core.List.{List, [], _∷_, _++_};
-ghost use Prim.Native.Nat.{_+_, _-_, _≤_, _<_};
-ghost use lib.ListN.{length, take, drop, getD};
+ghost use mathlib.Core.List.{[], _∷_, _++_};
+ghost use Prim.Native.Nat.{_+_, _-_, _<_};
+ghost use lib.ListN.{length, drop};
 ghost use Rattle.paper.specs.Bytes.{same};
 ghost use Rattle.paper.specs.Names.{names-in};
 ghost use Rattle.names.specs.Answers.{Finds};
@@ -77,15 +77,4 @@ pub(crate) fn count(table: &[u8]) -> usize
         number += 1;
     }
     number
-}
-
-// The first bytes of a table, all of them if there are fewer.
-pub(crate) fn first(table: &[u8], size: usize) -> &[u8]
-    ensures { λ r. ⌜ now r ≡ take size (now (table .entry)) ⌝ }
-{
-    if size <= table.len() {
-        &table[..size]
-    } else {
-        table
-    }
 }

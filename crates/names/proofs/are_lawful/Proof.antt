@@ -1,3 +1,4 @@
+-- The loop keeps: all is sound just if what is left has the count that is left and is sound.
 use Prim.Native.Nat.{_-_, _≤_}
 use Rattle.names.proofs.Soundness.{all-wanted, none-wanted, one-lawful, one-unlawful}
 use Rattle.names.specs.Places.{name-bounds}

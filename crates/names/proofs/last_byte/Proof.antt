@@ -11,10 +11,10 @@ byte-at-requires : tie.Need-byte-at-requires
 byte-at-requires c κs = search needs
 
 returns : tie.Need-returns
-returns c = let start = c .before .before in ap (λ (t : Bool). pick t 40 (getD (start .args .part .now) (start .args .front) 0)) (sym (c .if1 .taken))
+returns c = let start = c .before .before in ap (λ (t : Bool). pick t 40 (getD (start .args .part .now) (start .args .at) 0)) (sym (c .if1 .taken))
 
 returns-2 : tie.Need-returns-2
-returns-2 c = let start = c .before .before .before in c .byte-at .ensures ∙ ap (λ (t : Bool). pick t 40 (getD (start .args .part .now) (start .args .front) 0)) (sym (c .before .if1 .left))
+returns-2 c = let start = c .before .before .before in c .byte-at .ensures ∙ ap (λ (t : Bool). pick t 40 (getD (start .args .part .now) (start .args .at) 0)) (sym (c .before .if1 .left))
 
 pub last-byte-spec : {M : Type 1} → statement M
 last-byte-spec = tie.close (tie.spec byte-at-requires returns returns-2)

@@ -1,3 +1,4 @@
+-- The loop keeps: the entries still to be written over the values as they are now make all that is to be written over those at entry.
 use Prim.Native.Nat.{_*_, _+_, _-_, _≤_}
 use Rattle.names.proofs.Values.{value-end, value-more}
 use Rattle.names.specs.Places.{name-bounds, name-here}

@@ -1,3 +1,4 @@
+-- The loop keeps: the names asked for are those passed, up to `at`, and `left` of those that follow.
 use Prim.Native.Nat.{_+_, _-_, _≤_}
 use Rattle.names.proofs.Walking.{start-end, start-here, start-more}
 use Rattle.names.specs.Places.{name-bounds}

@@ -1,3 +1,4 @@
+-- The loop keeps: the names passed are counted, and those left make up the rest.
 use Prim.Native.Nat.{_+_, _-_, _≤_}
 use Rattle.names.proofs.Walking.{count-end, count-more}
 use Rattle.names.specs.Places.{name-bounds}

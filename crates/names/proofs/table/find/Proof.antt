@@ -1,3 +1,4 @@
+-- The loop keeps: the names passed are counted, none of them is the name, so its number among all is that count and its number among those left.
 use Prim.Native.Nat.{_+_, _-_, _≤_}
 use Rattle.names.proofs.Walking.{find-hit, find-miss, find-none}
 use Rattle.names.specs.Places.{name-bounds}

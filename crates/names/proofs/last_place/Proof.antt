@@ -4,8 +4,8 @@ use borrow.Author.Needs.{needs}
 use lib.ListN.{length}
 use mathlib.Core.Path.{_∙_, _≡_}
 use native.Mathlib.Omega.{arith}
-use Rattle.names.proofs.front_size.Statement.{statement}
-use Rattle.names.proofs.front_size.Tie as tie
+use Rattle.names.proofs.last_place.Statement.{statement}
+use Rattle.names.proofs.last_place.Tie as tie
 
 returns : tie.Need-returns
 returns c = size-array _ _ (c .if1 .taken)
@@ -19,5 +19,5 @@ returns-2 c = (let z : 0 ≡ length (c .before .before .args .part .now) - 1 = o
 returns-3 : tie.Need-returns-3
 returns-3 c = size-other _ _ (c .before .if1 .left)
 
-pub front-size-spec : {M : Type 1} → statement M
-front-size-spec = tie.close (tie.spec returns sub-result returns-2 returns-3)
+pub last-place-spec : {M : Type 1} → statement M
+last-place-spec = tie.close (tie.spec returns sub-result returns-2 returns-3)
