@@ -1,0 +1,87 @@
+-- `put` is safe and ends: the store was found sound before the line is put in.
+use mathlib.Core.Path.{sym, _∙_}
+use Rattle.laws.specs.Tests.{as-T}
+use borrow.Author.Needs.{needs}
+use Rattle.leaves.proofs.tables.put.Statement.{statement}
+use Rattle.leaves.proofs.tables.put.Tie as tie
+
+slice-aggregate-print : tie.Need-slice-aggregate-print
+slice-aggregate-print c = search needs
+
+print-requires : tie.Need-print-requires
+print-requires c κs = search needs
+
+print-bytes-requires : tie.Need-print-bytes-requires
+print-bytes-requires c κs = search needs
+
+sound-requires : tie.Need-sound-requires
+sound-requires c κs = search needs
+
+put-in-requires : tie.Need-put-in-requires
+put-in-requires c κs = as-T _ (sym (c .before .before .sound .ensures) ∙ c .before .if1 .taken)
+
+enum-known-after : tie.Need-enum-known-after
+enum-known-after c = search needs
+
+show-store-requires : tie.Need-show-store-requires
+show-store-requires c κs = search needs
+
+enum-told : tie.Need-enum-told
+enum-told c = search needs
+
+slice-aggregate-print-2 : tie.Need-slice-aggregate-print-2
+slice-aggregate-print-2 c = search needs
+
+print-requires-2 : tie.Need-print-requires-2
+print-requires-2 c κs = search needs
+
+show-store-requires-2 : tie.Need-show-store-requires-2
+show-store-requires-2 c κs = search needs
+
+slice-aggregate-print-3 : tie.Need-slice-aggregate-print-3
+slice-aggregate-print-3 c = search needs
+
+print-requires-3 : tie.Need-print-requires-3
+print-requires-3 c κs = search needs
+
+same-length : tie.Need-same-length
+same-length c = search needs
+
+returns : tie.Need-returns
+returns c = search needs
+
+same-length-2 : tie.Need-same-length-2
+same-length-2 c = search needs
+
+returns-2 : tie.Need-returns-2
+returns-2 c = search needs
+
+same-length-3 : tie.Need-same-length-3
+same-length-3 c = search needs
+
+returns-3 : tie.Need-returns-3
+returns-3 c = search needs
+
+pub put-spec : {M : Type 1} → statement M
+put-spec =
+    tie.close
+    (tie.spec
+    slice-aggregate-print
+    print-requires
+    print-bytes-requires
+    sound-requires
+    put-in-requires
+    enum-known-after
+    show-store-requires
+    enum-told
+    slice-aggregate-print-2
+    print-requires-2
+    show-store-requires-2
+    slice-aggregate-print-3
+    print-requires-3
+    same-length
+    returns
+    same-length-2
+    returns-2
+    same-length-3
+    returns-3)

@@ -1,0 +1,27 @@
+// The second pass over a line: its listing, written.
+use crate::pieces;
+use crate::texts;
+ghost use mathlib.Core.Path.{_≡_};
+ghost use mathlib.Core.Bool.{true};
+ghost use Prim.Native.Nat.{_≤_};
+ghost use lib.ListN.{length, take};
+ghost use lib.Seq.{sets};
+ghost use Rattle.paper.specs.Names.{names-in};
+ghost use Rattle.paper.specs.WellFormed.{well-formed?};
+ghost use Rattle.paper.specs.Listing.{listing};
+
+// Writes the listing of a well-formed line to the front of a buffer that has room for it.
+pub fn write_line(line: &[u8], names: &[u8], size: usize, out: &mut [u8])
+    requires { ⌜ (well-formed? (names-in (take size (now names))) (now line) ≡ true) × (length (listing (names-in (take size (now names))) (now line)) ≤ length (now out)) ⌝ }
+    ensures { λ _. ⌜ now (out .exit) ≡ sets (now (out .entry)) 0 (listing (names-in (take size (now (names .entry)))) (now (line .entry))) ⌝ }
+{
+    let mut n = texts::write_head(line, out);
+    let mut at: usize = 3;
+    let mut end: usize = 3;
+    while at < line.len() {
+        let piece = pieces::piece_at(line, at, end);
+        n += texts::write_piece(line, at, piece, names, size, out, n);
+        end = pieces::end_after(line, at, end, piece);
+        at += pieces::size_of(piece);
+    }
+}
