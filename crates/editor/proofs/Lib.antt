@@ -1,0 +1,4 @@
+pub mod StateLaws
+pub mod EditLaws
+pub mod AnswerLaws
+pub mod ListLaws

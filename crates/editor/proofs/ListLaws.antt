@@ -1,0 +1,73 @@
+-- The answers of listing, in the words of `paper`.
+use Prim.Native.Nat.{ℕ, _+_, _-_, _≤_}
+use native.Mathlib.Omega.{arith}
+use mathlib.Core.Path.{_≡_, refl, subst, sym, ap, ap₂, _∙_}
+use mathlib.Core.Bool.{Bool, true, false}
+use mathlib.Core.List.{List}
+use lib.Dec.{T, leb, leb→le}
+use lib.ListN.{length, take, drop}
+use Rattle.paper.specs.Names.{names-in, sound-table}
+use Rattle.paper.specs.Store.{stored?, line-at, lines-in, sound-store, room}
+use Rattle.paper.specs.Calls.{State, names-of, lines-of, sound-state, Listed, not-listed, list-sound, list}
+use Rattle.laws.specs.Tests.{and-left, as-T, is-true}
+use Rattle.laws.specs.Lines.{room-lent}
+use Rattle.lines.specs.Answers.{place-of}
+use Rattle.lines.specs.Places.{place-within, missing, there, line-there}
+use Rattle.lines.specs.declared.Place.{Place}
+use Rattle.lister.specs.Listed.{answer, lists}
+use Rattle.lister.specs.Passes.{Sound}
+use Rattle.editor.specs.declared.Editor.{Editor}
+use Rattle.editor.specs.declared.Listed.{Listed as Answer}
+use Rattle.lister.specs.declared.Listed.{Listed as Found}
+use Rattle.editor.specs.States.{state, listed, Numbered}
+use Rattle.editor.proofs.StateLaws.{table-sound, store-sound}
+
+-- what the lister asks of the names
+pub names-sound : (s : State) → T (sound-state s) → Sound (s .names) (s .name-size)
+unfolding sound-state
+names-sound s t =
+    subst (λ (k : ℕ). T (sound-table (s .names) (s .name-size) k)) (sym ((table-sound s t) .counted))
+    (and-left (sound-table (s .names) (s .name-size) (s .name-count)) _ t)
+
+module _ (s : State) (o : T (sound-state s)) (n : ℕ) (p : Place) (e : p ≡ place-of n (lines-in (take (s .used) (s .store)))) where
+  -- the line lies within the used bytes
+  pub lies-within : p .at + p .size ≤ s .used
+  lies-within = place-within (s .store) (s .used) n (store-sound s o) p e
+
+  -- and so within the store
+  pub lies-there : p .at + p .size ≤ length (s .store)
+  unfolding sound-store
+  lies-there =
+      omega (arith, lies-within, room-lent (s .store), leb→le (s .used) (room (s .store)) (and-left (leb (s .used) (room (s .store))) _ (store-sound s o)))
+
+  -- 9
+  pub not-stored : (out : List ℕ) → p .size ≡ 0 → _≡_ {A = Listed} (record { number = 9; written = 0; output = out }) (list-sound n s out)
+  unfolding list-sound not-listed lines-of
+  not-stored out h = sym (rw (missing (s .store) (s .used) n (store-sound s o) p e h))
+
+  -- 10, 11 or the listing
+  pub listed-so : (line out out′ : List ℕ) (x : Found) (r : Answer) → (p .size ≡ 0 → ⊥) → line ≡ take (p .size) (drop (p .at) (s .store)) → answer x out′ ≡ lists (names-in (take (s .name-size) (s .names))) line out → Numbered x r
+      → listed r out′ ≡ list-sound n s out
+  unfolding list-sound lists names-of lines-of
+  listed-so line out out′ x r h l a q =
+      let t = there (s .store) (s .used) n (store-sound s o) p e h in
+      let b : line ≡ line-at n (lines-in (take (s .used) (s .store))) = l ∙ line-there (s .store) (s .used) n (store-sound s o) p e h in
+      q out′ ∙ a ∙ sym (rw (t, ← b))
+
+-- a part of so many bytes
+pub part-is : (at size : ℕ) (l : List ℕ) → take (at + size - at) (drop at l) ≡ take size (drop at l)
+part-is at size l = let e : at + size - at ≡ size = omega arith in ap (λ (k : ℕ). take k (drop at l)) e
+
+-- over sound tables and store
+pub list-so : (s : State) (n : ℕ) (out : List ℕ) (b : Bool) (r : Listed) → b ≡ sound-state s → b ≡ true → r ≡ list-sound n s out → r ≡ list n s out
+unfolding list
+list-so s n out b r e t h = h ∙ sym (rw (sym e ∙ t))
+
+-- 1
+pub list-refused : (s : State) (n : ℕ) (out : List ℕ) (b : Bool) → b ≡ sound-state s → b ≡ false → _≡_ {A = Listed} (record { number = 1; written = 0; output = out }) (list n s out)
+unfolding list not-listed
+list-refused s n out b e t = sym (rw (sym e ∙ t))
+
+-- the test passed
+pub sound-passed : (s : State) (b : Bool) → b ≡ sound-state s → b ≡ true → T (sound-state s)
+sound-passed s b e t = as-T (sound-state s) (sym e ∙ t)

@@ -1,0 +1,47 @@
+-- The lent buffers and the record as a state of `paper`, and what a call answered and left as an outcome of `paper`.
+use Prim.Native.Nat.{ℕ, _+_, _≤_}
+use mathlib.Core.Path.{_≡_}
+use mathlib.Core.Bool.{true}
+use mathlib.Core.List.{List}
+use lib.ListN.{length}
+use Rattle.paper.specs.Bytes.{every}
+use Rattle.paper.specs.Tokens.{Token}
+use Rattle.paper.specs.Names.{add-names, name-bytes, most-names}
+use Rattle.paper.specs.Line.{line-bytes}
+use Rattle.paper.specs.Calls.{State, names-of, accept}
+use Rattle.paper.specs.Calls.{Entered as Outcome, Listed as Written-out}
+use Rattle.laws.specs.Names.{names-added, plain-name}
+use Rattle.editor.specs.declared.Editor.{Editor}
+use Rattle.editor.specs.declared.Entered.{Entered}
+use Rattle.editor.specs.declared.Listed.{Listed}
+use Rattle.lister.specs.declared.Listed.{Listed as Found}
+use Rattle.lister.specs.Listed.{answer}
+
+-- names, values, store and the record
+abbrev pub state : List ℕ → List ℕ → List ℕ → Editor → State
+state names values store e =
+    record { names = names; name-size = e .«name_bytes»; name-count = e .«name_count»; values = values; store = store; used = e .used }
+
+-- what a call answered, with what it left in names, values and store
+abbrev pub entered : Entered → List ℕ → List ℕ → List ℕ → Outcome
+entered r names values store = record { number = r .number; place = r .place; added = r .added; after = state names values store (r .editor) }
+
+-- A line and the bytes of its new names, as they were read from a text: the line of these tokens over the names ns. A line that is too long,
+-- or has too many names, is not written out, but its length is right.
+pub record Written (ns : List (List ℕ)) (n : ℕ) (ts : List Token) (line fresh : List ℕ) : Type 0 where
+  pub new : fresh ≡ name-bytes (names-added ns ts)
+  pub plain : every plain-name (names-added ns ts) ≡ true
+  pub size : length line ≡ length (line-bytes (add-names ns ts) n ts)
+  pub bytes : length line ≤ 255 → length (add-names ns ts) ≤ most-names → line ≡ line-bytes (add-names ns ts) n ts
+
+-- an outcome is that of accepting a line that was read
+abbrev pub Accepts : State → List ℕ → List ℕ → Outcome → Type 0
+Accepts s line fresh o = (n : ℕ) (ts : List Token) → Written (names-of s) n ts line fresh → o ≡ accept s n ts
+
+-- what a listing answered, with what it left in the output buffer
+abbrev pub listed : Listed → List ℕ → Written-out
+listed r out = record { number = r .number; written = r .written; output = out }
+
+-- an answer has the number and the bytes written of what came of listing a line
+abbrev pub Numbered : Found → Listed → Type 0
+Numbered x r = (out : List ℕ) → listed r out ≡ answer x out

@@ -1,0 +1,14 @@
+pub mod Draft
+pub mod NameLaws
+pub mod DraftLaws
+pub mod ClassLaws
+pub mod Says
+pub mod Laws
+pub mod TookLaws
+pub mod Tests
+pub mod Rows
+pub mod Sees
+pub mod ExpectLaws
+pub mod SeesLaws
+pub mod KindLaws
+pub mod LeafLaws

@@ -1,0 +1,227 @@
+// Statements, one after another: the first item of each, its rest, and its offset.
+use super::Ended;
+use super::rests::condition;
+use super::rests::dims;
+use super::rests::element_assigned;
+use super::rests::ending;
+use super::rests::for_variable;
+use super::rests::last_expression;
+use super::rests::let_target;
+use super::rests::next_variable;
+use super::rests::number_assigned;
+use super::rests::poke;
+use super::rests::print;
+use super::rests::restore;
+use super::rests::selection;
+use super::rests::substring_assigned;
+use super::rests::variables;
+use expressions::Spot;
+use expressions::Step;
+use expressions::name_number;
+use expressions::see;
+use expressions::variable_token;
+use items::Item;
+use tokens::OperatorToken;
+use tokens::StatementToken;
+use tokens::class;
+ghost use mathlib.Core.Path.{_≡_};
+ghost use mathlib.Core.Bool.{true, false};
+ghost use mathlib.Core.List.{[], _∷_};
+ghost use Prim.Native.Nat.{_+_, _-_, _≤_, _<_};
+ghost use lib.ListN.{length, drop};
+ghost use Rattle.paper.specs.Tokens.{class};
+ghost use Rattle.paper.specs.Items.{raw-at};
+ghost use Rattle.paper.specs.Frames.{want-raw-text, want-raw-end};
+ghost use Rattle.items.specs.Sees.{Sees, token-at};
+ghost use Rattle.expressions.specs.Draft.{low};
+ghost use Rattle.expressions.specs.ClassLaws.{own-of};
+ghost use Rattle.expressions.specs.Says.{env, mem, Asks};
+ghost use Rattle.reader.specs.Ends.{Reads};
+ghost use Rattle.reader.specs.Lines.{Began, States, Tells};
+ghost use Rattle.reader.specs.StatementTests.{opens-statement?, statement-frames, rest-items};
+
+// The low byte of a number.
+pub fn low_byte(n: usize) -> u8
+    ensures { λ r. ⌜ r ≡ low n ⌝ }
+{
+    (n % 256) as u8
+}
+
+// Whether an item of a class begins a statement.
+fn opens_statement(found: u8) -> bool
+    ensures { λ r. ⌜ r ≡ opens-statement? found ⌝ }
+{
+    match found {
+        class::REMARK => true,
+        class::LET_WORD => true,
+        class::FIRST_NUMERIC => true,
+        class::FIRST_ARRAY => true,
+        class::FIRST_STRING => true,
+        class::IF_WORD => true,
+        class::FOR_WORD => true,
+        class::NEXT_WORD => true,
+        class::ON_WORD => true,
+        class::DIM_WORD => true,
+        class::READ_INPUT => true,
+        class::PRINT_WORD => true,
+        class::POKE_WORD => true,
+        class::JUMP => true,
+        class::RESTORE_WORD => true,
+        class::ALONE => true,
+        _ => false,
+    }
+}
+
+// REM and DATA: the text that follows, or refusal 4 at a 9B in it.
+fn raw(
+    part: &[u8],
+    offset: usize,
+    q: Spot,
+    line: &mut [u8],
+    names: &[u8],
+    fresh: &mut [u8],
+) -> Ended
+    requires { ⌜ Asks (env (now part) offset (now names)) q (mem (now line) (now fresh)) ⌝ }
+    ensures { λ r. ⌜ Reads (want-raw-text ∷ want-raw-end ∷ []) (raw-at (offset + q .at) (drop (q .at) (now (part .entry)))) (env (now (part .entry)) offset (now (names .entry))) q (mem (now (line .entry)) (now (fresh .entry))) (mem (now (line .exit)) (now (fresh .exit))) r ⌝ }
+{
+    let at = q.at;
+    let written = q.written;
+    let text = items::raw_text(part, at);
+    let from = text.from;
+    let end = text.end;
+    if end < part.len() {
+        return Ended::Refused(4, offset + end);
+    }
+    let size = end - from;
+    buffers::copy(line, written, &part[from..end]);
+    buffers::put(line, written + size, OperatorToken::RAW_END.0);
+    Ended::Last(Spot {
+        at: end,
+        written: written + size + 1,
+        named: q.named,
+    })
+}
+
+// What follows the first item of a statement, by its class.
+fn rest(
+    part: &[u8],
+    offset: usize,
+    found: u8,
+    q: Spot,
+    line: &mut [u8],
+    names: &[u8],
+    fresh: &mut [u8],
+) -> Ended
+    requires { ⌜ Asks (env (now part) offset (now names)) q (mem (now line) (now fresh)) ⌝ }
+    ensures { λ r. ⌜ Reads (statement-frames found) (rest-items (env (now (part .entry)) offset (now (names .entry))) found (q .at)) (env (now (part .entry)) offset (now (names .entry))) q (mem (now (line .entry)) (now (fresh .entry))) (mem (now (line .exit)) (now (fresh .exit))) r ⌝ }
+{
+    match found {
+        class::REMARK => raw(part, offset, q, line, names, fresh),
+        class::LET_WORD => let_target(part, offset, q, line, names, fresh),
+        class::FIRST_NUMERIC => number_assigned(part, offset, q, line, names, fresh),
+        class::FIRST_ARRAY => element_assigned(part, offset, q, line, names, fresh),
+        class::FIRST_STRING => substring_assigned(part, offset, q, line, names, fresh),
+        class::IF_WORD => condition(part, offset, q, line, names, fresh),
+        class::FOR_WORD => for_variable(part, offset, q, line, names, fresh),
+        class::NEXT_WORD => next_variable(part, offset, q, line, names, fresh),
+        class::ON_WORD => selection(part, offset, q, line, names, fresh),
+        class::DIM_WORD => dims(part, offset, q, line, names, fresh),
+        class::READ_INPUT => variables(part, offset, q, line, names, fresh),
+        class::PRINT_WORD => print(part, offset, q, line, names, fresh),
+        class::POKE_WORD => poke(part, offset, q, line, names, fresh),
+        class::JUMP => last_expression(part, offset, q, line, names, fresh),
+        class::RESTORE_WORD => restore(part, offset, q, line, names, fresh),
+        _ => ending(part, offset, q, line, names, fresh),
+    }
+}
+
+// The first item of a statement: a 0 where its offset is to stand, and its word's token or LET without the word and the variable.
+fn begin(
+    text: &[u8],
+    it: Item,
+    found: u8,
+    own: u8,
+    q: Spot,
+    line: &mut [u8],
+    names: &[u8],
+    fresh: &mut [u8],
+) -> Spot
+    requires { ⌜ (Asks (env (now text) 0 (now names)) q (mem (now line) (now fresh))) × (Sees (now text) (q .at) true it) × (found ≡ class (token-at (now text) true it)) × (own ≡ own-of (token-at (now text) true it)) × (opens-statement? found ≡ true) ⌝ }
+    ensures { λ r. ⌜ Began (env (now (text .entry)) 0 (now (names .entry))) q (mem (now (line .entry)) (now (fresh .entry))) (token-at (now (text .entry)) true it) (it .end) r (mem (now (line .exit)) (now (fresh .exit))) ⌝ }
+{
+    let end = it.end;
+    let written = q.written;
+    buffers::put(line, written, 0);
+    if found < class::REMARK {
+        let number = name_number(text, it, names, fresh, q.named);
+        buffers::put(line, written + 1, StatementToken::LET_WITHOUT_WORD.0);
+        buffers::put(line, written + 2, variable_token(number.number));
+        Spot {
+            at: end,
+            written: written + 3,
+            named: number.size,
+        }
+    } else {
+        buffers::put(line, written + 1, own);
+        Spot {
+            at: end,
+            written: written + 2,
+            named: q.named,
+        }
+    }
+}
+
+// One statement: its first item, the rest of it, and then its offset from the line's start.
+fn statement(text: &[u8], q: Spot, line: &mut [u8], names: &[u8], fresh: &mut [u8]) -> Ended
+    requires { ⌜ Asks (env (now text) 0 (now names)) q (mem (now line) (now fresh)) ⌝ }
+    ensures { λ r. ⌜ States (env (now (text .entry)) 0 (now (names .entry))) q (mem (now (line .entry)) (now (fresh .entry))) (mem (now (line .exit)) (now (fresh .exit))) r ⌝ }
+{
+    let at = q.at;
+    let written = q.written;
+    let seen = see(text, at, true);
+    let it = seen.item;
+    let end = it.end;
+    let place = it.at;
+    let found = seen.class;
+    if opens_statement(found) {
+        let p = begin(text, it, found, seen.own, q, line, names, fresh);
+        let start = Spot {
+            at: 0,
+            written: p.written,
+            named: p.named,
+        };
+        match rest(&text[end..], end, found, start, line, names, fresh) {
+            Ended::More(r) => {
+                buffers::put(line, written, low_byte(r.written));
+                Ended::More(Spot {
+                    at: end + r.at,
+                    written: r.written,
+                    named: r.named,
+                })
+            }
+            Ended::Last(r) => {
+                buffers::put(line, written, low_byte(r.written));
+                Ended::Last(Spot {
+                    at: end,
+                    written: r.written,
+                    named: r.named,
+                })
+            }
+            Ended::Refused(k, z) => Ended::Refused(k, z),
+        }
+    } else {
+        Ended::Refused(4, place)
+    }
+}
+
+// All statements from a place on.
+pub fn statements(text: &[u8], q: Spot, line: &mut [u8], names: &[u8], fresh: &mut [u8]) -> Step
+    requires { ⌜ Asks (env (now text) 0 (now names)) q (mem (now line) (now fresh)) ⌝ }
+    ensures { λ r. ⌜ Tells (env (now (text .entry)) 0 (now (names .entry))) q (mem (now (line .entry)) (now (fresh .entry))) (mem (now (line .exit)) (now (fresh .exit))) r ⌝ }
+{
+    match statement(text, q, line, names, fresh) {
+        Ended::More(p) => statements(text, p, line, names, fresh),
+        Ended::Last(p) => Step::Done(p),
+        Ended::Refused(k, p) => Step::Refused(k, p),
+    }
+}
