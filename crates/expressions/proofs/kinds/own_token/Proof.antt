@@ -38,7 +38,6 @@ enum-known-kind-2 c = search needs
 enum-known-kind-3 : tie.Need-enum-known-kind-3
 enum-known-kind-3 c = search needs
 
--- /work/w-reader/target/rlib/tokens.rlib/interface/lang/src/lib.rt:67:38
 enum-told-6 : tie.Need-enum-told-6
 enum-told-6 c = search needs
 
