@@ -1,4 +1,4 @@
-// The calls: a text entered, and a stored line listed, over lent tables and a lent store.
+// The calls over lent tables and a lent store: a stored line listed; and the edits that entering a text is to make of a sound store.
 mod edits;
 mod listings;
 
