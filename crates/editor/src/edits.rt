@@ -1,12 +1,16 @@
 // The edits of a sound store: a line put in, with its new names, or taken out.
 use super::Editor;
 use super::Entered;
+use buffers::front;
 use lines::Removed;
 use lines::Stored;
+use reader::Reading;
 ghost use mathlib.Core.Path.{_≡_};
 ghost use mathlib.Core.Bool.{true};
+ghost use Prim.Native.Nat.{_≤_};
 ghost use lib.Dec.{T};
-ghost use Rattle.paper.specs.Calls.{sound-state, refusal, delete};
+ghost use lib.ListN.{length};
+ghost use Rattle.paper.specs.Calls.{sound-state, delete, at-head, head-of};
 ghost use Rattle.laws.specs.Names.{closed?};
 ghost use Rattle.editor.specs.States.{state, entered, Accepts};
 
@@ -51,10 +55,11 @@ pub(crate) fn take_out(
     }
 }
 
-// Puts a line into a sound store and the names that are new in it into the tables, or refuses it with 6, 7 or 8. Nothing is written before all
-// tests have passed.
+// Puts the first `size` bytes of a buffer as a line into a sound store and the names that are new in it into the tables, or refuses it with 6, 7
+// or 8. Nothing is written before all tests have passed.
 pub(crate) fn accept(
     line: &[u8],
+    size: usize,
     fresh: &[u8],
     names: &mut [u8],
     values: &mut [u8],
@@ -62,20 +67,20 @@ pub(crate) fn accept(
     e: Editor,
 ) -> Entered
     requires { ⌜ (T (sound-state (state (now names) (now values) (now store) e))) × (closed? (now fresh) ≡ true) ⌝ }
-    ensures { λ r. ⌜ Accepts (state (now (names .entry)) (now (values .entry)) (now (store .entry)) e) (now (line .entry)) (now (fresh .entry)) (entered r (now (names .exit)) (now (values .exit)) (now (store .exit))) ⌝ }
+    ensures { λ r. ⌜ Accepts (state (now (names .entry)) (now (values .entry)) (now (store .entry)) e) (now (line .entry)) size (now (fresh .entry)) (entered r (now (names .exit)) (now (values .exit)) (now (store .exit))) ⌝ }
 {
-    let size = e.name_bytes;
+    let bytes = e.name_bytes;
     let count = e.name_count;
-    if names::lacks_room(names.len(), size, values.len(), count, fresh) {
+    if names::lacks_room(names.len(), bytes, values.len(), count, fresh) {
         return refused(6, 0, e);
     }
-    if LONGEST_LINE < line.len() {
+    if LONGEST_LINE < size {
         return refused(7, 0, e);
     }
-    match lines::put_in(store, e.used, line) {
+    match lines::put_in(store, e.used, front(line, size)) {
         Stored::NoRoom => refused(8, 0, e),
         Stored::Done(used) => {
-            names::add(names, size, values, count, fresh);
+            names::add(names, bytes, values, count, fresh);
             let added = names::count(fresh);
             Entered {
                 number: 0,
@@ -84,9 +89,29 @@ pub(crate) fn accept(
                 editor: Editor {
                     used,
                     name_count: count + added,
-                    name_bytes: size + fresh.len(),
+                    name_bytes: bytes + fresh.len(),
                 },
             }
         }
+    }
+}
+
+// Enters a text of at most 120 bytes over sound tables and a sound store, with scratch for its line and for the names that are new in it.
+pub(crate) fn enter_short(
+    text: &[u8],
+    names: &mut [u8],
+    values: &mut [u8],
+    store: &mut [u8],
+    e: Editor,
+    line: &mut [u8],
+    fresh: &mut [u8],
+) -> Entered
+    requires { ⌜ (T (sound-state (state (now names) (now values) (now store) e))) × (length (now text) ≤ 120) × (255 ≤ length (now line)) × (240 ≤ length (now fresh)) ⌝ }
+    ensures { λ r. ⌜ entered r (now (names .exit)) (now (values .exit)) (now (store .exit)) ≡ at-head (state (now (names .entry)) (now (values .entry)) (now (store .entry)) e) (head-of (now (text .entry))) ⌝ }
+{
+    match reader::read(text, names, e.name_bytes, line, fresh) {
+        Reading::Refused(number, place) => refused(number, place, e),
+        Reading::Delete(number) => take_out(number, names, values, store, e),
+        Reading::Read(l) => accept(line, l.size, front(fresh, l.named), names, values, store, e),
     }
 }

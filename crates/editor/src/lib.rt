@@ -1,10 +1,13 @@
-// The calls over lent tables and a lent store: a stored line listed; and the edits that entering a text is to make of a sound store.
+// The calls over lent tables and a lent store: a text entered, a stored line listed.
 mod edits;
 mod listings;
 
+use edits::enter_short;
+use edits::refused;
 ghost use mathlib.Core.Path.{_≡_};
-ghost use Rattle.paper.specs.Calls.{sound-state, list as list-call};
-ghost use Rattle.editor.specs.States.{state, listed};
+ghost use lib.Dec.{T};
+ghost use Rattle.paper.specs.Calls.{sound-state, enter-sound, enter as enter-call, list as list-call};
+ghost use Rattle.editor.specs.States.{state, entered, listed};
 
 // The editor's record: the bytes of the store that are used, how many names there are, and how many bytes they have.
 pub struct Editor {
@@ -27,6 +30,9 @@ pub struct Listed {
     pub written: usize,
 }
 
+// The most bytes that a text may have.
+const LONGEST_TEXT: usize = 120;
+
 // Whether tables and store are sound.
 pub fn sound(names: &[u8], values: &[u8], store: &[u8], e: Editor) -> bool
     ensures { λ r. ⌜ r ≡ sound-state (state (now (names .entry)) (now (values .entry)) (now (store .entry)) e) ⌝ }
@@ -35,6 +41,42 @@ pub fn sound(names: &[u8], values: &[u8], store: &[u8], e: Editor) -> bool
         lines::sound(store, e.used)
     } else {
         false
+    }
+}
+
+// Enters a text over sound tables and a sound store, or refuses it with 2 to 9.
+pub fn enter_sound(
+    text: &[u8],
+    names: &mut [u8],
+    values: &mut [u8],
+    store: &mut [u8],
+    e: Editor,
+) -> Entered
+    requires { ⌜ T (sound-state (state (now names) (now values) (now store) e)) ⌝ }
+    ensures { λ r. ⌜ entered r (now (names .exit)) (now (values .exit)) (now (store .exit)) ≡ enter-sound (now (text .entry)) (state (now (names .entry)) (now (values .entry)) (now (store .entry)) e) ⌝ }
+{
+    if LONGEST_TEXT < text.len() {
+        return refused(2, 0, e);
+    }
+    let mut line = [0u8; 255];
+    let mut fresh = [0u8; 240];
+    enter_short(text, names, values, store, e, &mut line, &mut fresh)
+}
+
+// Enters a text: a line is put in or takes the place of the one with its number, a number alone deletes. A refusal, 1 to 9, changes nothing.
+pub fn enter(
+    text: &[u8],
+    names: &mut [u8],
+    values: &mut [u8],
+    store: &mut [u8],
+    e: Editor,
+) -> Entered
+    ensures { λ r. ⌜ entered r (now (names .exit)) (now (values .exit)) (now (store .exit)) ≡ enter-call (now (text .entry)) (state (now (names .entry)) (now (values .entry)) (now (store .entry)) e) ⌝ }
+{
+    if sound(names, values, store, e) {
+        enter_sound(text, names, values, store, e)
+    } else {
+        refused(1, 0, e)
     }
 }
 
