@@ -2,21 +2,21 @@
 use Prim.Native.Nat.{ℕ, _+_, _-_, _*_, _≤_, _<_}
 use native.Mathlib.Nat.{add-zero}
 use native.Mathlib.Omega.{arith}
-use mathlib.Core.Path.{_≡_, refl, subst, sym, ap, ap₂, _∙_}
+use mathlib.Core.Path.{_≡_, sym, ap, _∙_}
 use mathlib.Core.Bool.{Bool, true, false}
-use mathlib.Core.List.{List, [], _∷_, _++_, append-nil}
-use lib.Dec.{T, ltb}
+use mathlib.Core.List.{List, [], _++_, append-nil}
+use lib.Dec.{T}
 use lib.ListN.{length, take, drop, length-append, take-append-drop}
 use lib.Seq.{drop-append-seam, length-take-le, drop-length}
 use borrow.Author.Tests.{lt-ltb, le-ltb}
-use Rattle.paper.specs.Bytes.{pick, joined, every}
+use Rattle.paper.specs.Bytes.{joined}
 use Rattle.paper.specs.Tokens.{Token}
-use Rattle.paper.specs.Names.{names-in, name-bytes, add-names, most-names, value-entries}
+use Rattle.paper.specs.Names.{names-in, name-bytes, add-names, value-entries}
 use Rattle.paper.specs.Line.{line-bytes}
-use Rattle.paper.specs.Store.{room, stored?, put-line, take-out, overwritten}
+use Rattle.paper.specs.Store.{stored?, put-line, take-out, overwritten}
 use Rattle.paper.specs.Calls.{State, names-of, lines-of, sound-state, refusal, stored, lacks-room, accept, delete}
 use Rattle.paper.specs.Calls.{Entered as Outcome}
-use Rattle.laws.specs.Names.{closed?, names-added, plain-name, adds-front, names-of-bytes}
+use Rattle.laws.specs.Names.{closed?, adds-front}
 use Rattle.names.specs.Answers.{lacks, Room}
 use Rattle.names.specs.Uses.{length-bytes, lacks-is, room-left}
 use Rattle.lines.specs.Answers.{too-long}
@@ -56,11 +56,10 @@ not-there s n h = sym (rw (h))
 -- ---- accepting a line
 
 -- the names of the line are those before and the new ones
-names-are : {ns : List (List ℕ)} {n : ℕ} {ts : List Token} {line fresh : List ℕ} → Written ns n ts line fresh → add-names ns ts ≡ ns ++ names-in fresh
-names-are {ns} {n} {ts} {line} {fresh} w =
-    adds-front ns ts ∙ ap (λ (l : List (List ℕ)). ns ++ l) (sym (ap names-in (w .new) ∙ names-of-bytes (names-added ns ts) (w .plain)))
+names-are : {ns : List (List ℕ)} {n : ℕ} {ts : List Token} {line : List ℕ} {size : ℕ} {fresh : List ℕ} → Written ns n ts line size fresh → add-names ns ts ≡ ns ++ names-in fresh
+names-are {ns} {n} {ts} w = adds-front ns ts ∙ ap (λ (l : List (List ℕ)). ns ++ l) (sym (w .new))
 
-module _ (s : State) (o : T (sound-state s)) (line fresh : List ℕ) where
+module _ (s : State) (o : T (sound-state s)) (line : List ℕ) (size : ℕ) (fresh : List ℕ) where
   abbrev lack : Bool
   lack = lacks (length (s .names)) (s .name-size) (length (s .values)) (s .name-count) (names-in fresh)
 
@@ -68,18 +67,18 @@ module _ (s : State) (o : T (sound-state s)) (line fresh : List ℕ) where
   unfolding names-of
   counted = (table-sound s o) .counted
 
-  lack-is : (n : ℕ) (ts : List Token) → Written (names-of s) n ts line fresh → lacks-room s (add-names (names-of s) ts) ≡ lack
+  lack-is : (n : ℕ) (ts : List Token) → Written (names-of s) n ts line size fresh → lacks-room s (add-names (names-of s) ts) ≡ lack
   lack-is n ts w = ap (lacks-room s) (names-are w) ∙ sym (lacks-is s (names-in fresh) counted)
 
   -- 6
-  pub refuses-6 : lack ≡ true → Accepts s line fresh (refusal 6 0 s)
+  pub refuses-6 : lack ≡ true → Accepts s line size fresh (refusal 6 0 s)
   unfolding accept
   refuses-6 h n ts w = sym (rw (lack-is n ts w ∙ h))
 
   -- 7
-  pub refuses-7 : lack ≡ false → 255 < length line → Accepts s line fresh (refusal 7 0 s)
+  pub refuses-7 : lack ≡ false → 255 < size → Accepts s line size fresh (refusal 7 0 s)
   unfolding accept
-  refuses-7 h k n ts w = sym (rw (lack-is n ts w ∙ h, lt-ltb 255 (length (line-bytes (add-names (names-of s) ts) n ts)) (omega (arith, w .size))))
+  refuses-7 h k n ts w = sym (rw (lack-is n ts w ∙ h, lt-ltb 255 (length (line-bytes (add-names (names-of s) ts) n ts)) (omega (arith, w .length-is))))
 
   -- there is room for the names
   pub roomy : lack ≡ false → closed? fresh ≡ true → Room (s .names) (s .name-size) (s .values) (s .name-count) fresh
@@ -88,18 +87,19 @@ module _ (s : State) (o : T (sound-state s)) (line fresh : List ℕ) where
       room-left (s .names) (s .name-size) (s .values) (s .name-count) fresh h c (t .few) (t .within) (values-fit s o)
 
   -- the line is written out where it is short and its names are few
-  line-is : (n : ℕ) (ts : List Token) → Written (names-of s) n ts line fresh → lack ≡ false → closed? fresh ≡ true → length line ≤ 255 → line ≡ line-bytes (add-names (names-of s) ts) n ts
+  line-is : (n : ℕ) (ts : List Token) → Written (names-of s) n ts line size fresh → lack ≡ false → closed? fresh ≡ true → size ≤ 255 → take size line ≡ line-bytes (add-names (names-of s) ts) n ts
   line-is n ts w h c k =
       let r = roomy h c in
       let e : length (add-names (names-of s) ts) ≡ length (names-of s) + length (names-in fresh) = ap length (names-are w) ∙ length-append (names-of s) (names-in fresh) in
       w .bytes k (omega (arith, r .few, e, counted))
 
   -- 8
-  pub refuses-8 : lack ≡ false → closed? fresh ≡ true → length line ≤ 255 → too-long (s .store) (put-line line (lines-of s)) ≡ true → Accepts s line fresh (refusal 8 0 s)
+  pub refuses-8 : lack ≡ false → closed? fresh ≡ true → size ≤ 255 → too-long (s .store) (put-line (take size line) (lines-of s)) ≡ true → Accepts s line size fresh (refusal 8 0 s)
   unfolding accept too-long
   refuses-8 h c k t n ts w =
       let l = line-is n ts w h c k in
-      sym (rw (lack-is n ts w ∙ h, ← l, le-ltb 255 (length line) k, t))
+      let short : length (take size line) ≤ 255 = omega (arith, ap length l, w .length-is) in
+      sym (rw (lack-is n ts w ∙ h, ← l, le-ltb 255 (length (take size line)) short, t))
 
   -- the state with the line and its names
   abbrev made : State
@@ -108,23 +108,24 @@ module _ (s : State) (o : T (sound-state s)) (line fresh : List ℕ) where
     name-size = s .name-size + length fresh;
     name-count = s .name-count + length (names-in fresh);
     values = overwritten (take (8 * s .name-count) (s .values) ++ value-entries (s .name-count) (names-in fresh)) (s .values);
-    store = overwritten (joined (put-line line (lines-of s))) (s .store);
-    used = length (joined (put-line line (lines-of s)));
+    store = overwritten (joined (put-line (take size line) (lines-of s))) (s .store);
+    used = length (joined (put-line (take size line) (lines-of s)));
   }
 
   -- it is the state that is stored
-  stored-made : stored s (names-of s ++ names-in fresh) (put-line line (lines-of s)) ≡ made
+  stored-made : stored s (names-of s ++ names-in fresh) (put-line (take size line) (lines-of s)) ≡ made
   unfolding stored
   stored-made =
       let e : length (names-of s ++ names-in fresh) ≡ s .name-count + length (names-in fresh) = length-append (names-of s) (names-in fresh) ∙ ap (λ (k : ℕ). k + length (names-in fresh)) counted in
       rw (drop-append-seam (names-of s) (names-in fresh), e, length-bytes fresh)
 
   -- 0
-  pub takes : lack ≡ false → closed? fresh ≡ true → length line ≤ 255 → too-long (s .store) (put-line line (lines-of s)) ≡ false
-      → Accepts s line fresh (record { number = 0; place = 0; added = length (names-in fresh); after = made })
+  pub takes : lack ≡ false → closed? fresh ≡ true → size ≤ 255 → too-long (s .store) (put-line (take size line) (lines-of s)) ≡ false
+      → Accepts s line size fresh (record { number = 0; place = 0; added = length (names-in fresh); after = made })
   unfolding accept too-long
   takes h c k t n ts w =
       let l = line-is n ts w h c k in
+      let short : length (take size line) ≤ 255 = omega (arith, ap length l, w .length-is) in
       let m = names-are w in
       let e : length (names-of s ++ names-in fresh) - length (names-of s) ≡ length (names-in fresh) = omega (arith, length-append (names-of s) (names-in fresh)) in
-      sym (rw (lack-is n ts w ∙ h, ← l, le-ltb 255 (length line) k, t, m, e, stored-made))
+      sym (rw (lack-is n ts w ∙ h, ← l, le-ltb 255 (length (take size line)) short, t, m, e, stored-made))

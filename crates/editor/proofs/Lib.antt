@@ -2,3 +2,4 @@ pub mod StateLaws
 pub mod EditLaws
 pub mod AnswerLaws
 pub mod ListLaws
+pub mod EnterLaws

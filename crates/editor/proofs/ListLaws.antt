@@ -1,25 +1,24 @@
 -- The answers of listing, in the words of `paper`.
 use Prim.Native.Nat.{ℕ, _+_, _-_, _≤_}
 use native.Mathlib.Omega.{arith}
-use mathlib.Core.Path.{_≡_, refl, subst, sym, ap, ap₂, _∙_}
+use mathlib.Core.Path.{_≡_, subst, sym, ap, _∙_}
 use mathlib.Core.Bool.{Bool, true, false}
 use mathlib.Core.List.{List}
 use lib.Dec.{T, leb, leb→le}
 use lib.ListN.{length, take, drop}
 use Rattle.paper.specs.Names.{names-in, sound-table}
-use Rattle.paper.specs.Store.{stored?, line-at, lines-in, sound-store, room}
+use Rattle.paper.specs.Store.{line-at, lines-in, sound-store, room}
 use Rattle.paper.specs.Calls.{State, names-of, lines-of, sound-state, Listed, not-listed, list-sound, list}
-use Rattle.laws.specs.Tests.{and-left, as-T, is-true}
+use Rattle.laws.specs.Tests.{and-left, as-T}
 use Rattle.laws.specs.Lines.{room-lent}
 use Rattle.lines.specs.Answers.{place-of}
 use Rattle.lines.specs.Places.{place-within, missing, there, line-there}
 use Rattle.lines.specs.declared.Place.{Place}
 use Rattle.lister.specs.Listed.{answer, lists}
 use Rattle.lister.specs.Passes.{Sound}
-use Rattle.editor.specs.declared.Editor.{Editor}
 use Rattle.editor.specs.declared.Listed.{Listed as Answer}
 use Rattle.lister.specs.declared.Listed.{Listed as Found}
-use Rattle.editor.specs.States.{state, listed, Numbered}
+use Rattle.editor.specs.States.{listed, Numbered}
 use Rattle.editor.proofs.StateLaws.{table-sound, store-sound}
 
 -- what the lister asks of the names

@@ -1,9 +1,8 @@
 -- What a sound state is, as facts, and the test of it in two parts.
-use Prim.Native.Nat.{ℕ, _+_, _*_, _≤_}
+use Prim.Native.Nat.{ℕ, _*_, _≤_}
 use native.Mathlib.Omega.{arith}
 use mathlib.Core.Path.{_≡_, refl, sym, _∙_}
 use mathlib.Core.Bool.{Bool, true, false, _&&_}
-use mathlib.Core.List.{List}
 use lib.Dec.{T, leb, leb→le}
 use lib.ListN.{length}
 use Rattle.paper.specs.Names.{sound-table}

@@ -1,16 +1,14 @@
 -- The lent buffers and the record as a state of `paper`, and what a call answered and left as an outcome of `paper`.
-use Prim.Native.Nat.{ℕ, _+_, _≤_}
+use Prim.Native.Nat.{ℕ, _≤_}
 use mathlib.Core.Path.{_≡_}
-use mathlib.Core.Bool.{true}
 use mathlib.Core.List.{List}
-use lib.ListN.{length}
-use Rattle.paper.specs.Bytes.{every}
+use lib.ListN.{length, take}
 use Rattle.paper.specs.Tokens.{Token}
-use Rattle.paper.specs.Names.{add-names, name-bytes, most-names}
+use Rattle.paper.specs.Names.{names-in, add-names, most-names}
 use Rattle.paper.specs.Line.{line-bytes}
 use Rattle.paper.specs.Calls.{State, names-of, accept}
 use Rattle.paper.specs.Calls.{Entered as Outcome, Listed as Written-out}
-use Rattle.laws.specs.Names.{names-added, plain-name}
+use Rattle.laws.specs.Names.{names-added}
 use Rattle.editor.specs.declared.Editor.{Editor}
 use Rattle.editor.specs.declared.Entered.{Entered}
 use Rattle.editor.specs.declared.Listed.{Listed}
@@ -26,17 +24,16 @@ state names values store e =
 abbrev pub entered : Entered → List ℕ → List ℕ → List ℕ → Outcome
 entered r names values store = record { number = r .number; place = r .place; added = r .added; after = state names values store (r .editor) }
 
--- A line and the bytes of its new names, as they were read from a text: the line of these tokens over the names ns. A line that is too long,
--- or has too many names, is not written out, but its length is right.
-pub record Written (ns : List (List ℕ)) (n : ℕ) (ts : List Token) (line fresh : List ℕ) : Type 0 where
-  pub new : fresh ≡ name-bytes (names-added ns ts)
-  pub plain : every plain-name (names-added ns ts) ≡ true
-  pub size : length line ≡ length (line-bytes (add-names ns ts) n ts)
-  pub bytes : length line ≤ 255 → length (add-names ns ts) ≤ most-names → line ≡ line-bytes (add-names ns ts) n ts
+-- A line of `size` bytes at the front of a buffer and the bytes of its new names, as they were read from a text: the line of these tokens over
+-- the names ns. The bytes are right unless the line is too long or has too many names; its length is right in any case.
+pub record Written (ns : List (List ℕ)) (n : ℕ) (ts : List Token) (line : List ℕ) (size : ℕ) (fresh : List ℕ) : Type 0 where
+  pub new : names-in fresh ≡ names-added ns ts
+  pub length-is : size ≡ length (line-bytes (add-names ns ts) n ts)
+  pub bytes : size ≤ 255 → length (add-names ns ts) ≤ most-names → take size line ≡ line-bytes (add-names ns ts) n ts
 
 -- an outcome is that of accepting a line that was read
-abbrev pub Accepts : State → List ℕ → List ℕ → Outcome → Type 0
-Accepts s line fresh o = (n : ℕ) (ts : List Token) → Written (names-of s) n ts line fresh → o ≡ accept s n ts
+abbrev pub Accepts : State → List ℕ → ℕ → List ℕ → Outcome → Type 0
+Accepts s line size fresh o = (n : ℕ) (ts : List Token) → Written (names-of s) n ts line size fresh → o ≡ accept s n ts
 
 -- what a listing answered, with what it left in the output buffer
 abbrev pub listed : Listed → List ℕ → Written-out

@@ -1,14 +1,14 @@
 -- What reading a text gives, from the definitions of document 01.
 use Prim.Native.Nat.{ℕ, _≤_}
 use mathlib.Core.Path.{_≡_}
-use mathlib.Core.Bool.{Bool, true, false}
+use mathlib.Core.Bool.{false}
 use mathlib.Core.List.{List}
 use lib.Dec.{eqb}
 use lib.ListN.{length}
 use lib.Seq.{sets}
 use Rattle.paper.specs.Bytes.{pick, blank?, run}
 use Rattle.paper.specs.Tokens.{Token}
-use Rattle.paper.specs.Names.{name-bytes, add-names}
+use Rattle.paper.specs.Names.{names-in, name-bytes, add-names}
 use Rattle.paper.specs.Line.{line-bytes}
 use Rattle.paper.specs.Calls.{Translated, tokens, refused-at, translate, Head, numbered, too-great, no-digit, head-of}
 use Rattle.laws.specs.Names.{names-added}
@@ -31,12 +31,19 @@ of-head ks no-digit = Refused 3 0
 unfoldable pub reading : List (List ℕ) → List ℕ → Reading
 reading ks text = of-head ks (head-of text)
 
--- The answer is the definitions'; and of an accepted text the line and the new names stand at the front of the two buffers. The line's bytes
--- are those of the definitions if there are at most 255 of them and at most 128 names (`line-fits`).
+-- An accepted line: it and the names new in it stand at the front of the two buffers; the names can be told apart, and have at most 240
+-- bytes. The line's bytes are those of the definitions if there are at most 255 of them and at most 128 names (`line-fits`).
+pub record Accepted (ks : List (List ℕ)) (n : ℕ) (ts : List Token) (line fresh line′ fresh′ : List ℕ) : Type 0 where
+  pub line-put : line′ ≡ sets line 0 (written-line ks n ts)
+  pub names-put : fresh′ ≡ sets fresh 0 (name-bytes (names-added ks ts))
+  pub told-apart : names-in (name-bytes (names-added ks ts)) ≡ names-added ks ts
+  pub few : length (name-bytes (names-added ks ts)) ≤ 240
+
+-- The answer is the definitions'; and what an accepted text leaves in the two buffers.
 pub record Told (ks : List (List ℕ)) (text line fresh line′ fresh′ : List ℕ) (r : Reading) : Type 0 where
   pub answer : r ≡ reading ks text
   pub accepted : (n p : ℕ) (rest : List ℕ) (ts : List Token) → head-of text ≡ numbered n p rest → eqb (run blank? rest) (length rest) ≡ false → translate p rest ≡ tokens ts
-      → (line′ ≡ sets line 0 (written-line ks n ts)) × (fresh′ ≡ sets fresh 0 (name-bytes (names-added ks ts)))
+      → Accepted ks n ts line fresh line′ fresh′
 
 -- a number as far as it can be a line's: itself, or any too great
 pub record Capped (v r : ℕ) : Type 0 where

@@ -1,6 +1,5 @@
 -- The answer to a text, from its head and from what the reader of statements tells.
-use Prim.Native.Nat.{ℕ, zero, suc, _+_, _*_, _-_, _/_, _%_, _≤_, _<_}
-use native.Mathlib.Numerals.{add-one}
+use Prim.Native.Nat.{ℕ, suc, _+_, _*_, _-_, _/_, _%_, _≤_, _<_}
 use native.Mathlib.Omega.{arith}
 use mathlib.Core.Path.{_≡_, refl, subst, sym, ap, _∙_}
 use mathlib.Core.Bool.{Bool, true, false}
@@ -8,29 +7,28 @@ use mathlib.Core.List.{List, [], _∷_, _++_, append-nil}
 use lib.Dec.{eqb, leb}
 use borrow.Author.Tests.{eq-eqb, ne-eqb, le-leb, lt-leb, leb-true, leb-false}
 use native.Mathlib.Nat.{mod-eq-of-lt, div-add-mod}
-use lib.ListN.{length, take, drop, getD, set, length-append, length-drop}
-use lib.Seq.{sets, drop-drop, drop-cons, set-comm}
+use lib.ListN.{length, take, drop, getD, set}
+use lib.Seq.{sets, drop-drop, drop-cons, drop-append-seam}
 use Rattle.paper.specs.Bytes.{pick, digit?, blank?, run}
 use Rattle.paper.specs.Tokens.{Token}
 use Rattle.paper.specs.Constants.{value}
 use Rattle.paper.specs.Names.{names-in, name-bytes, add-names}
-use Rattle.paper.specs.Items.{Item, scan, items}
-use Rattle.paper.specs.Machine.{Taken, Run, left, done, bad, read}
-use Rattle.paper.specs.Grammar.{Gives, look-in-range, start}
-use Rattle.paper.specs.Line.{line-bytes, token-bytes, lawful-number?}
+use Rattle.paper.specs.Items.{scan, items}
+use Rattle.paper.specs.Machine.{read}
+use Rattle.paper.specs.Grammar.{look-in-range, start}
+use Rattle.paper.specs.Line.{line-bytes, lawful-number?}
 use Rattle.paper.specs.WellFormed.{tokens-of}
-use Rattle.paper.specs.Calls.{Translated, tokens, refused-at, place-of, outcome, translate, Head, numbered, too-great, no-digit, head-of}
+use Rattle.paper.specs.Calls.{tokens, refused-at, place-of, outcome, translate, numbered, too-great, no-digit, head-of}
 use Rattle.laws.specs.Names.{names-added, closed?}
+use Rattle.buffers.specs.Sets.{front}
 use Rattle.expressions.specs.Draft.{low, with-offsets, written-line}
 use Rattle.expressions.specs.DraftLaws.{line-size}
-use Rattle.expressions.specs.Says.{Env, env, Mem, mem, spot, known, items-at, Asks}
+use Rattle.expressions.specs.Says.{env, Mem, mem, spot, known, items-at, Asks}
 use Rattle.expressions.specs.declared.Spot.{Spot}
 use Rattle.reader.specs.Ends.{Halts}
-use Rattle.reader.specs.Lines.{Lined, Finishes}
+use Rattle.reader.specs.Lines.{Finishes}
 use Rattle.reader.specs.LineLaws.{sets-set}
-use Rattle.reader.specs.Reading.{of-translated, of-head, reading, Told, Capped}
-use Rattle.reader.specs.declared.Line.{Line}
-use Rattle.reader.specs.declared.Reading.{Reading}
+use Rattle.reader.specs.Reading.{of-translated, of-head, reading, Accepted, Told, Capped}
 use Rattle.reader.specs.declared.Reading.the-variants.{Read, Delete, Refused}
 
 -- ---- the number
@@ -138,25 +136,23 @@ told-refused {ks} {text} {line} {fresh} {line′} {fresh′} {n} {p} {k} {q} {re
     }
 
 pub told-read : {ks : List (List ℕ)} {text line fresh line′ fresh′ : List ℕ} {n p size named : ℕ} {rest : List ℕ} {us : List Token} → head-of text ≡ numbered n p rest → (run blank? rest ≡ length rest → ⊥)
-    → translate p rest ≡ tokens us → size ≡ length (line-bytes (add-names ks us) n us) → named ≡ length (name-bytes (names-added ks us)) → line′ ≡ sets line 0 (written-line ks n us)
-    → fresh′ ≡ sets fresh 0 (name-bytes (names-added ks us)) → Told ks text line fresh line′ fresh′ (Read (record { number = n; size = size; named = named }))
+    → translate p rest ≡ tokens us → (Accepted ks n us line fresh line′ fresh′) × (size ≡ length (line-bytes (add-names ks us) n us)) × (named ≡ length (name-bytes (names-added ks us)))
+    → Told ks text line fresh line′ fresh′ (Read (record { number = n; size = size; named = named }))
 unfolding reading of-head of-translated
-told-read {ks} {text} {line} {fresh} {line′} {fresh′} {n} {p} {size} {named} {rest} {us} h b t s a l f =
+told-read {ks} {text} {line} {fresh} {line′} {fresh′} {n} {p} {size} {named} {rest} {us} h b t w =
     let z : eqb (run blank? rest) (length rest) ≡ false = ne-eqb (run blank? rest) (length rest) b in
     record {
       answer =
-          ap (λ (x : ℕ). Read (record { number = n; size = x; named = named })) s
-          ∙ ap (λ (x : ℕ). Read (record { number = n; size = length (line-bytes (add-names ks us) n us); named = x })) a
+          ap (λ (x : ℕ). Read (record { number = n; size = x; named = named })) (w .1)
+          ∙ ap (λ (x : ℕ). Read (record { number = n; size = length (line-bytes (add-names ks us) n us); named = x })) (w .2)
           ∙ sym (ap (of-head ks) h ∙ rw z (ap (of-translated ks n) t));
       accepted = λ n′ p′ rest′ ts e c u.
           let i : rest ≡ rest′ = cc in
           let j : p ≡ p′ = cc in
           let o : n ≡ n′ = cc in
           let y : tokens us ≡ tokens ts = sym t ∙ ap (λ (l : List ℕ). translate p l) i ∙ ap (λ (x : ℕ). translate x rest′) j ∙ u in
-          let v : us ≡ ts = cc in (
-            l ∙ ap (λ (x : ℕ). sets line 0 (written-line ks x us)) o ∙ ap (λ (x : List Token). sets line 0 (written-line ks n′ x)) v,
-            f ∙ ap (λ (x : List Token). sets fresh 0 (name-bytes (names-added ks x))) v,
-          );
+          let v : us ≡ ts = cc in
+          subst (λ (x : ℕ). Accepted ks x ts line fresh line′ fresh′) o (subst (λ (x : List Token). Accepted ks n x line fresh line′ fresh′) v (w .0));
     }
 
 -- ---- from the statements
@@ -189,27 +185,47 @@ sizes : (ks : List (List ℕ)) (n : ℕ) (us : List Token) → 3 + length (with-
 unfolding written-line
 sizes ks n us = let z : 3 + length (with-offsets ks 3 us) ≡ suc (suc (suc (length (with-offsets ks 3 us)))) = omega arith in z ∙ line-size ks n us
 
+-- the names that were added are those that stand at the front of the buffer
+apart : {f′ : List ℕ} (ks : List (List ℕ)) (fresh : List ℕ) (us : List Token) (named : ℕ) → f′ ≡ sets fresh 0 (name-bytes (names-added ks us)) → named ≡ length (name-bytes (names-added ks us)) → named ≤ length fresh
+    → ks ++ names-in (take named f′) ≡ add-names ks us → names-in (name-bytes (names-added ks us)) ≡ names-added ks us
+unfolding names-added
+apart {f′} ks fresh us named fw aw room knows =
+    let new = name-bytes (names-added ks us) in
+    let t : take named f′ ≡ new = ap (λ (k : ℕ). take k f′) aw ∙ ap (take (length new)) fw ∙ front fresh new (omega (arith, aw)) in
+    let w : ks ++ names-in new ≡ add-names ks us = ap (λ (l : List ℕ). ks ++ names-in l) (sym t) ∙ knows in
+    sym (drop-append-seam ks (names-in new)) ∙ ap (drop (length ks)) w
+
 -- the head of the line was put before its statements, and its length after them
-pub line-whole : {l₁ l₂ l₃ line′ : List ℕ} {a b c : ℕ} (line names fresh : List ℕ) (text : List ℕ) (n e : ℕ) (us : List Token) {q′ : Spot} {f′ : List ℕ} → l₁ ≡ set line 0 a → a ≡ n % 256 → l₂ ≡ set l₁ 1 b → b ≡ n / 256
-    → Lined (env text 0 names) (spot e 3 0) (mem l₂ fresh) us q′ (mem l₃ f′) → line′ ≡ set l₃ 2 c → c ≡ low (q′ .written)
-    → (line′ ≡ sets line 0 (written-line (names-in names) n us)) × (f′ ≡ sets fresh 0 (name-bytes (names-added (names-in names) us)))
-    × (q′ .written ≡ length (line-bytes (add-names (names-in names) us) n us)) × (q′ .named ≡ length (name-bytes (names-added (names-in names) us)))
+pub line-whole : {l₁ l₂ l₃ line′ : List ℕ} {a b c : ℕ} (line names fresh : List ℕ) (text : List ℕ) (n e : ℕ) {q′ : Spot} {f′ : List ℕ} → 240 ≤ length fresh → l₁ ≡ set line 0 a → a ≡ n % 256 → l₂ ≡ set l₁ 1 b
+    → b ≡ n / 256 → (x : Finishes (env text 0 names) (spot e 3 0) (mem l₂ fresh) q′ (mem l₃ f′)) → line′ ≡ set l₃ 2 c → c ≡ low (q′ .written)
+    → (Accepted (names-in names) n (tokens-of (x .ts)) line fresh line′ f′) × (q′ .written ≡ length (line-bytes (add-names (names-in names) (tokens-of (x .ts))) n (tokens-of (x .ts))))
+    × (q′ .named ≡ length (name-bytes (names-added (names-in names) (tokens-of (x .ts)))))
 unfolding written-line
-line-whole {l₁} {l₂} {l₃} {line′} {a} {b} {c} line names fresh text n e us {q′} {f′} p₁ ea p₂ eb x p₃ ec =
+line-whole {l₁} {l₂} {l₃} {line′} {a} {b} {c} line names fresh text n e {q′} {f′} room p₁ ea p₂ eb f p₃ ec =
     let ks = names-in names in
+    let us = tokens-of (f .ts) in
+    let x = f .lined in
     let k0 : known (env text 0 names) (spot e 3 0) (mem l₂ fresh) ≡ ks = no-names names fresh (spot e 3 0) (mem l₂ fresh) refl in
     let body = with-offsets ks 3 us in
     let lw : l₃ ≡ sets l₂ 3 body = x .line ∙ ap (λ (k : List (List ℕ)). sets l₂ 3 (with-offsets k 3 us)) k0 in
     let cw : q′ .written ≡ 3 + length body = x .count ∙ ap (λ (k : List (List ℕ)). 3 + length (with-offsets k 3 us)) k0 in
-    let v : c ≡ low (3 + length body) = ec ∙ ap low cw in (
-      p₃ ∙ ap (λ (l : List ℕ). set l 2 c) lw ∙ sets-set l₂ 2 3 c body (omega arith)
-          ∙ ap (λ (l : List ℕ). sets (set l 2 c) 3 body) (p₂ ∙ ap (λ (l : List ℕ). set l 1 b) p₁)
-          ∙ ap (λ (y : ℕ). sets (set (set (set line 0 y) 1 b) 2 c) 3 body) ea
-          ∙ ap (λ (y : ℕ). sets (set (set (set line 0 (n % 256)) 1 y) 2 c) 3 body) eb
-          ∙ ap (λ (y : ℕ). sets (set (set (set line 0 (n % 256)) 1 (n / 256)) 2 y) 3 body) v,
-      x .fresh ∙ ap (λ (k : List (List ℕ)). sets fresh 0 (name-bytes (names-added k us))) k0,
+    let v : c ≡ low (3 + length body) = ec ∙ ap low cw in
+    let fw : f′ ≡ sets fresh 0 (name-bytes (names-added ks us)) = x .fresh ∙ ap (λ (k : List (List ℕ)). sets fresh 0 (name-bytes (names-added k us))) k0 in
+    let aw : q′ .named ≡ length (name-bytes (names-added ks us)) =
+    x .added ∙ ap (λ (k : List (List ℕ)). 0 + length (name-bytes (names-added k us))) k0 ∙ zero-more (length (name-bytes (names-added ks us))) in (
+      record {
+        line-put =
+            p₃ ∙ ap (λ (l : List ℕ). set l 2 c) lw ∙ sets-set l₂ 2 3 c body (omega arith)
+            ∙ ap (λ (l : List ℕ). sets (set l 2 c) 3 body) (p₂ ∙ ap (λ (l : List ℕ). set l 1 b) p₁)
+            ∙ ap (λ (y : ℕ). sets (set (set (set line 0 y) 1 b) 2 c) 3 body) ea
+            ∙ ap (λ (y : ℕ). sets (set (set (set line 0 (n % 256)) 1 y) 2 c) 3 body) eb
+            ∙ ap (λ (y : ℕ). sets (set (set (set line 0 (n % 256)) 1 (n / 256)) 2 y) 3 body) v;
+        names-put = fw;
+        told-apart = apart ks fresh us (q′ .named) fw aw (omega (arith, f .named)) (x .knows ∙ ap (λ (k : List (List ℕ)). add-names k us) k0);
+        few = omega (arith, f .named, aw);
+      },
       cw ∙ sizes ks n us,
-      x .added ∙ ap (λ (k : List (List ℕ)). 0 + length (name-bytes (names-added k us))) k0 ∙ zero-more (length (name-bytes (names-added ks us))),
+      aw,
     )
 
 -- one digit more of a number

@@ -3,28 +3,19 @@ use Rattle.editor.proofs.ListLaws.{sound-passed, list-so, list-refused}
 use borrow.Author.Needs.{needs}
 use Rattle.editor.proofs.list.Statement.{statement}
 use Rattle.editor.proofs.list.Tie as tie
-use Rattle.editor.proofs.list.Reads as reads
-use Rattle.editor.proofs.list.Lts as lts
-use Rattle.editor.proofs.listings.list_stored.Reads as list-stored-reads
-use Rattle.editor.proofs.sound.Reads as sound-reads
 
--- src/lib.rt:45:8
 sound-requires : tie.Need-sound-requires
 sound-requires c κs = search needs
 
--- src/lib.rt:46:9
 list-stored-requires : tie.Need-list-stored-requires
 list-stored-requires c κs = sound-passed (state (c .before .before .before .before .before .before .before .args .names .now) (c .before .before .before .before .before .before .before .args .values .now) (c .before .before .before .before .before .before .before .args .store .now) (c .before .before .before .before .before .before .before .args .e)) _ (c .before .before .sound .ensures) (c .before .if1 .taken)
 
--- src/lib.rt:42:1
 same-length : tie.Need-same-length
 same-length c = search needs
 
--- src/lib.rt:42:1
 returns : tie.Need-returns
 returns c = list-so (state (c .before .before .before .before .before .before .before .before .before .before .args .names .now) (c .before .before .before .before .before .before .before .before .before .before .args .values .now) (c .before .before .before .before .before .before .before .before .before .before .args .store .now) (c .before .before .before .before .before .before .before .before .before .before .args .e)) (c .before .before .before .before .before .before .before .before .before .before .args .line) (c .before .before .before .before .before .before .before .before .before .before .args .out .now) _ _ (c .before .before .before .before .before .sound .ensures) (c .before .before .before .before .if1 .taken) (c .before .before .list-stored .ensures)
 
--- src/lib.rt:42:1
 returns-2 : tie.Need-returns-2
 returns-2 c = list-refused (state (c .before .before .before .before .before .before .args .names .now) (c .before .before .before .before .before .before .args .values .now) (c .before .before .before .before .before .before .args .store .now) (c .before .before .before .before .before .before .args .e)) (c .before .before .before .before .before .before .args .line) (c .before .before .before .before .before .before .args .out .now) _ (c .before .sound .ensures) (c .if1 .left)
 

@@ -3,24 +3,17 @@ use Rattle.editor.proofs.StateLaws.{sound-so, unsound-so}
 use borrow.Author.Needs.{needs}
 use Rattle.editor.proofs.sound.Statement.{statement}
 use Rattle.editor.proofs.sound.Tie as tie
-use Rattle.editor.proofs.sound.Reads as reads
-use Rattle.editor.proofs.sound.Lts as lts
-use Rattle.lines.proofs.sound.Reads as sound-reads
 use Rattle.names.proofs.sound.Reads as sound-reads′
 
--- src/lib.rt:27:8
 sound-requires : tie.Need-sound-requires
 sound-requires c κs = search needs
 
--- src/lib.rt:28:9
 sound-requires-2 : tie.Need-sound-requires-2
 sound-requires-2 c κs = search needs
 
--- src/lib.rt:24:1
 returns : tie.Need-returns
 returns c = sound-so (state (c .before .before .before .before .before .before .args .names .now) (c .before .before .before .before .before .before .args .values .now) (c .before .before .before .before .before .before .args .store .now) (c .before .before .before .before .before .before .args .e)) _ _ (c .before .before .sound .ensures) (c .before .if1 .taken) (c .sound2 .ensures)
 
--- src/lib.rt:24:1
 returns-2 : tie.Need-returns-2
 returns-2 c = unsound-so (state (c .before .before .before .before .before .args .names .now) (c .before .before .before .before .before .args .values .now) (c .before .before .before .before .before .args .store .now) (c .before .before .before .before .before .args .e)) _ (c .before .sound .ensures) (c .if1 .left)
 

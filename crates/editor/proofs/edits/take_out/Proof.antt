@@ -5,41 +5,29 @@ use Rattle.paper.specs.Calls.{lines-of}
 use borrow.Author.Needs.{needs}
 use Rattle.editor.proofs.edits.take_out.Statement.{statement}
 use Rattle.editor.proofs.edits.take_out.Tie as tie
-use Rattle.editor.proofs.edits.take_out.Reads as reads
-use Rattle.editor.proofs.edits.take_out.Lts as lts
-use Rattle.editor.proofs.edits.refused.Reads as refused-reads
-use Rattle.lines.proofs.take_out.Reads as take-out-reads
 
--- src/edits.rt:29:11
 take-out-requires : tie.Need-take-out-requires
 take-out-requires c κs = store-sound (state (c .before .before .before .before .args .names .now) (c .before .before .before .before .args .values .now) (c .before .before .before .before .args .store .now) (c .before .before .before .before .args .e)) (c .before .before .before .before .pre)
 
--- src/edits.rt:30:23
 enum-known-used : tie.Need-enum-known-used
 enum-known-used c = search needs
 
--- src/edits.rt:36:30
 enum-told : tie.Need-enum-told
 enum-told c = search needs
 
--- src/edits.rt:36:30
 refused-requires : tie.Need-refused-requires
 refused-requires c κs = search needs
 
--- src/edits.rt:25:1
 same-length : tie.Need-same-length
 same-length c = search needs
 
--- src/edits.rt:25:1
 returns : tie.Need-returns
 unfolding lines-of
 returns c = gone (c .before .before .before .before .before .before .before .before .before .before .args .names .now) (c .before .before .before .before .before .before .before .before .before .before .args .values .now) (c .before .before .before .before .before .before .before .before .before .before .args .store .now) (c .before .before .before .before .before .before .before .before .before .before .args .e) (c .before .before .before .before .before .before .before .before .before .before .pre) (c .before .before .before .before .before .before .before .before .before .before .args .number) _ _ _ (c .before .before .before .before .before .take-out .ensures .0) (c .before .before .before .before .before .take-out .ensures .1) (c .before .used .given .1)
 
--- src/edits.rt:25:1
 same-length-2 : tie.Need-same-length-2
 same-length-2 c = search needs
 
--- src/edits.rt:25:1
 returns-2 : tie.Need-returns-2
 unfolding lines-of
 returns-2 c = absent (c .before .before .before .before .before .before .before .before .before .before .args .names .now) (c .before .before .before .before .before .before .before .before .before .before .args .values .now) (c .before .before .before .before .before .before .before .before .before .before .args .store .now) (c .before .before .before .before .before .before .before .before .before .before .args .e) (c .before .before .before .before .before .before .before .before .before .before .args .number) _ _ _ (c .before .before .before .before .before .take-out .ensures .0) (c .before .before .before .before .before .take-out .ensures .1) (c .before .enum-told .given .1) (c .refused .ensures)

@@ -4,32 +4,24 @@ use Rattle.lister.specs.declared.Listed.{Listed as Outcome}
 use borrow.Author.Needs.{needs}
 use Rattle.editor.proofs.listings.numbered.Statement.{statement}
 use Rattle.editor.proofs.listings.numbered.Tie as tie
-use Rattle.editor.proofs.listings.numbered.Reads as reads
-use Rattle.editor.proofs.listings.numbered.Lts as lts
 
--- src/listings.rt:16:35
 enum-told : tie.Need-enum-told
 enum-told c = search needs
 
--- src/listings.rt:17:29
 enum-told-2 : tie.Need-enum-told-2
 enum-told-2 c = search needs
 
--- src/listings.rt:18:26
 enum-known-outcome : tie.Need-enum-known-outcome
 enum-known-outcome c = search needs
 
--- src/listings.rt:12:1
 returns : tie.Need-returns
 unfolding answer
 returns c = λ out. sym (ap (λ (z : Outcome). answer z out) (c .enum-told .given .1))
 
--- src/listings.rt:12:1
 returns-2 : tie.Need-returns-2
 unfolding answer
 returns-2 c = λ out. sym (ap (λ (z : Outcome). answer z out) (c .enum-told2 .given .1))
 
--- src/listings.rt:12:1
 returns-3 : tie.Need-returns-3
 unfolding answer
 returns-3 c = λ out. sym (ap (λ (z : Outcome). answer z out) (c .before .outcome .given .1))

@@ -1,0 +1,178 @@
+-- Entering a text, from what reading it told.
+use Prim.Native.Nat.{ℕ, _≤_, _<_}
+use native.Mathlib.Omega.{arith}
+use mathlib.Core.Path.{_≡_, refl, sym, ap, _∙_}
+use mathlib.Core.Bool.{Bool, true, false}
+use mathlib.Core.List.{List}
+use lib.Dec.{eqb}
+use lib.ListN.{length, take}
+use borrow.Author.Tests.{lt-ltb, le-ltb}
+use Rattle.paper.specs.Bytes.{pick, blank?, run}
+use Rattle.paper.specs.Tokens.{Token}
+use Rattle.paper.specs.Names.{names-in, name-bytes, add-names}
+use Rattle.paper.specs.Line.{line-bytes}
+use Rattle.paper.specs.Calls.{State, names-of, sound-state, refusal, Translated, tokens, refused-at, translate, accept, answered, delete, Head, numbered, too-great, no-digit, head-of, at-head, enter-sound, enter}
+use Rattle.paper.specs.Calls.{Entered as Outcome}
+use Rattle.laws.specs.Names.{names-added, closed?, closed-names}
+use Rattle.buffers.specs.Sets.{front}
+use Rattle.expressions.specs.Draft.{written-line}
+use Rattle.expressions.specs.DraftLaws.{line-fits, line-size}
+use Rattle.reader.specs.Reading.{of-translated, of-head, reading, Accepted, Told}
+use Rattle.reader.specs.declared.Line.{Line}
+use Rattle.reader.specs.declared.Reading.{Reading}
+use Rattle.reader.specs.declared.Reading.the-variants.{Read, Delete, Refused}
+use Rattle.editor.specs.declared.Editor.{Editor}
+use Rattle.editor.specs.declared.Entered.{Entered}
+use Rattle.editor.specs.States.{state, entered, Written, Accepts}
+use Rattle.editor.proofs.AnswerLaws.{refusing}
+
+-- ---- a refusal and a deletion
+
+module _ (s : State) (ks : List (List ℕ)) where
+  refused-go : (n k p : ℕ) (b : Bool) (t : Translated) → Refused k p ≡ pick b (Delete n) (of-translated ks n t) → refusal k p s ≡ pick b (delete s n) (answered s n t)
+  unfolding of-translated answered
+  refused-go n k p true t e = let z : _≡_ {A = ℕ} 0 1 = cc in absurd (omega arith)
+  refused-go n k p false (tokens ts) e = let z : _≡_ {A = ℕ} 0 1 = cc in absurd (omega arith)
+  refused-go n k p false (refused-at k′ p′) e =
+      let i : k ≡ k′ = cc in
+      let j : p ≡ p′ = cc in
+      rw (i, j)
+
+  -- what reading refuses is refused
+  refused-head : (k p : ℕ) (h : Head) → Refused k p ≡ of-head ks h → refusal k p s ≡ at-head s h
+  unfolding of-head at-head
+  refused-head k p (numbered n q rest) e = refused-go n k p (eqb (run blank? rest) (length rest)) (translate q rest) e
+  refused-head k p too-great e =
+      let i : k ≡ 3 = cc in
+      let j : p ≡ 0 = cc in
+      rw (i, j)
+  refused-head k p no-digit e =
+      let i : k ≡ 3 = cc in
+      let j : p ≡ 0 = cc in
+      rw (i, j)
+
+  delete-go : (n m : ℕ) (b : Bool) (t : Translated) → Delete m ≡ pick b (Delete n) (of-translated ks n t) → delete s m ≡ pick b (delete s n) (answered s n t)
+  unfolding of-translated
+  delete-go n m true t e = let i : m ≡ n = cc in rw i
+  delete-go n m false (tokens ts) e = let z : _≡_ {A = ℕ} 0 1 = cc in absurd (omega arith)
+  delete-go n m false (refused-at k p) e = let z : _≡_ {A = ℕ} 0 1 = cc in absurd (omega arith)
+
+  -- what is read as a number alone deletes
+  delete-head : (m : ℕ) (h : Head) → Delete m ≡ of-head ks h → delete s m ≡ at-head s h
+  unfolding of-head at-head
+  delete-head m (numbered n q rest) e = delete-go n m (eqb (run blank? rest) (length rest)) (translate q rest) e
+  delete-head m too-great e = let z : _≡_ {A = ℕ} 0 1 = cc in absurd (omega arith)
+  delete-head m no-digit e = let z : _≡_ {A = ℕ} 0 1 = cc in absurd (omega arith)
+
+-- ---- a line
+
+-- the tokens of a line that was read, and its lengths
+record Tokens (ks : List (List ℕ)) (h : Head) (l : Line) : Type 0 where
+  n : ℕ
+  p : ℕ
+  rest : List ℕ
+  ts : List Token
+  head : h ≡ numbered n p rest
+  more : eqb (run blank? rest) (length rest) ≡ false
+  translated : translate p rest ≡ tokens ts
+  size : l .size ≡ length (line-bytes (add-names ks ts) n ts)
+  named : l .named ≡ length (name-bytes (names-added ks ts))
+
+tokens-go : (ks : List (List ℕ)) (l : Line) (n p : ℕ) (rest : List ℕ) (b : Bool) (t : Translated) → eqb (run blank? rest) (length rest) ≡ b → translate p rest ≡ t
+    → Read l ≡ pick b (Delete n) (of-translated ks n t) → Tokens ks (numbered n p rest) l
+unfolding of-translated
+tokens-go ks l n p rest true t eb et e = let z : _≡_ {A = ℕ} 0 1 = cc in absurd (omega arith)
+tokens-go ks l n p rest false (refused-at k q) eb et e = let z : _≡_ {A = ℕ} 0 1 = cc in absurd (omega arith)
+tokens-go ks l n p rest false (tokens ts) eb et e =
+    let same : _≡_ {A = Line} l (record { number = n; size = length (line-bytes (add-names ks ts) n ts); named = length (name-bytes (names-added ks ts)) }) = cc in
+    record { n = n; p = p; rest = rest; ts = ts; head = refl; more = eb; translated = et; size = ap (λ (x : Line). x .size) same; named = ap (λ (x : Line). x .named) same }
+
+tokens-of-head : (ks : List (List ℕ)) (l : Line) (h : Head) → Read l ≡ of-head ks h → Tokens ks h l
+unfolding of-head
+tokens-of-head ks l (numbered n p rest) e = tokens-go ks l n p rest (eqb (run blank? rest) (length rest)) (translate p rest) refl refl e
+tokens-of-head ks l too-great e = let z : _≡_ {A = ℕ} 0 1 = cc in absurd (omega arith)
+tokens-of-head ks l no-digit e = let z : _≡_ {A = ℕ} 0 1 = cc in absurd (omega arith)
+
+-- such a line is to be accepted
+accepts-head : (s : State) (ks : List (List ℕ)) (l : Line) (h : Head) (x : Tokens ks h l) → accept s (x .n) (x .ts) ≡ at-head s h
+unfolding at-head answered
+accepts-head s ks l h x =
+    sym (ap (at-head s) (x .head) ∙ rw (x .more) (ap (answered s (x .n)) (x .translated)))
+
+module _ {ks : List (List ℕ)} {n : ℕ} {ts : List Token} {line fresh line′ fresh′ : List ℕ} (a : Accepted ks n ts line fresh line′ fresh′) (named : ℕ) (is : named ≡ length (name-bytes (names-added ks ts)))
+    (room : 240 ≤ length fresh) (part : List ℕ) (whole : part ≡ take named fresh′) where
+  -- the new names' bytes
+  part-is : part ≡ name-bytes (names-added ks ts)
+  part-is =
+      whole ∙ ap (λ (k : ℕ). take k fresh′) is ∙ ap (take (length (name-bytes (names-added ks ts)))) (a .names-put) ∙ front fresh (name-bytes (names-added ks ts)) (omega (arith, a .few))
+
+  part-closed : closed? part ≡ true
+  part-closed = ap closed? part-is ∙ closed-names (names-added ks ts)
+
+  line-is : (size : ℕ) → size ≡ length (line-bytes (add-names ks ts) n ts) → 255 ≤ length line → size ≤ 255 → length (add-names ks ts) ≤ 128 → take size line′ ≡ line-bytes (add-names ks ts) n ts
+  line-is size e fits short few =
+      let k : size ≡ length (written-line ks n ts) = e ∙ sym (line-size ks n ts) in
+      ap (λ (x : ℕ). take x line′) k
+      ∙ ap (take (length (written-line ks n ts))) (a .line-put)
+      ∙ front line (written-line ks n ts) (omega (arith, k))
+      ∙ line-fits ks n ts few (omega (arith, e))
+
+  -- they are a line as it was read
+  written : (size : ℕ) → size ≡ length (line-bytes (add-names ks ts) n ts) → 255 ≤ length line → Written ks n ts line′ size part
+  written size e fits = record { new = ap names-in part-is ∙ a .told-apart; length-is = e; bytes = line-is size e fits }
+
+-- ---- the answers
+
+module _ (s : State) (text line fresh line′ fresh′ : List ℕ) (r : Reading) (told : Told (names-in (take (s .name-size) (s .names))) text line fresh line′ fresh′ r) where
+  abbrev ks : List (List ℕ)
+  ks = names-in (take (s .name-size) (s .names))
+
+  pub enters-refused : (k p : ℕ) → r ≡ Refused k p → refusal k p s ≡ at-head s (head-of text)
+  unfolding reading
+  enters-refused k p e = refused-head s ks k p (head-of text) (sym e ∙ told .answer)
+
+  pub enters-delete : (n : ℕ) → r ≡ Delete n → delete s n ≡ at-head s (head-of text)
+  unfolding reading
+  enters-delete n e = delete-head s ks n (head-of text) (sym e ∙ told .answer)
+
+  tokens-read : (l : Line) → r ≡ Read l → Tokens ks (head-of text) l
+  unfolding reading
+  tokens-read l e = tokens-of-head ks l (head-of text) (sym e ∙ told .answer)
+
+  abbrev accepted-of : (l : Line) (e : r ≡ Read l) → Accepted ks (tokens-read l e .n) (tokens-read l e .ts) line fresh line′ fresh′
+  accepted-of l e = let x = tokens-read l e in told .accepted (x .n) (x .p) (x .rest) (x .ts) (x .head) (x .more) (x .translated)
+
+  module _ (l : Line) (e : r ≡ Read l) (room : 240 ≤ length fresh) (part : List ℕ) (whole : part ≡ take (l .named) fresh′) where
+    pub fresh-closed : closed? part ≡ true
+    fresh-closed = part-closed (accepted-of l e) (l .named) (tokens-read l e .named) room part whole
+
+    pub enters-line : (o : Outcome) → 255 ≤ length line → Accepts s line′ (l .size) part o → o ≡ at-head s (head-of text)
+    unfolding names-of
+    enters-line o fits a =
+        let x = tokens-read l e in
+        a (x .n) (x .ts) (written (accepted-of l e) (l .named) (x .named) room part whole (l .size) (x .size) fits) ∙ accepts-head s ks l (head-of text) x
+
+-- 2
+pub text-long : (s : State) (text : List ℕ) → 120 < length text → refusal 2 0 s ≡ enter-sound text s
+unfolding enter-sound
+text-long s text h = sym (rw (lt-ltb 120 (length text) h))
+
+-- a text that is not too long
+pub text-short : (s : State) (text : List ℕ) (o : Outcome) → length text ≤ 120 → o ≡ at-head s (head-of text) → o ≡ enter-sound text s
+unfolding enter-sound
+text-short s text o h e = e ∙ sym (rw (le-ltb 120 (length text) h))
+
+-- over sound tables and store
+pub enter-so : (s : State) (text : List ℕ) (b : Bool) (o : Outcome) → b ≡ sound-state s → b ≡ true → o ≡ enter-sound text s → o ≡ enter text s
+unfolding enter
+enter-so s text b o e t h = h ∙ sym (rw (sym e ∙ t))
+
+-- 1
+pub enter-refused : (s : State) (text : List ℕ) (b : Bool) → b ≡ sound-state s → b ≡ false → refusal 1 0 s ≡ enter text s
+unfolding enter
+enter-refused s text b e t = sym (rw (sym e ∙ t))
+
+-- a refusal as the code makes it
+pub refusal-made : (names values store : List ℕ) (e : Editor) (k p : ℕ) (x : Entered) (o : Outcome) → x ≡ refusing k p e → refusal k p (state names values store e) ≡ o → entered x names values store ≡ o
+unfolding refusal
+refusal-made names values store e k p x o q h = rw q h
