@@ -4,8 +4,12 @@ use buffers::front;
 use buffers::is_digit;
 use buffers::put;
 use libc::STDIN_FILENO;
-ghost use Prim.Native.Nat.{_≤_, _<_};
-ghost use lib.ListN.{length as list-length};
+ghost use mathlib.Core.Path.{_≡_};
+ghost use Prim.Native.Nat.{_+_, _-_, _≤_};
+ghost use lib.ListN.{drop, length as list-length};
+ghost use Rattle.paper.specs.Bytes.{run};
+ghost use Rattle.console.specs.Numbers.{number-of, With-digit};
+ghost use Rattle.console.specs.Fields.{unmarked, all-or-none};
 
 // Standard input between two lines: the bytes of a buffer from `at` to `end` are read and not yet taken.
 pub struct Input {
@@ -21,7 +25,9 @@ pub struct Line {
 }
 
 // The input of which nothing is read.
-pub fn start() -> Input {
+pub fn start() -> Input
+    ensures { λ r. ⌜ (r .at ≡ 0) × (r .end ≡ 0) ⌝ }
+{
     Input { at: 0, end: 0 }
 }
 
@@ -113,9 +119,11 @@ pub fn next_line(from: Input, buffer: &mut [u8], line: &mut [u8]) -> Line {
 }
 
 // The bytes of a line, or none where the line's buffer has not kept them all.
-pub fn whole<'a>(line: &'a [u8], length: usize) -> &'a [u8] {
-    if length <= line.len() {
-        front(line, length)
+pub fn whole<'a>(line: &'a [u8], size: usize) -> &'a [u8]
+    ensures { λ r. ⌜ now r ≡ all-or-none size (now (line .entry)) ⌝ }
+{
+    if size <= line.len() {
+        front(line, size)
     } else {
         front(line, 0)
     }
@@ -124,7 +132,7 @@ pub fn whole<'a>(line: &'a [u8], length: usize) -> &'a [u8] {
 // The end of the field that begins at a place of a line: the next mark, or the line's end.
 pub fn field_end(line: &[u8], at: usize, mark: u8) -> usize
     requires { ⌜ at ≤ list-length (now line) ⌝ }
-    ensures { λ r. ⌜ (at ≤ r) × (r ≤ list-length (now (line .entry))) ⌝ }
+    ensures { λ r. ⌜ (r ≡ at + run (unmarked mark) (drop at (now (line .entry)))) × (at ≤ r) × (r ≤ list-length (now (line .entry))) ⌝ }
 {
     let mut i = at;
     while i < line.len() {
@@ -139,29 +147,28 @@ pub fn field_end(line: &[u8], at: usize, mark: u8) -> usize
 // Stands for no number: numbers are below it.
 pub const NO_NUMBER: usize = 0x8000000000000000;
 
-// A number with one digit more, and NO_NUMBER where it would be above that.
-fn with_digit(n: usize, digit: usize) -> usize
-    requires { ⌜ digit < 10 ⌝ }
+// A digit's worth.
+fn worth(b: u8) -> usize
+    ensures { λ r. ⌜ (r ≡ b - 48) × (r ≤ 255) ⌝ }
+{
+    if 48 <= b { (b - 48) as usize } else { 0 }
+}
+
+// A number with one digit more, or NO_NUMBER where the number is too great for one.
+fn with_digit(n: usize, b: u8) -> usize
+    ensures { λ r. ⌜ With-digit n b r ⌝ }
 {
     if n <= NO_NUMBER / 10 {
-        n * 10 + digit
+        n * 10 + worth(b)
     } else {
         NO_NUMBER
     }
 }
 
-// A byte's worth as a digit.
-fn worth(b: u8) -> usize
-    ensures { λ r. ⌜ r < 10 ⌝ }
-{
-    match b {
-        48..=57 => (b - 48) as usize,
-        _ => 0,
-    }
-}
-
 // The number that decimal digits write, or NO_NUMBER where there is none, where another byte stands, or where the number is not below it.
-pub fn number_in(digits: &[u8]) -> usize {
+pub fn number_in(digits: &[u8]) -> usize
+    ensures { λ r. ⌜ r ≡ number-of (now (digits .entry)) ⌝ }
+{
     if digits.len() == 0 {
         return NO_NUMBER;
     }
@@ -169,11 +176,12 @@ pub fn number_in(digits: &[u8]) -> usize {
     let mut i: usize = 0;
     while i < digits.len() {
         let b = digits[i];
-        if !is_digit(b) {
+        if is_digit(b) {
+            n = with_digit(n, b);
+            i += 1;
+        } else {
             return NO_NUMBER;
         }
-        n = with_digit(n, worth(b));
-        i += 1;
     }
     if n < NO_NUMBER { n } else { NO_NUMBER }
 }
