@@ -1,13 +1,13 @@
-"""Writes crates/paper/specs/Recorded.antt: recorded calls, chosen from a folder of vectors, as a table that `enter` and `list` of paper must meet.
+"""Writes crates/paper/specs/Recorded.antt: recorded calls, chosen from those of crates/calls, as a table that `enter` and `list` of paper must meet.
 
-  python3 scripts/recorded.py FOLDER      (from the repository's root; FOLDER has enter.txt, enter.answers, list.txt, list.answers)
+  python3 scripts/recorded.py      (from the repository's root)
 
-Chosen are: for every row of the grammar that an accepted text of the vectors uses, a short one that uses it; and some calls of every answer,
-none longer than is quick to compute with. The fields of a call are those of the protocol: hexadecimal bytes, decimal numbers, `-` for no bytes.
+Chosen are: for every row of the grammar that an accepted text of them uses, a short one that uses it; and some calls of every answer,
+none longer than is quick to compute with. docs/PROTOCOL.md says what the fields of a call are.
 """
 import re
-import sys
 from collections import Counter
+from itertools import takewhile
 
 import grammar
 
@@ -69,19 +69,20 @@ TABLE = {(f, c): ws for f, c, e, ws in grammar.rows()}
 EMPTY = grammar.may_be_empty()
 
 
-def calls(folder, name):
-    """The calls of one file with their answers."""
-    lines = [open(f"{folder}/{name}.{end}").read().split("\n")[:-1] for end in ("txt", "answers")]
-    return [(a.split(" "), b.split(" ")) for a, b in zip(*lines)]
+def calls(word):
+    """The recorded calls of a word with their answers: those before the first line that is no call."""
+    asked, answered = (open(f"crates/calls/{name}").read().split("\n") for name in ("stdin", "stdout"))
+    recorded = takewhile(lambda call: call[1] != ["bad"], ((a.split(" "), b.split(" ")) for a, b in zip(asked, answered)))
+    return [call for call in recorded if call[0][0] == word]
 
 
 def size(call):
     return sum(len(field) for field in call[0])
 
 
-def chosen(folder):
+def chosen():
     """The calls of the table."""
-    entered, listed = calls(folder, "enter"), calls(folder, "list")
+    entered, listed = calls("enter"), calls("list")
     taken, rows = [], Counter()
     for call in sorted(entered, key=size):
         text = bytes.fromhex(call[0][1].replace("-", ""))
@@ -125,7 +126,7 @@ GROUP = 20
 
 
 def main():
-    table = [row(c) for c in chosen(sys.argv[1])]
+    table = [row(c) for c in chosen()]
     out = HEAD
     for i in range(0, len(table), GROUP):
         n = i // GROUP

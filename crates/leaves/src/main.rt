@@ -13,7 +13,6 @@
 // The expected lines come from elsewhere. Those of `number` were made by the host's reference in plain Rust, which was written from
 // document 01 alone, and once more from the document's rule with exact fractions; both gave the same. All others were written down by
 // hand from document 01 and the readings of it that docs/DECISIONS.md settles, before the program was first run.
-mod report;
 mod tables;
 mod texts;
 

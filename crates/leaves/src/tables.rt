@@ -1,8 +1,8 @@
 // What the leaves say of tables: names that are new, tables that are sound or not, and lines put into a store and taken out.
-use crate::report::print;
-use crate::report::print_bytes;
-use crate::report::print_number;
 use buffers::front;
+use console::print;
+use console::print_hex;
+use console::print_number;
 use lines::Removed;
 use lines::Stored;
 ghost use mathlib.Core.Path.{_≡_};
@@ -28,7 +28,7 @@ fn number(part: &[u8], array: bool, fresh: &mut [u8], f: usize) -> usize
     print(b"\t");
     print_number(numbered.number);
     print(b"\t");
-    print_bytes(front(fresh, size));
+    print_hex(front(fresh, size));
     print(b"\n");
     size
 }
@@ -45,7 +45,7 @@ pub fn number_names() {
 // Prints the bytes of a name table, how many names it is to hold and how many bytes of values are there, and whether that is sound.
 pub fn show_table(bytes: &[u8], count: usize, value_room: usize) {
     print(b"table\t");
-    print_bytes(bytes);
+    print_hex(bytes);
     print(b"\t");
     print_number(count);
     print(b"\t");
@@ -62,7 +62,7 @@ fn show_store(store: &[u8], used: usize) -> usize {
     print(b"\t");
     print_number(used);
     print(b"\t");
-    print_bytes(front(store, used));
+    print_hex(front(store, used));
     print(b"\n");
     used
 }
@@ -70,7 +70,7 @@ fn show_store(store: &[u8], used: usize) -> usize {
 // Puts a line into a store, prints what comes of it, and returns how many bytes are used then.
 fn put(store: &mut [u8], used: usize, line: &[u8]) -> usize {
     print(b"put\t");
-    print_bytes(line);
+    print_hex(line);
     if lines::sound(store, used) {
         match lines::put_in(store, used, line) {
             Stored::Done(after) => show_store(store, after),

@@ -1,10 +1,9 @@
 // What the leaves say of texts: numbers, items and words, each text of a table on a line of its own.
-use crate::report::print;
-use crate::report::print_bytes;
-use crate::report::print_number;
-use crate::report::print_token;
 use buffers::Run;
 use buffers::front;
+use console::print;
+use console::print_hex;
+use console::print_number;
 use constants::Six;
 use items::Item;
 use items::Kind;
@@ -29,7 +28,7 @@ fn print_six(six: Six) {
     let bytes = six.bytes;
     let mut out = [0u8; 15];
     let n = constants::write_text(&bytes, 0, &mut out, 0);
-    print_bytes(&bytes);
+    print_hex(&bytes);
     print(b"\t");
     print(front(&out, n));
 }
@@ -48,6 +47,14 @@ fn print_constant(text: &[u8]) {
     } else {
         print(b"no number");
     }
+}
+
+// Prints what a token is, and the token.
+fn print_token(word: &[u8], token: u8) {
+    let bytes = [token];
+    print(word);
+    print(b" ");
+    print_hex(&bytes);
 }
 
 // Prints what an item is.
@@ -155,7 +162,7 @@ pub fn show_all(table: &[u8], part: Part) {
 // Prints six bytes, and whether they are a constant.
 pub fn show_six(bytes: &[u8; 6]) {
     print(b"six\t");
-    print_bytes(bytes);
+    print_hex(bytes);
     print(b"\t");
     if constants::is_right(bytes, 0) {
         print(b"right\n");

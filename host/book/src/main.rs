@@ -1,4 +1,4 @@
-//! Reads examples/book/examples.txt on standard input and prints what the program `book` must print.
+//! Reads crates/book/stdin on standard input and prints what the program `book` must print.
 
 use std::fmt::Write;
 use std::io::{self, Read};

@@ -1,4 +1,4 @@
-//! Calls and answers as lines of text, as vectors/PROTOCOL.md sets them out.
+//! Calls and answers as lines of text, as docs/PROTOCOL.md sets them out.
 
 #![forbid(unsafe_code)]
 

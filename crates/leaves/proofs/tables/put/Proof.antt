@@ -11,8 +11,8 @@ slice-aggregate-print c = search needs
 print-requires : tie.Need-print-requires
 print-requires c κs = search needs
 
-print-bytes-requires : tie.Need-print-bytes-requires
-print-bytes-requires c κs = search needs
+print-hex-requires : tie.Need-print-hex-requires
+print-hex-requires c κs = search needs
 
 sound-requires : tie.Need-sound-requires
 sound-requires c κs = search needs
@@ -68,7 +68,7 @@ put-spec =
     (tie.spec
     slice-aggregate-print
     print-requires
-    print-bytes-requires
+    print-hex-requires
     sound-requires
     put-in-requires
     enum-known-after

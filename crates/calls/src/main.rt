@@ -1,0 +1,235 @@
+// The program of calls: reads calls from standard input, one a line, and answers each on a line of standard output before it needs the next.
+mod fields;
+
+use buffers::front;
+use console::next_line;
+use console::print;
+use console::whole;
+use editor::Editor;
+use fields::bytes_field;
+use fields::ends;
+use fields::number_field;
+ghost use Rattle.io.specs.Counts.{Counts};
+
+// The longest line that is kept: more than any call has, unless its numbers begin with thousands of zeros.
+const LONGEST: usize = 300000;
+
+// Prints a blank and a number.
+fn print_number(n: usize) {
+    print(b" ");
+    console::print_number(n);
+}
+
+// Prints a blank and bytes.
+fn print_bytes(bytes: &[u8]) {
+    print(b" ");
+    console::print_bytes(bytes);
+}
+
+// Enters a text and prints the answer: number, place, names added, bytes used, the counts of names and the buffers afterwards.
+fn enter(text: &[u8], names: &mut [u8], values: &mut [u8], store: &mut [u8], record: Editor) {
+    let r = editor::enter(text, names, values, store, record);
+    let after = r.editor;
+    console::print_number(r.number as usize);
+    print_number(r.place);
+    print_number(r.added);
+    print_number(after.used);
+    print_number(after.name_bytes);
+    print_number(after.name_count);
+    print_bytes(names);
+    print_bytes(values);
+    print_bytes(store);
+    print(b"\n");
+}
+
+// Lists a line and prints the answer: number, bytes written and the output buffer afterwards.
+fn list(line: usize, names: &[u8], values: &[u8], store: &[u8], record: Editor, out: &mut [u8]) {
+    let r = editor::list(line, names, values, store, record, out);
+    console::print_number(r.number as usize);
+    print_number(r.written);
+    print_bytes(out);
+    print(b"\n");
+}
+
+// The fields that every call has: how many bytes each buffer has, the record, and where the next field begins.
+struct Tables {
+    names: usize,
+    values: usize,
+    store: usize,
+    record: Editor,
+    next: usize,
+}
+
+// The tables and the store that are written from a place of a line on.
+fn read_tables(
+    line: &[u8],
+    at: usize,
+    names: &mut [u8],
+    values: &mut [u8],
+    store: &mut [u8],
+) -> Tables {
+    let a = bytes_field(line, at, names);
+    let b = number_field(line, a.next);
+    let c = number_field(line, b.next);
+    let d = bytes_field(line, c.next, values);
+    let e = bytes_field(line, d.next, store);
+    let f = number_field(line, e.next);
+    Tables {
+        names: a.n,
+        values: d.n,
+        store: e.n,
+        record: Editor {
+            used: f.n,
+            name_count: c.n,
+            name_bytes: b.n,
+        },
+        next: f.next,
+    }
+}
+
+// The smaller of a number and a buffer's length.
+fn within(n: usize, buffer: &[u8]) -> usize
+    ensures { λ r. ⌜ Counts r (now (buffer .entry)) ⌝ }
+{
+    if n < buffer.len() { n } else { buffer.len() }
+}
+
+// Enters a text over the first bytes of buffers, as many as the fields had.
+fn enter_within(
+    text: &[u8],
+    names: &mut [u8],
+    values: &mut [u8],
+    store: &mut [u8],
+    tables: Tables,
+) {
+    let a = within(tables.names, names);
+    let b = within(tables.values, values);
+    let c = within(tables.store, store);
+    let record = tables.record;
+    enter(
+        text,
+        &mut names[..a],
+        &mut values[..b],
+        &mut store[..c],
+        record,
+    );
+}
+
+// Answers a call of enter, whose fields begin at place 6: false where it is none.
+fn answer_enter(
+    line: &[u8],
+    text: &mut [u8],
+    names: &mut [u8],
+    values: &mut [u8],
+    store: &mut [u8],
+) -> bool {
+    let typed = bytes_field(line, 6, text);
+    let tables = read_tables(line, typed.next, names, values, store);
+    if !ends(line, tables.next) {
+        return false;
+    }
+    enter_within(front(text, typed.n), names, values, store, tables);
+    true
+}
+
+// Answers a call of list, whose fields begin at place 5: false where it is none.
+fn answer_list(
+    line: &[u8],
+    names: &mut [u8],
+    values: &mut [u8],
+    store: &mut [u8],
+    out: &mut [u8],
+) -> bool {
+    let number = number_field(line, 5);
+    let tables = read_tables(line, number.next, names, values, store);
+    let room = bytes_field(line, tables.next, out);
+    if !ends(line, room.next) {
+        return false;
+    }
+    let n = within(room.n, out);
+    let record = tables.record;
+    list(
+        number.n,
+        front(names, tables.names),
+        front(values, tables.values),
+        front(store, tables.store),
+        record,
+        &mut out[..n],
+    );
+    true
+}
+
+// Answers a call: false where the line is none.
+fn answer_call(
+    line: &[u8],
+    text: &mut [u8],
+    names: &mut [u8],
+    values: &mut [u8],
+    store: &mut [u8],
+    out: &mut [u8],
+) -> bool {
+    if check::same(front(line, 6), b"enter ") {
+        return answer_enter(line, text, names, values, store);
+    }
+    if check::same(front(line, 5), b"list ") {
+        return answer_list(line, names, values, store, out);
+    }
+    false
+}
+
+// Answers a line: what is no call is answered with `bad`.
+fn answer(
+    line: &[u8],
+    text: &mut [u8],
+    names: &mut [u8],
+    values: &mut [u8],
+    store: &mut [u8],
+    out: &mut [u8],
+) {
+    if !answer_call(line, text, names, values, store, out) {
+        print(b"bad\n");
+    }
+}
+
+// Answers every line of the input. A proved loop has to end, and nothing says that the input does: so it counts its turns down from a number
+// that no run uses up.
+fn answer_all(
+    buffer: &mut [u8],
+    line: &mut [u8],
+    text: &mut [u8],
+    names: &mut [u8],
+    values: &mut [u8],
+    store: &mut [u8],
+    out: &mut [u8],
+) {
+    let mut input = console::start();
+    let mut turns = u64::MAX;
+    while turns > 0 {
+        let next = next_line(input, buffer, line);
+        if !next.there {
+            return;
+        }
+        input = next.input;
+        answer(whole(line, next.length), text, names, values, store, out);
+        turns -= 1;
+    }
+}
+
+fn main() {
+    let mut buffer = io::large_buffer();
+    let mut line = [0u8; LONGEST];
+    let mut text = [0u8; 4096];
+    let mut names = [0u8; 8192];
+    let mut values = [0u8; 4096];
+    let mut store = [0u8; 70000];
+    let mut out = [0u8; 65536];
+    answer_all(
+        &mut buffer,
+        &mut line,
+        &mut text,
+        &mut names,
+        &mut values,
+        &mut store,
+        &mut out,
+    );
+}

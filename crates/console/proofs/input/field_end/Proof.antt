@@ -1,0 +1,52 @@
+-- `field_end` meets its contract: the run up to the mark or the end.
+use Prim.Native.Nat.{_+_, _-_, _≤_}
+use native.Mathlib.Omega.{arith}
+use mathlib.Core.Path.{_≡_, refl}
+use lib.ListN.{length, drop}
+use borrow.Author.Needs.{needs}
+use Rattle.paper.specs.Bytes.{run}
+use Rattle.buffers.specs.Runs.{run-on, run-off, run-past}
+use Rattle.console.specs.Fields.{unmarked, at-mark, off-mark}
+use Rattle.console.proofs.input.field_end.Statement.{statement}
+use Rattle.console.proofs.input.field_end.Tie as tie
+
+abbrev Inv-loop : tie.InvT-loop
+Inv-loop line at mark i₀ i = (at ≤ i) × (i ≤ length line) × (i + run (unmarked mark) (drop i line) ≡ at + run (unmarked mark) (drop at line))
+
+abbrev μ-loop : tie.MeasureT-loop
+μ-loop line at mark i₀ i = length line - i
+
+loop-holds : tie.Need-loop-holds Inv-loop μ-loop
+loop-holds c = (omega arith, omega (arith, c .pre), refl)
+
+shared-slice-read-if1 : tie.Need-shared-slice-read-if1 Inv-loop μ-loop
+shared-slice-read-if1 c = search needs
+
+returns : tie.Need-returns Inv-loop μ-loop
+returns c = (omega (arith, c .before .before .before .loop .inv .2, run-off (unmarked (c .before .before .before .before .args .mark)) (c .before .before .before .before .args .line .now) (c .before .before .before .loop .i) (c .before .before .loop-test .taken) (at-mark (c .before .before .before .before .args .mark) _ (c .if1 .taken))), c .before .before .before .loop .inv .0, c .before .before .before .loop .inv .1)
+
+add-i : tie.Need-add-i Inv-loop μ-loop
+add-i c = search needs
+
+loop-less : tie.Need-loop-less Inv-loop μ-loop
+loop-less c = search needs
+
+loop-again : tie.Need-loop-again Inv-loop μ-loop
+loop-again c = (omega arith, omega arith, omega (arith, c .before .before .before .loop .inv .2, run-on (unmarked (c .before .before .before .before .args .mark)) (c .before .before .before .before .args .line .now) (c .before .before .before .loop .i) (c .before .before .loop-test .taken) (off-mark (c .before .before .before .before .args .mark) _ (c .if1 .left))))
+
+returns-2 : tie.Need-returns-2 Inv-loop μ-loop
+returns-2 c = (omega (arith, c .before .loop .inv .2, run-past (unmarked (c .before .before .args .mark)) (c .before .before .args .line .now) (c .before .loop .i) (c .loop-test .left)), c .before .loop .inv .0, c .before .loop .inv .1)
+
+pub field-end-spec : {M : Type 1} → statement M
+field-end-spec =
+    tie.close
+    (tie.spec
+    Inv-loop
+    μ-loop
+    loop-holds
+    shared-slice-read-if1
+    returns
+    add-i
+    loop-less
+    loop-again
+    returns-2)
