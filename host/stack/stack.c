@@ -73,8 +73,8 @@ static void make(const char *head, const char *part, const char *middle, const c
 int main(void)
 {
     static const char *parts[] = {"(", "-(", "NOT(", "A(", "A(1,", "A$(", "A$(1,", "SIN(", "LEN(A$(",
-                                  "(A$=A$(", "VAL(STR$(", "1+(", "+", "NOT "};
-    static const char *heads[] = {"1A=", "1?", "1IF ", "1A(", "1A$=A$(", "1DIM A(", "1ON "};
+                                  "(A$=A$(", "VAL(STR$(", "1+(", "+", "NOT ", "IF1THEN"};
+    static const char *heads[] = {"1", "1A=", "1?", "1IF ", "1A(", "1A$=A$(", "1DIM A(", "1ON "};
     size_t most_enter = 0, most_list = 0, base = used(nothing);
     size_t h, p;
 
