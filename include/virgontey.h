@@ -5,6 +5,9 @@
  * value: tables that are not sound are refused. No call keeps a pointer. Buffers must not overlap.
  *
  * A pointer may be null only where its length is 0.
+ *
+ * A record with fewer entries than its length below is refused with 1. An answer with fewer entries
+ * gets as many numbers as it has room for. Entries past those lengths are not touched.
  */
 #ifndef VIRGONTEY_H
 #define VIRGONTEY_H

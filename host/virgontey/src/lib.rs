@@ -141,4 +141,111 @@ mod linked {
         let [number, written] = answer;
         ListAnswer { number, written }
     }
+
+    #[cfg(test)]
+    mod tests {
+        use super::{virgontey_enter, virgontey_list};
+
+        /// What an entry that a test does not expect is filled with.
+        const OTHER: usize = 77;
+
+        /// The buffers of a program of one line, `10 END`, without names.
+        struct Lent {
+            names: [u8; 4],
+            values: [u8; 8],
+            store: [u8; 32],
+        }
+
+        fn lent() -> Lent {
+            let mut store = [0; 32];
+            store[..6].copy_from_slice(&[10, 0, 6, 6, 0x15, 0x16]);
+            Lent {
+                names: [0; 4],
+                values: [0; 8],
+                store,
+            }
+        }
+
+        /// Enters a text with a record and an answer of any length.
+        fn enter(text: &[u8], lent: &mut Lent, record: &mut [usize], answer: &mut [usize]) {
+            // Safe: as for the wrapper.
+            unsafe {
+                virgontey_enter(
+                    text.as_ptr(),
+                    text.len(),
+                    lent.names.as_mut_ptr(),
+                    lent.names.len(),
+                    lent.values.as_mut_ptr(),
+                    lent.values.len(),
+                    lent.store.as_mut_ptr(),
+                    lent.store.len(),
+                    record.as_mut_ptr(),
+                    record.len(),
+                    answer.as_mut_ptr(),
+                    answer.len(),
+                );
+            }
+        }
+
+        /// Lists line 10 with a record and an answer of any length.
+        fn list(lent: &Lent, record: &[usize], out: &mut [u8], answer: &mut [usize]) {
+            // Safe: as for the wrapper.
+            unsafe {
+                virgontey_list(
+                    10,
+                    lent.names.as_ptr(),
+                    lent.names.len(),
+                    lent.values.as_ptr(),
+                    lent.values.len(),
+                    lent.store.as_ptr(),
+                    lent.store.len(),
+                    record.as_ptr(),
+                    record.len(),
+                    out.as_mut_ptr(),
+                    out.len(),
+                    answer.as_mut_ptr(),
+                    answer.len(),
+                );
+            }
+        }
+
+        #[test]
+        fn a_record_that_lacks_a_count_is_refused() {
+            for length in 0..3 {
+                let (mut lent, before) = (self::lent(), self::lent());
+                let mut record = [6, 0, 0];
+                let mut answer = [OTHER; 4];
+                enter(b"20 END", &mut lent, &mut record[..length], &mut answer);
+                assert_eq!(answer, [1, 0, 0, if length == 0 { 0 } else { 6 }]);
+                assert_eq!(record, [6, 0, 0]);
+                assert_eq!(lent.store, before.store);
+
+                let mut out = [0; 32];
+                let mut answer = [OTHER; 2];
+                list(&lent, &record[..length], &mut out, &mut answer);
+                assert_eq!((answer, out), ([1, 0], [0; 32]));
+            }
+        }
+
+        #[test]
+        fn an_answer_gets_what_it_has_room_for() {
+            let whole = [0, 0, 0, 12, OTHER];
+            for length in 0..5 {
+                let mut lent = lent();
+                let mut record = [6, 0, 0, OTHER];
+                let mut answer = [OTHER; 5];
+                enter(b"20 END", &mut lent, &mut record, &mut answer[..length]);
+                assert_eq!(answer[..length], whole[..length]);
+                assert_eq!(answer[length..], [OTHER; 5][length..]);
+                assert_eq!(record, [12, 0, 0, OTHER]);
+
+                let mut out = [0; 32];
+                let mut answer = [OTHER; 5];
+                list(&lent, &record, &mut out, &mut answer[..length]);
+                assert_eq!(&out[..8], b"10 END \0");
+                assert_eq!(answer[..length], [0, 7, OTHER, OTHER, OTHER][..length]);
+                assert_eq!(answer[length..], [OTHER; 5][length..]);
+            }
+        }
+    }
 }

@@ -1,0 +1,79 @@
+-- Numbers put one after the other, and the two calls where the record has all its counts and where it lacks one.
+use Prim.Native.Nat.{ℕ, _≤_, _<_}
+use mathlib.Core.Path.{_≡_, refl, sym, ap, _∙_}
+use mathlib.Core.Bool.{Bool}
+use mathlib.Core.List.{List, [], _∷_}
+use lib.ListN.{length, getD, set}
+use lib.Seq.{sets}
+use borrow.Author.Tests.{lt-ltb, le-ltb}
+use Rattle.paper.specs.Bytes.{pick}
+use Rattle.paper.specs.Calls.{State, refusal, not-listed, enter, list}
+use Rattle.paper.specs.Calls.{Entered as Outcome, Listed as Written-out}
+use Rattle.editor.specs.declared.Editor.{Editor}
+use Rattle.editor.specs.declared.Entered.{Entered}
+use Rattle.editor.specs.declared.Listed.{Listed}
+use Rattle.editor.specs.States.{state, entered, listed}
+use Rattle.tag.specs.Lent.{editor-of, counts, entered-numbers, listed-numbers, enter-lent, list-lent, Leaves, Lists}
+
+-- numbers put at the front, one by one
+pub two-put : (s s₁ s₂ : List ℕ) (a b : ℕ) → s₁ ≡ set s 0 a → s₂ ≡ set s₁ 1 b → s₂ ≡ sets s 0 (a ∷ b ∷ [])
+two-put s s₁ s₂ a b e₁ e₂ = e₂ ∙ ap (λ (x : List ℕ). set x 1 b) e₁
+
+pub three-put : (s s₁ s₂ s₃ : List ℕ) (a b d : ℕ) → s₁ ≡ set s 0 a → s₂ ≡ set s₁ 1 b → s₃ ≡ set s₂ 2 d → s₃ ≡ sets s 0 (a ∷ b ∷ d ∷ [])
+three-put s s₁ s₂ s₃ a b d e₁ e₂ e₃ = e₃ ∙ ap (λ (x : List ℕ). set x 2 d) (two-put s s₁ s₂ a b e₁ e₂)
+
+pub four-put : (s s₁ s₂ s₃ s₄ : List ℕ) (a b d f : ℕ) → s₁ ≡ set s 0 a → s₂ ≡ set s₁ 1 b → s₃ ≡ set s₂ 2 d → s₄ ≡ set s₃ 3 f
+    → s₄ ≡ sets s 0 (a ∷ b ∷ d ∷ f ∷ [])
+four-put s s₁ s₂ s₃ s₄ a b d f e₁ e₂ e₃ e₄ = e₄ ∙ ap (λ (x : List ℕ). set x 3 f) (three-put s s₁ s₂ s₃ a b d e₁ e₂ e₃)
+
+-- a record's counts, read one by one
+pub read-so : (r : List ℕ) (u n b : ℕ) → u ≡ getD r 0 0 → n ≡ getD r 1 0 → b ≡ getD r 2 0 → _≡_ {A = Editor} (record { used = u; «name_count» = n; «name_bytes» = b }) (editor-of r)
+read-so r u n b p q t = rw (p, q, t)
+
+module _ (text names values store r : List ℕ) (e : Editor) (so : e ≡ editor-of r) where
+  -- a record that lacks a count
+  pub enter-lacking : length r < 3 → entered (record { number = 1; place = 0; added = 0; editor = e }) names values store ≡ enter-lent text names values store r
+  unfolding refusal
+  enter-lacking h =
+      ap (λ (x : Editor). refusal 1 0 (state names values store x)) so
+      ∙ ap (λ (t : Bool). pick t (refusal 1 0 (state names values store (editor-of r))) (enter text (state names values store (editor-of r)))) (sym (lt-ltb (length r) 3 h))
+
+  -- a record that has them all
+  pub enter-counted : (o : Outcome) → 3 ≤ length r → o ≡ enter text (state names values store e) → o ≡ enter-lent text names values store r
+  enter-counted o h given =
+      given
+      ∙ ap (λ (x : Editor). enter text (state names values store x)) so
+      ∙ ap (λ (t : Bool). pick t (refusal 1 0 (state names values store (editor-of r))) (enter text (state names values store (editor-of r)))) (sym (le-ltb (length r) 3 h))
+
+module _ (line : ℕ) (names values store r output : List ℕ) where
+  -- a record that lacks a count
+  pub list-lacking : length r < 3 → listed (record { number = 1; written = 0 }) output ≡ list-lent line names values store r output
+  unfolding not-listed
+  list-lacking h =
+      ap (λ (t : Bool). pick t (not-listed 1 output) (list line (state names values store (editor-of r)) output)) (sym (lt-ltb (length r) 3 h))
+
+  -- a record that has them all
+  pub list-counted : (e : Editor) → e ≡ editor-of r → (o : Written-out) → 3 ≤ length r → o ≡ list line (state names values store e) output
+      → o ≡ list-lent line names values store r output
+  list-counted e so o h given =
+      given
+      ∙ ap (λ (x : Editor). list line (state names values store x) output) so
+      ∙ ap (λ (t : Bool). pick t (not-listed 1 output) (list line (state names values store (editor-of r)) output)) (sym (le-ltb (length r) 3 h))
+
+-- what entering leaves
+pub leaves-so : (o : Outcome) (x : Entered) (r a names values store r′ a′ : List ℕ) → entered x names values store ≡ o
+    → r′ ≡ sets r 0 (counts ((entered x names values store) .after)) → a′ ≡ sets a 0 (entered-numbers (entered x names values store)) → Leaves o r a names values store r′ a′
+leaves-so o x r a names values store r′ a′ e p q = record {
+  names-so = ap (λ (y : Outcome). y .after .names) e;
+  values-so = ap (λ (y : Outcome). y .after .values) e;
+  store-so = ap (λ (y : Outcome). y .after .store) e;
+  record-so = p ∙ ap (λ (y : Outcome). sets r 0 (counts (y .after))) e;
+  answer-so = q ∙ ap (λ (y : Outcome). sets a 0 (entered-numbers y)) e;
+}
+
+-- what listing leaves
+pub lists-so : (o : Written-out) (x : Listed) (a output a′ : List ℕ) → listed x output ≡ o → a′ ≡ sets a 0 (listed-numbers (listed x output)) → Lists o a output a′
+lists-so o x a output a′ e q = record {
+  output-so = ap (λ (y : Written-out). y .output) e;
+  answer-so = q ∙ ap (λ (y : Written-out). sets a 0 (listed-numbers y)) e;
+}

@@ -1,0 +1,24 @@
+-- `tag::virgontey_list` meets its contract.
+use Rattle.tag.proofs.LentLaws.{lists-so}
+use borrow.Author.Needs.{needs}
+use Rattle.tag.proofs.virgontey_list.Statement.{statement}
+use Rattle.tag.proofs.virgontey_list.Tie as tie
+
+list-lent-requires : tie.Need-list-lent-requires
+list-lent-requires c κs = search needs
+
+write-listed-requires : tie.Need-write-listed-requires
+write-listed-requires c κs = search needs
+
+same-length : tie.Need-same-length
+same-length c = search needs
+
+same-length-2 : tie.Need-same-length-2
+same-length-2 c = search needs
+
+returns : tie.Need-returns
+returns c = lists-so _ _ _ _ _ (c .before .before .before .before .before .before .list-lent .ensures) (c .before .before .write-listed .ensures)
+
+pub virgontey-list-spec : {M : Type 1} → statement M
+virgontey-list-spec =
+    tie.close (tie.spec list-lent-requires write-listed-requires same-length same-length-2 returns)

@@ -1,0 +1,60 @@
+-- The lent slices as a state of `paper`, and what the two calls leave in them.
+use Prim.Native.Nat.{ℕ}
+use mathlib.Core.Path.{_≡_, refl}
+use mathlib.Core.List.{List, [], _∷_}
+use lib.Dec.{ltb}
+use lib.ListN.{length, getD}
+use lib.Seq.{sets}
+use Rattle.paper.specs.Bytes.{pick}
+use Rattle.paper.specs.Calls.{State, refusal, not-listed, enter, list}
+use Rattle.paper.specs.Calls.{Entered as Outcome, Listed as Written-out}
+use Rattle.editor.specs.declared.Editor.{Editor}
+use Rattle.editor.specs.States.{state}
+
+-- the counts of a record, 0 for each that it lacks
+abbrev pub editor-of : List ℕ → Editor
+editor-of r = record { used = getD r 0 0; «name_count» = getD r 1 0; «name_bytes» = getD r 2 0 }
+
+-- the counts of a state, as a record has them
+abbrev pub counts : State → List ℕ
+counts s = s .used ∷ s .name-count ∷ s .name-size ∷ []
+
+-- the numbers that entering a text answers
+abbrev pub entered-numbers : Outcome → List ℕ
+entered-numbers o = o .number ∷ o .place ∷ o .added ∷ o .after .used ∷ []
+
+-- the numbers that listing a line answers
+abbrev pub listed-numbers : Written-out → List ℕ
+listed-numbers o = o .number ∷ o .written ∷ []
+
+-- a text entered: a record that lacks a count is refused with 1
+abbrev pub enter-lent : List ℕ → List ℕ → List ℕ → List ℕ → List ℕ → Outcome
+enter-lent text names values store r =
+    let s = state names values store (editor-of r) in
+    pick (ltb (length r) 3) (refusal 1 0 s) (enter text s)
+
+-- a line listed: a record that lacks a count is refused with 1
+abbrev pub list-lent : ℕ → List ℕ → List ℕ → List ℕ → List ℕ → List ℕ → Written-out
+list-lent line names values store r output =
+    pick (ltb (length r) 3) (not-listed 1 output) (list line (state names values store (editor-of r)) output)
+
+-- Entering left names, values, store, record and answer so: as the outcome says. The record's counts and the answer's numbers stand at the front,
+-- as many as there is room for; what stands behind them is as it was.
+pub record Leaves (o : Outcome) (r a names values store r′ a′ : List ℕ) : Type 0 where
+  pub names-so : names ≡ o .after .names
+  pub values-so : values ≡ o .after .values
+  pub store-so : store ≡ o .after .store
+  pub record-so : r′ ≡ sets r 0 (counts (o .after))
+  pub answer-so : a′ ≡ sets a 0 (entered-numbers o)
+
+-- Listing left the output buffer and the answer so.
+pub record Lists (o : Written-out) (a output a′ : List ℕ) : Type 0 where
+  pub output-so : output ≡ o .output
+  pub answer-so : a′ ≡ sets a 0 (listed-numbers o)
+
+-- the counts of a record, written back, leave it as it was
+pub kept : (r names values store : List ℕ) → sets r 0 (counts (state names values store (editor-of r))) ≡ r
+kept [] names values store = refl
+kept (a ∷ []) names values store = refl
+kept (a ∷ b ∷ []) names values store = refl
+kept (a ∷ b ∷ c ∷ r) names values store = refl

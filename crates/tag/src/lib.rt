@@ -1,0 +1,144 @@
+// The two calls for programs in C, over numbers and lent slices, as include/virgontey.h declares them.
+use editor::Editor;
+use editor::Entered;
+use editor::Listed;
+ghost use mathlib.Core.Path.{_≡_};
+ghost use mathlib.Core.List.{[], _∷_};
+ghost use lib.ListN.{getD, set};
+ghost use lib.Seq.{sets};
+ghost use Rattle.editor.specs.States.{entered, listed};
+ghost use Rattle.tag.specs.Lent.{editor-of, enter-lent, list-lent, Leaves, Lists};
+
+// How many counts a record has.
+const COUNTS: usize = 3;
+
+// The number at a place, 0 past the end.
+fn number_at(s: &[usize], at: usize) -> usize
+    ensures { λ r. ⌜ r ≡ getD (now (s .entry)) at 0 ⌝ }
+{
+    if at < s.len() { s[at] } else { 0 }
+}
+
+// Puts a number at a place, and nothing past the end.
+fn put(out: &mut [usize], at: usize, n: usize)
+    ensures { λ _. ⌜ now (out .exit) ≡ set (now (out .entry)) at n ⌝ }
+{
+    if at < out.len() {
+        out[at] = n;
+    }
+}
+
+// The counts of a record, 0 for each that it lacks.
+fn read_record(record: &[usize]) -> Editor
+    ensures { λ r. ⌜ r ≡ editor-of (now («record» .entry)) ⌝ }
+{
+    Editor {
+        used: number_at(record, 0),
+        name_count: number_at(record, 1),
+        name_bytes: number_at(record, 2),
+    }
+}
+
+// Writes the counts to a record, as many as it has room for.
+fn write_record(record: &mut [usize], e: Editor)
+    ensures { λ _. ⌜ now («record» .exit) ≡ sets (now («record» .entry)) 0 (e .used ∷ e .«name_count» ∷ e .«name_bytes» ∷ []) ⌝ }
+{
+    put(record, 0, e.used);
+    put(record, 1, e.name_count);
+    put(record, 2, e.name_bytes);
+}
+
+// Writes what entering a text answered, as many numbers as there is room for.
+fn write_entered(answer: &mut [usize], r: Entered)
+    ensures { λ _. ⌜ now (answer .exit) ≡ sets (now (answer .entry)) 0 (r .number ∷ r .place ∷ r .added ∷ r .editor .used ∷ []) ⌝ }
+{
+    let e = r.editor;
+    put(answer, 0, r.number as usize);
+    put(answer, 1, r.place);
+    put(answer, 2, r.added);
+    put(answer, 3, e.used);
+}
+
+// Writes what listing a line answered, as many numbers as there is room for.
+fn write_listed(answer: &mut [usize], r: Listed)
+    ensures { λ _. ⌜ now (answer .exit) ≡ sets (now (answer .entry)) 0 (r .number ∷ r .written ∷ []) ⌝ }
+{
+    put(answer, 0, r.number as usize);
+    put(answer, 1, r.written);
+}
+
+// Enters a text, or refuses it with 1 where the record lacks a count.
+fn enter_lent(
+    text: &[u8],
+    names: &mut [u8],
+    values: &mut [u8],
+    store: &mut [u8],
+    record: &[usize],
+) -> Entered
+    ensures { λ r. ⌜ entered r (now (names .exit)) (now (values .exit)) (now (store .exit)) ≡ enter-lent (now (text .entry)) (now (names .entry)) (now (values .entry)) (now (store .entry)) (now («record» .entry)) ⌝ }
+{
+    let e = read_record(record);
+    if record.len() < COUNTS {
+        return Entered {
+            number: 1,
+            place: 0,
+            added: 0,
+            editor: e,
+        };
+    }
+    editor::enter(text, names, values, store, e)
+}
+
+// Lists a line, or refuses with 1 where the record lacks a count.
+fn list_lent(
+    line: usize,
+    names: &[u8],
+    values: &[u8],
+    store: &[u8],
+    record: &[usize],
+    out: &mut [u8],
+) -> Listed
+    ensures { λ r. ⌜ listed r (now (out .exit)) ≡ list-lent line (now (names .entry)) (now (values .entry)) (now (store .entry)) (now («record» .entry)) (now (out .entry)) ⌝ }
+{
+    if record.len() < COUNTS {
+        return Listed {
+            number: 1,
+            written: 0,
+        };
+    }
+    editor::list(line, names, values, store, read_record(record), out)
+}
+
+// Enters a text, and writes the answer and the record's counts.
+#[no_mangle]
+pub extern "C" fn virgontey_enter(
+    text: &[u8],
+    names: &mut [u8],
+    values: &mut [u8],
+    store: &mut [u8],
+    record: &mut [usize],
+    answer: &mut [usize],
+)
+    ensures { λ _. ⌜ Leaves (enter-lent (now (text .entry)) (now (names .entry)) (now (values .entry)) (now (store .entry)) (now («record» .entry))) (now («record» .entry)) (now (answer .entry)) (now (names .exit)) (now (values .exit)) (now (store .exit)) (now («record» .exit)) (now (answer .exit)) ⌝ }
+{
+    let r = enter_lent(text, names, values, store, record);
+    write_record(record, r.editor);
+    write_entered(answer, r);
+}
+
+// Lists a line, and writes the answer.
+#[no_mangle]
+pub extern "C" fn virgontey_list(
+    line: usize,
+    names: &[u8],
+    values: &[u8],
+    store: &[u8],
+    record: &[usize],
+    out: &mut [u8],
+    answer: &mut [usize],
+)
+    ensures { λ _. ⌜ Lists (list-lent line (now (names .entry)) (now (values .entry)) (now (store .entry)) (now («record» .entry)) (now (out .entry))) (now (answer .entry)) (now (out .exit)) (now (answer .exit)) ⌝ }
+{
+    let r = list_lent(line, names, values, store, record, out);
+    write_listed(answer, r);
+}
