@@ -71,7 +71,8 @@ pub(crate) fn accept(
 {
     let bytes = e.name_bytes;
     let count = e.name_count;
-    if names::lacks_room(names.len(), bytes, values.len(), count, fresh) {
+    let lacks = names::lacks_room(names.len(), bytes, values.len(), count, fresh);
+    if lacks {
         return refused(6, 0, e);
     }
     if LONGEST_LINE < size {
