@@ -4,17 +4,17 @@ use mathlib.Core.Path.{_≡_, refl}
 use mathlib.Core.Bool.{Bool, true, false, _&&_, _||_}
 use mathlib.Core.List.{List, [], _∷_, _++_}
 use lib.Dec.{eqb}
 use Rattle.paper.specs.Bytes.{pick, bytes}
 use Rattle.paper.specs.Hex.{hex}
 use Rattle.paper.specs.Tokens.{class}
 use Rattle.paper.specs.Items.{Item, items}
 use Rattle.paper.specs.Machine.{Act, Row, row, find-row, Taken, Run, left, done, bad, read}
 use Rattle.paper.specs.Grammar.{Gives, grammar, may-be-empty, start}
 use Rattle.paper.specs.Calls.{Head, numbered, too-great, no-digit, head-of}
 use Rattle.paper.specs.Open.{everything}
-use Rattle.paper.specs.Cases.{Case, stores, refuses}
-use Rattle.paper.specs.Worked.{worked}
-use Rattle.paper.specs.Recorded.{Call, enters, lists, calls, all-calls}
+use Rattle.paper.specs.Cases.{Case, stores, refuses, telling}
+use Rattle.cases.specs.Worked.{worked}
+use Rattle.cases.specs.Recorded.{Call, enters, lists, calls, all-calls}
 
 -- the same rows, each giving itself
 unfoldable pub traced : List (Row Gives) → List (Row (Row Gives))
@@ -64,6 +64,6 @@ unused [] us = []
 unused (r ∷ rs) us = let more = unused rs us in pick (used? r us) more (r ∷ more)
 
 -- every row of the grammar is used
-pub every-row-is-used : unused grammar (rows-of-cases worked ++ rows-of-calls calls) ≡ []
-unfolding everything traced look-traced rows-of rows-of-run rows-of-head rows-of-cases rows-of-calls used? unused stores refuses worked all-calls
+pub every-row-is-used : unused grammar (rows-of-cases telling ++ rows-of-cases worked ++ rows-of-calls calls) ≡ []
+unfolding everything traced look-traced rows-of rows-of-run rows-of-head rows-of-cases rows-of-calls used? unused stores refuses telling worked all-calls
 every-row-is-used = refl

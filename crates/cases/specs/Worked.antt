@@ -22,14 +22,12 @@ worked =
     ∷ stores "10 IF A THEN IF B THEN FOR I=1 TO 2" "0A 00 1F 07 07 80 1B 0B 07 81 1B 1F 08 82 2D 0E 40 01 00 00 00 00 19 0E 40 02 00 00 00 00 16" "C1 C2 C9" "10 IF A THEN IF B THEN FOR I=1 TO 2"
     ∷ stores "10 IF A THEN RESTORE" "0A 00 0A 07 07 80 1B 0A 23 16" "C1" "10 IF A THEN RESTORE "
     ∷ stores "10 IF A THEN REM THEN 5:END" "0A 00 14 07 07 80 1B 14 00 54 48 45 4E 20 35 3A 45 4E 44 9B" "C1" "10 IF A THEN REM THEN 5:END"
-    ∷ stores "10 FOR I=1 TO 2 STEP -1:NEXT I" "0A 00 24 20 08 80 2D 0E 40 01 00 00 00 00 19 0E 40 02 00 00 00 00 1A 36 0E 40 01 00 00 00 00 14 24 09 80 16" "C9" "10 FOR I=1 TO 2 STEP -1:NEXT I"
     ∷ stores "10 PRINT A$<B$;A$=B$,NOT C" "0A 00 10 10 20 80 32 81 15 80 34 81 12 28 82 16" "41 A4 42 A4 C3" "10 PRINT A$<B$;A$=B$, NOT C"
     ∷ stores "10 ? A(1);LEN(B$),SIN(1);CHR$(1)" "0A 00 2B 2B 28 80 38 0E 40 01 00 00 00 00 2C 15 42 3A 81 2C 12 47 3A 0E 40 01 00 00 00 00 2C 15 3E 3A 0E 40 01 00 00 00 00 2C 16" "41 A8 42 A4" "10 ? A(1);LEN(B$),SIN(1);CHR$(1)"
     ∷ stores "10 PRINT" "0A 00 06 06 20 16" "" "10 PRINT "
     ∷ stores "10 RESTORE -1:RESTORE NOT A:RESTORE B(1)" "0A 00 20 0E 23 36 0E 40 01 00 00 00 00 14 13 23 28 80 14 20 23 81 38 0E 40 01 00 00 00 00 2C 16" "C1 42 A8" "10 RESTORE -1:RESTORE  NOT A:RESTORE B(1)"
     ∷ stores "10 RESTORE \"X\"=A$:RESTORE A$=\"X\"" "0A 00 13 0B 23 0F 01 58 34 80 14 13 23 80 34 0F 01 58 16" "41 A4" "10 RESTORE \"X\"=A$:RESTORE A$=\"X\""
     ∷ stores "10 RESTORE STR$(1)=\"X\"" "0A 00 14 14 23 3D 3A 0E 40 01 00 00 00 00 2C 34 0F 01 58 16" "" "10 RESTORE STR$(1)=\"X\""
-    ∷ stores "10 DIM A(1,2),B$(5),C(0)" "0A 00 2E 2E 14 80 39 0E 40 01 00 00 00 00 3C 0E 40 02 00 00 00 00 2C 12 81 3B 0E 40 05 00 00 00 00 2C 12 82 39 0E 00 00 00 00 00 00 2C 16" "41 A8 42 A4 43 A8" "10 DIM A(1,2),B$(5),C(0)"
     ∷ stores "10 POKE A(1,2),B$(1,2)=\"\"" "0A 00 2E 2E 1F 80 38 0E 40 01 00 00 00 00 3C 0E 40 02 00 00 00 00 2C 12 81 37 0E 40 01 00 00 00 00 3C 0E 40 02 00 00 00 00 2C 34 0F 00 16" "41 A8 42 A4" "10 POKE A(1,2),B$(1,2)=\"\""
     ∷ stores "10 ON A GOSUB 1,2,5" "0A 00 1F 1F 1E 80 18 0E 40 01 00 00 00 00 12 0E 40 02 00 00 00 00 12 0E 40 05 00 00 00 00 16" "C1" "10 ON A GOSUB 1,2,5"
     ∷ stores "10 INPUT A$,B" "0A 00 09 09 02 80 12 81 16" "41 A4 C2" "10 INPUT A$,B"
@@ -46,8 +44,6 @@ worked =
     ∷ stores "10 A=SIN (1)" "0A 00 12 12 36 80 2D 47 3A 0E 40 01 00 00 00 00 2C 16" "C1" "10 A=SIN(1)"
     ∷ stores "10 STR=STR(1)" "0A 00 12 12 36 80 2D 81 38 0E 40 01 00 00 00 00 2C 16" "53 54 D2 53 54 52 A8" "10 STR=STR(1)"
     ∷ stores "10 NOT$=SIN$" "0A 00 09 09 36 80 2E 81 16" "4E 4F 54 A4 53 49 4E A4" "10 NOT$=SIN$"
-    ∷ stores "10 GOTO10=1" "0A 00 0F 0F 36 80 2D 0E 40 01 00 00 00 00 16" "47 4F 54 4F 31 B0" "10 GOTO10=1"
-    ∷ stores "10 IF A=1THEN 10" "0A 00 17 17 07 80 22 0E 40 01 00 00 00 00 1B 0E 40 10 00 00 00 00 16" "C1" "10 IF A=1 THEN 10"
     ∷ stores "10E5=1" "0A 00 0F 0F 36 80 2D 0E 40 01 00 00 00 00 16" "45 B5" "10 E5=1"
     ∷ stores " 0010A=1" "0A 00 0F 0F 36 80 2D 0E 40 01 00 00 00 00 16" "C1" "10 A=1"
     ∷ stores "10 CLR:DEG:END:POP:RAD:RETURN:STOP" "0A 00 18 06 12 14 09 13 14 0C 15 14 0F 27 14 12 21 14 15 24 14 18 26 16" "" "10 CLR :DEG :END :POP :RAD :RETURN :STOP "
@@ -60,7 +56,6 @@ worked =
     ∷ refuses "10 ENTER A" 4 3
     ∷ refuses "10 BYE A" 4 3
     ∷ refuses "10 CONT A" 4 3
-    ∷ refuses "10 COM A" 4 3
     ∷ refuses "10 CLOSE A" 4 3
     ∷ refuses "10 NEW A" 4 3
     ∷ refuses "10 OPEN A" 4 3
@@ -102,7 +97,6 @@ worked =
     ∷ stores "10 A=00.000E99" "0A 00 0F 0F 36 80 2D 0E 00 00 00 00 00 00 16" "C1" "10 A=0"
     ∷ stores "10 A=1.E2" "0A 00 0F 0F 36 80 2D 0E 41 01 00 00 00 00 16" "C1" "10 A=100"
     ∷ stores "10 A=.0099" "0A 00 0F 0F 36 80 2D 0E 3E 99 00 00 00 00 16" "C1" "10 A=9.9E-03"
-    ∷ stores "10 A=12345678999" "0A 00 0F 0F 36 80 2D 0E 45 01 23 45 67 89 16" "C1" "10 A=1.23456789E+10"
     ∷ stores "10 A=9999999999.9" "0A 00 0F 0F 36 80 2D 0E 44 99 99 99 99 99 16" "C1" "10 A=9999999999"
     ∷ refuses "10 A=0.99999999999E-98" 5 5
     ∷ refuses "10 A=1E98+1E98" 5 5
