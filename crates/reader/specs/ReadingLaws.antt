@@ -25,7 +25,7 @@ use Rattle.expressions.specs.Draft.{low, with-offsets, written-line}
 use Rattle.expressions.specs.DraftLaws.{line-size}
 use Rattle.expressions.specs.Says.{env, Mem, mem, spot, known, items-at, Asks}
 use Rattle.expressions.specs.declared.Spot.{Spot}
-use Rattle.reader.specs.Ends.{Halts}
+use Rattle.endings.specs.Ends.{Halts}
 use Rattle.reader.specs.Lines.{Finishes}
 use Rattle.reader.specs.LineLaws.{sets-set}
 use Rattle.reader.specs.Reading.{of-translated, of-head, reading, Accepted, Told, Capped}

@@ -39,14 +39,14 @@ use Rattle.expressions.specs.TookLaws.{wrote-bytes, asks-after, one-byte, no-na
 use Rattle.expressions.specs.SeesLaws.{next-of}
 use Rattle.expressions.specs.LeafLaws.{NameSeen, spelling, name-facts, wrote-name, asks-name, assigned-draft, assigned-after}
 use Rattle.expressions.specs.declared.Spot.{Spot}
-use Rattle.reader.specs.Ends.{Goes, Closes, Halts, Reads, Ends}
-use Rattle.reader.specs.EndLaws.{reads-last, reads-stop, reads-same}
+use Rattle.endings.specs.Ends.{Goes, Closes, Halts, Reads, Ends}
+use Rattle.endings.specs.EndLaws.{reads-last, reads-stop, reads-same}
 use Rattle.reader.specs.Lines.{Began}
 use Rattle.reader.specs.LineLaws.{part-items, part-asks}
-use Rattle.reader.specs.StatementTests.{opens-statement?, statement-frames, rest-items}
-use Rattle.reader.specs.StatementRows.{statement-row, statement-else, opener, raw-text-row, raw-end-row, raw-end-unfit}
-use Rattle.reader.specs.declared.Ended.{Ended}
-use Rattle.reader.specs.declared.Ended.the-variants.{More, Last, Refused}
+use Rattle.endings.specs.StatementTests.{opens-statement?, statement-frames, rest-items}
+use Rattle.endings.specs.StatementRows.{statement-row, statement-else, opener, raw-text-row, raw-end-row, raw-end-unfit}
+use Rattle.endings.specs.declared.Ended.{Ended}
+use Rattle.endings.specs.declared.Ended.the-variants.{More, Last, Refused}
 
 -- ---- raw text
 
