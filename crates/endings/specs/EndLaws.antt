@@ -19,16 +19,16 @@ use Rattle.paper.specs.Grammar.{Gives, itself, put, given, look, look-item, if-
 use Rattle.paper.specs.Open.{all-Bytes, all-Machine, all-Grammar}
 use Rattle.paper.specs.Line.{begins?}
 use Rattle.paper.specs.WellFormed.{tokens-of}
-use Rattle.expressions.specs.Draft.{draft, still}
-use Rattle.expressions.specs.DraftLaws.{still-append, still-more, still-none}
-use Rattle.expressions.specs.Says.{Env, Mem, mem, spot, known, items-at, taken, item-of, Asks, Next, Wrote, Passed, Took, Got, Stop, Says, Hit, Miss, Expects, as-operator, as-own, Counts}
-use Rattle.expressions.specs.Laws.{tokens-append, wrote-none, wrote-then, ran-then, taken-bad, row-take, row-near, row-far, row-refuse, read-front, read-refuse}
-use Rattle.expressions.specs.TookLaws.{sign?, sign, hit-put, hit-own, passed-operator, wrote-bytes, one-byte, no-name, no-start}
-use Rattle.expressions.specs.ClassLaws.{own-of, operator-by-class, end-by-class}
+use Rattle.operands.specs.Draft.{draft, still}
+use Rattle.operands.specs.DraftLaws.{still-append, still-more, still-none}
+use Rattle.operands.specs.Says.{Env, Mem, mem, spot, known, items-at, taken, item-of, Asks, Next, Wrote, Passed, Took, Got, Stop, Says, Hit, Miss, Expects, as-operator, as-own, Counts}
+use Rattle.operands.specs.Laws.{tokens-append, wrote-none, wrote-then, ran-then, taken-bad, row-take, row-near, row-far, row-refuse, read-front, read-refuse}
+use Rattle.operands.specs.TookLaws.{sign?, sign, hit-put, hit-own, passed-operator, wrote-bytes, one-byte, no-name, no-start}
+use Rattle.operands.specs.ClassLaws.{own-of, operator-by-class, end-by-class}
 use Rattle.endings.specs.Ends.{Goes, Closes, Halts, Reads, Ends}
-use Rattle.expressions.specs.declared.Spot.{Spot}
-use Rattle.expressions.specs.declared.Step.{Step}
-use Rattle.expressions.specs.declared.Step.the-variants.{Done, Refused as Halted}
+use Rattle.operands.specs.declared.Spot.{Spot}
+use Rattle.operands.specs.declared.Step.{Step}
+use Rattle.operands.specs.declared.Step.the-variants.{Done, Refused as Halted}
 use Rattle.endings.specs.declared.Ended.{Ended}
 use Rattle.endings.specs.declared.Ended.the-variants.{More, Last, Refused}
 

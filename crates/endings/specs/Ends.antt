@@ -10,9 +10,9 @@ use Rattle.paper.specs.MachineLaws.{all-taken}
 use Rattle.paper.specs.Frames.{want-statement}
 use Rattle.paper.specs.Grammar.{Gives, look-in-range}
 use Rattle.paper.specs.WellFormed.{tokens-of}
-use Rattle.expressions.specs.Draft.{still}
-use Rattle.expressions.specs.Says.{Env, Mem, Asks, Wrote, items-at}
-use Rattle.expressions.specs.declared.Spot.{Spot}
+use Rattle.operands.specs.Draft.{still}
+use Rattle.operands.specs.Says.{Env, Mem, Asks, Wrote, items-at}
+use Rattle.operands.specs.declared.Spot.{Spot}
 use Rattle.endings.specs.declared.Ended.{Ended}
 use Rattle.endings.specs.declared.Ended.the-variants.{More, Last, Refused}
 

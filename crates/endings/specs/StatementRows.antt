@@ -12,9 +12,9 @@ use Rattle.paper.specs.Frames.{want-statement, want-after-then, want-end, want-
 use Rattle.paper.specs.Machine.{Act, take, leave, refuse, Row, row, at-row}
 use Rattle.paper.specs.Grammar.{Gives, itself, for-strings, as-prefix, put, look}
 use Rattle.paper.specs.Open.{all-Bytes, all-Machine, all-Grammar}
-use Rattle.expressions.specs.Tests.{joins?, compares?}
+use Rattle.operands.specs.Tests.{joins?, compares?}
 use Rattle.endings.specs.StatementTests.{opens-statement?, statement-frames, starts-number?, starts-string?}
-use Rattle.expressions.specs.DraftLaws.{no-bool}
+use Rattle.operands.specs.DraftLaws.{no-bool}
 
 pub number-assigned-row : look want-number-assigned equals ≡ take (put 0x2d) (want-operand ∷ want-more-terms ∷ [])
 unfolding all-Bytes all-Machine all-Grammar

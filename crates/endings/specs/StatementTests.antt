@@ -8,7 +8,7 @@ use Rattle.paper.specs.Bytes.{pick}
 use Rattle.paper.specs.Classes.{remark, let-word, first-numeric, first-array, first-string, if-word, for-word, next-word, on-word, dim-word, read-input, print-word, poke-word, jump, restore-word, alone, plus-minus, not-word, number, numeric-variable, array, open-sign, function-of-string, function-of-number, quoted, string-variable, string-function}
 use Rattle.paper.specs.Frames.{want-after-then, want-end, want-raw-text, want-raw-end, want-operand, want-more-terms, want-array-open, want-second, want-string, want-substring, want-number-assigned, want-string-assigned, want-let-target, want-then, want-for-variable, want-for-equals, want-to, want-step, want-next-variable, want-goto-gosub, want-more-lines, want-dim, want-plain-variable, want-print-list, want-poke-comma, want-restore-number}
 use Rattle.paper.specs.Items.{Item, raw-at}
-use Rattle.expressions.specs.Says.{Env, items-at}
+use Rattle.operands.specs.Says.{Env, items-at}
 
 -- a class that begins a statement
 unfoldable pub opens-statement? : ℕ → Bool

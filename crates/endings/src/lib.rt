@@ -1,21 +1,21 @@
 // The end of a statement, and what follows the first item of LET and IF up to it.
-use expressions::Spot;
-use expressions::Step;
-use expressions::constant;
 use expressions::element;
-use expressions::expect_as;
 use expressions::expression;
-use expressions::see;
 use expressions::string;
 use expressions::substring;
-use expressions::token;
-use expressions::variable;
+use operands::Spot;
+use operands::Step;
+use operands::constant;
+use operands::expect_as;
+use operands::see;
+use operands::token;
+use operands::variable;
 use tokens::OperatorToken;
 use tokens::class;
 ghost use mathlib.Core.Bool.{true};
 ghost use mathlib.Core.List.{[], _∷_};
 ghost use Rattle.paper.specs.Frames.{want-after-then, want-end, want-operand, want-more-terms, want-array-open, want-second, want-substring, want-number-assigned, want-string-assigned, want-let-target, want-then};
-ghost use Rattle.expressions.specs.Says.{env, mem, items-at, Asks};
+ghost use Rattle.operands.specs.Says.{env, mem, items-at, Asks};
 ghost use Rattle.endings.specs.Ends.{Reads, Ends};
 
 // What a reader of a statement's rest answers: where the next statement begins, where the line's bytes end, or a refusal's number and place.

@@ -7,9 +7,9 @@ use lib.ListN.{length}
 use Rattle.paper.specs.Classes.{number as number-class, string-variable, numeric-variable, array, comma, semicolon, colon, step-word, then-word}
 use Rattle.paper.specs.Frames.{want-statement, want-after-then, want-end, want-operand, want-more-terms, want-array-open, want-second, want-close, want-string, want-substring, want-number-assigned, want-string-assigned, want-let-target, want-then, want-for-variable, want-for-equals, want-to, want-step, want-next-variable, want-goto-gosub, want-more-lines, want-dim, want-dim-array-open, want-dim-string-open, want-more-dims, want-plain-variable, want-more-variables, want-print-list, want-print-comparison, want-print-separator, want-poke-comma, want-restore-number}
 use Rattle.paper.specs.Grammar.{look}
-use Rattle.expressions.specs.Laws.{takes-last, refuses, row-leave, row-refuse}
-use Rattle.expressions.specs.TookLaws.{shifted, took-own, took-compare, hit-put, hit-own, expects-put, expects-own, sign}
-use Rattle.expressions.specs.Rows.{compares-sign}
+use Rattle.operands.specs.Laws.{takes-last, refuses, row-leave, row-refuse}
+use Rattle.operands.specs.TookLaws.{shifted, took-own, took-compare, hit-put, hit-own, expects-put, expects-own, sign}
+use Rattle.operands.specs.Rows.{compares-sign}
 use Rattle.endings.specs.EndLaws.{reads-same, reads-none, ends-then, ends-first, ends-row, ends-leave, ends-refuse, ends-put, ends-own, ends-missed, ends-number, ends-far, ends-alike, end-more, end-last, end-refuses, took-then, then-statement}
 use Rattle.endings.specs.StatementRows as rows
 use borrow.Author.Needs.{needs}

@@ -7,9 +7,9 @@ use lib.ListN.{length}
 use Rattle.paper.specs.Classes.{number as number-class, string-variable, numeric-variable, array, comma, semicolon, colon, step-word, then-word}
 use Rattle.paper.specs.Frames.{want-statement, want-after-then, want-end, want-operand, want-more-terms, want-array-open, want-second, want-close, want-string, want-substring, want-number-assigned, want-string-assigned, want-let-target, want-then, want-for-variable, want-for-equals, want-to, want-step, want-next-variable, want-goto-gosub, want-more-lines, want-dim, want-dim-array-open, want-dim-string-open, want-more-dims, want-plain-variable, want-more-variables, want-print-list, want-print-comparison, want-print-separator, want-poke-comma, want-restore-number}
 use Rattle.paper.specs.Grammar.{look}
-use Rattle.expressions.specs.Laws.{takes-last, refuses, row-leave, row-refuse}
-use Rattle.expressions.specs.TookLaws.{shifted, took-own, took-compare, hit-put, hit-own, expects-put, expects-own, sign}
-use Rattle.expressions.specs.Rows.{compares-sign}
+use Rattle.operands.specs.Laws.{takes-last, refuses, row-leave, row-refuse}
+use Rattle.operands.specs.TookLaws.{shifted, took-own, took-compare, hit-put, hit-own, expects-put, expects-own, sign}
+use Rattle.operands.specs.Rows.{compares-sign}
 use Rattle.endings.specs.EndLaws.{reads-same, reads-none, ends-then, ends-first, ends-row, ends-leave, ends-refuse, ends-put, ends-own, ends-missed, ends-number, ends-far, ends-alike, end-more, end-last, end-refuses, took-then, then-statement}
 use Rattle.endings.specs.StatementRows as rows
 use borrow.Author.Needs.{needs}
@@ -34,16 +34,16 @@ use Rattle.rests.proofs.+print+print_compared+print_comparison+print_nu
 use Rattle.rests.proofs.separator.Reads as separator
 use Rattle.rests.proofs.separator.Kinds as separator-kinds
 use Rattle.rests.proofs.+print+print_compared+print_comparison+print_number+print_string+separator.Lts-separator as separator-lts
-use Rattle.expressions.proofs.compares.Reads as compares-reads
+use Rattle.operands.proofs.compares.Reads as compares-reads
 use Rattle.expressions.proofs.expression.Reads as expression-reads
 use Rattle.expressions.proofs.more.Reads as more-reads
 use Rattle.endings.proofs.ending.Reads as ending-reads
 use Rattle.rests.proofs.starts_number.Reads as starts-number-reads
 use Rattle.rests.proofs.starts_string.Reads as starts-string-reads
-use Rattle.expressions.proofs.see.Reads as see-reads
+use Rattle.operands.proofs.see.Reads as see-reads
 use Rattle.expressions.proofs.string.Reads as string-reads
-use Rattle.expressions.proofs.string_operator.Reads as string-operator-reads
-use Rattle.expressions.proofs.token.Reads as token-reads
+use Rattle.operands.proofs.string_operator.Reads as string-operator-reads
+use Rattle.operands.proofs.token.Reads as token-reads
 use Rattle.rests.proofs.+print+print_compared+print_comparison+print_number+print_string+separator.{
   statement,
 }

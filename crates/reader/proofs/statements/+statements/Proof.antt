@@ -8,9 +8,9 @@ use borrow.Author.Tests.{ne-eqb}
 use Rattle.paper.specs.Frames.{want-statement}
 use Rattle.paper.specs.Grammar.{look, itself}
 use Rattle.items.specs.ScanLaws.{raw-within}
-use Rattle.expressions.specs.Draft.{low}
-use Rattle.expressions.specs.Says.{mem, item-of, env}
-use Rattle.expressions.specs.Laws.{row-take, row-refuse}
+use Rattle.operands.specs.Draft.{low}
+use Rattle.operands.specs.Says.{mem, item-of, env}
+use Rattle.operands.specs.Laws.{row-take, row-refuse}
 use Rattle.endings.specs.EndLaws.{ends-refuse}
 use Rattle.reader.specs.LineLaws.{states-more, states-last, states-halt, says-more, says-last, says-halt, tells-more, tells-done, tells-stop}
 use Rattle.endings.specs.StatementTests.{opens-statement?, statement-frames, rest-items}
