@@ -13,7 +13,7 @@ import sys
 
 COPY = "target/breaks"
 # files of computed cases: left out of the copy
-CASES = ["Cases", "Worked", "Recorded", "Coverage"]
+CASES = ["Cases"]
 
 # name: (promise, file, text, wrong text)
 BREAKS = {

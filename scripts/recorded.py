@@ -1,4 +1,4 @@
-"""Writes crates/paper/specs/Recorded.antt: recorded calls, chosen from those of crates/calls, as a table that `enter` and `list` of paper must meet.
+"""Writes crates/cases/specs/Recorded.antt: recorded calls, chosen from those of crates/calls, as a table that `enter` and `list` of paper must meet.
 
   python3 scripts/recorded.py      (from the repository's root)
 
@@ -135,7 +135,7 @@ def main():
     groups = [f"calls-{i}" for i in range((len(table) + GROUP - 1) // GROUP)]
     out += f"\n-- all calls\nunfoldable pub calls : List Call\ncalls = {' ++ '.join(groups)}\n"
     out += f"\n-- to unfold it is to unfold the tables\nunfoldable pub all-calls : Unit {{0}}\nunfolding state calls {' '.join(groups)}\nall-calls = tt\n"
-    open("crates/paper/specs/Recorded.antt", "w").write(out)
+    open("crates/cases/specs/Recorded.antt", "w").write(out)
     print(len(table), "calls")
 
 

@@ -15,8 +15,8 @@ use Rattle.paper.specs.Calls.{State, names-of, sound-state, refusal, Translated
 use Rattle.paper.specs.Calls.{Entered as Outcome}
 use Rattle.laws.specs.Names.{names-added, closed?, closed-names}
 use Rattle.buffers.specs.Sets.{front}
-use Rattle.expressions.specs.Draft.{written-line}
-use Rattle.expressions.specs.DraftLaws.{line-fits, line-size}
+use Rattle.operands.specs.Draft.{written-line}
+use Rattle.operands.specs.DraftLaws.{line-fits, line-size}
 use Rattle.reader.specs.Reading.{of-translated, of-head, reading, Accepted, Told}
 use Rattle.reader.specs.declared.Line.{Line}
 use Rattle.reader.specs.declared.Reading.{Reading}

@@ -15,7 +15,7 @@ use Rattle.lines.specs.Answers.{place-of}
 use Rattle.lines.specs.Places.{place-within, missing, there, line-there}
 use Rattle.lines.specs.declared.Place.{Place}
 use Rattle.lister.specs.Listed.{answer, lists}
-use Rattle.lister.specs.Passes.{Sound}
+use Rattle.pieces.specs.Rest.{Sound}
 use Rattle.editor.specs.declared.Listed.{Listed as Answer}
 use Rattle.lister.specs.declared.Listed.{Listed as Found}
 use Rattle.editor.specs.States.{listed, Numbered}

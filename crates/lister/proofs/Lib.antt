@@ -1,17 +1,1 @@
-pub mod Written
-pub mod Decoded
-pub mod Given
-pub mod PieceLaws
-pub mod WellFormed
-pub mod Table
-pub mod Tables
-pub mod StackLaws
-pub mod Acting
-pub mod RestLaws
-pub mod PieceRead
-pub mod Checking
-pub mod ClassLaws
-pub mod NameLaws
-pub mod TextLaws
-pub mod HeadLaws
 pub mod PassLaws

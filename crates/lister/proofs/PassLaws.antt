@@ -20,21 +20,21 @@ use Rattle.paper.specs.Store.{overwritten}
 use Rattle.paper.specs.Calls.{Listed, not-listed}
 use Rattle.laws.specs.Tests.{is-true, as-T}
 use Rattle.buffers.specs.Sets.{sets-append}
-use Rattle.lister.specs.declared.pieces.Piece.{Piece}
-use Rattle.lister.specs.declared.pieces.Piece.the-variants as Piece′
+use Rattle.pieces.specs.declared.Piece.{Piece}
+use Rattle.pieces.specs.declared.Piece.the-variants as Piece′
 use Rattle.lister.specs.declared.Listed.{Listed as Outcome}
 use Rattle.lister.specs.declared.Listed.the-variants as Outcome′
 use Rattle.lister.specs.declared.first.Measure.{Measure}
 use Rattle.lister.specs.declared.first.Measure.the-variants as Measure′
-use Rattle.lister.specs.Pieces.{piece-at, tokens-of-piece, size-of, end-after, Holds}
-use Rattle.lister.specs.Rest.{Takes, Written, Rest, Whole, Head}
-use Rattle.lister.specs.Stack.{stack}
-use Rattle.lister.specs.Passes.{Onward}
-use Rattle.lister.specs.Texts.{piece-text, Writes}
+use Rattle.pieces.specs.Pieces.{piece-at, tokens-of-piece, size-of, end-after, Holds}
+use Rattle.pieces.specs.Rest.{Takes, Written, Rest, Whole, Head}
+use Rattle.grammar.specs.Stack.{stack}
+use Rattle.fitting.specs.Passes.{Onward}
+use Rattle.texts.specs.Texts.{piece-text, Writes}
 use Rattle.lister.specs.Listed.{capped, found, measured, answer, lists}
-use Rattle.lister.proofs.WellFormed.{passes-whole, whole-passes}
-use Rattle.lister.proofs.Decoded.{pieces}
-use Rattle.lister.proofs.RestLaws.{later, written-here}
+use Rattle.pieces.specs.WellFormed.{passes-whole, whole-passes}
+use Rattle.pieces.specs.Decoded.{pieces}
+use Rattle.pieces.specs.RestLaws.{later, written-here}
 
 -- ---- lengths up to a room
 

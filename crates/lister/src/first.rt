@@ -1,14 +1,10 @@
 // The first pass over a line: whether it is well-formed, and how long its listing is.
-use crate::checks;
-use crate::checks::Fit;
-use crate::pieces;
-use crate::texts;
+use fitting::Fit;
 ghost use mathlib.Core.Path.{_≡_};
 ghost use Prim.Native.Nat.{_≤_, _<_, _+_, _^_};
 ghost use lib.ListN.{length, take, getD};
 ghost use Rattle.paper.specs.Names.{names-in};
-ghost use Rattle.lister.specs.Passes.{Sound};
-ghost use Rattle.lister.specs.Rest.{Head};
+ghost use Rattle.pieces.specs.Rest.{Sound, Head};
 ghost use Rattle.lister.specs.Listed.{capped, measured};
 
 // What the first pass finds: the line is not well-formed; or the length of its listing, or the first that is longer than the room.
@@ -53,7 +49,7 @@ fn measure_body(
     let mut total = longer(0, texts::write_head(line, none), room);
     while at < line.len() {
         let piece = pieces::piece_at(line, at, end);
-        match checks::check_piece(line, at, piece, names, size, frames, depth) {
+        match fitting::check_piece(line, at, piece, names, size, frames, depth) {
             Fit::Fits(d) => {
                 let text = texts::write_piece(line, at, piece, names, size, none, 0);
                 total = longer(total, text, room);

@@ -1,16 +1,12 @@
 // From token line to text: whether a line is well-formed, and its listing.
-mod checks;
 mod first;
-mod grammar;
-mod pieces;
 mod second;
-mod texts;
 
 use first::Measure;
 ghost use mathlib.Core.Path.{_≡_};
 ghost use lib.ListN.{take};
 ghost use Rattle.paper.specs.Names.{names-in};
-ghost use Rattle.lister.specs.Passes.{Sound};
+ghost use Rattle.pieces.specs.Rest.{Sound};
 ghost use Rattle.lister.specs.Listed.{answer, lists};
 
 // What comes of listing a line: it is not well-formed; its listing is longer than the buffer; it is written, so many bytes long.

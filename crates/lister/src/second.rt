@@ -1,6 +1,4 @@
 // The second pass over a line: its listing, written.
-use crate::pieces;
-use crate::texts;
 ghost use mathlib.Core.Path.{_≡_};
 ghost use mathlib.Core.Bool.{true};
 ghost use Prim.Native.Nat.{_≤_};

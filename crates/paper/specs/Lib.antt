@@ -17,6 +17,3 @@ pub mod Calls
 pub mod Hex
 pub mod Open
 pub mod Cases
-pub mod Worked
-pub mod Recorded
-pub mod Coverage

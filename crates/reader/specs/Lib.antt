@@ -1,9 +1,5 @@
-pub mod Ends
-pub mod EndLaws
 pub mod Lines
 pub mod LineLaws
-pub mod StatementTests
-pub mod StatementRows
 pub mod StatementLaws
 pub mod Reading
 pub mod ReadingLaws

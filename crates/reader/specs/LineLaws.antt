@@ -18,19 +18,19 @@ use Rattle.paper.specs.Grammar.{Gives, itself, given, look-in-range}
 use Rattle.paper.specs.Line.{begins?}
 use Rattle.paper.specs.WellFormed.{tokens-of}
 use Rattle.laws.specs.Names.{names-added, name-bytes-append, adds-append}
-use Rattle.expressions.specs.Draft.{low, written, after, draft, still, with-offsets}
-use Rattle.expressions.specs.NameLaws.{new-append}
-use Rattle.expressions.specs.DraftLaws.{Starts, statement-offsets, statement-draft, offsets-append}
-use Rattle.expressions.specs.Says.{Env, env, Mem, mem, spot, known, items-at, taken, item-of, Asks, Marks, Wrote}
-use Rattle.expressions.specs.Laws.{out-then, count-then, tokens-append, wrote-then, taken-bad, read-take}
-use Rattle.reader.specs.Ends.{Goes, Closes, Halts, Reads}
-use Rattle.reader.specs.EndLaws.{taken-append, taken-left}
+use Rattle.operands.specs.Draft.{low, written, after, draft, still, with-offsets}
+use Rattle.operands.specs.NameLaws.{new-append}
+use Rattle.operands.specs.DraftLaws.{Starts, statement-offsets, statement-draft, offsets-append}
+use Rattle.operands.specs.Says.{Env, env, Mem, mem, spot, known, items-at, taken, item-of, Asks, Marks, Wrote}
+use Rattle.operands.specs.Laws.{out-then, count-then, tokens-append, wrote-then, taken-bad, read-take}
+use Rattle.endings.specs.Ends.{Goes, Closes, Halts, Reads}
+use Rattle.endings.specs.EndLaws.{taken-append, taken-left}
 use Rattle.reader.specs.Lines.{Lined, Began, Follows, Finishes, States, Tells}
-use Rattle.expressions.specs.declared.Spot.{Spot}
-use Rattle.expressions.specs.declared.Step.{Step}
-use Rattle.expressions.specs.declared.Step.the-variants.{Done, Refused as Halted}
-use Rattle.reader.specs.declared.Ended.{Ended}
-use Rattle.reader.specs.declared.Ended.the-variants.{More, Last, Refused}
+use Rattle.operands.specs.declared.Spot.{Spot}
+use Rattle.operands.specs.declared.Step.{Step}
+use Rattle.operands.specs.declared.Step.the-variants.{Done, Refused as Halted}
+use Rattle.endings.specs.declared.Ended.{Ended}
+use Rattle.endings.specs.declared.Ended.the-variants.{More, Last, Refused}
 
 -- ---- a byte put over the first of some written bytes
 

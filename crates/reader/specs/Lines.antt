@@ -15,15 +15,15 @@ use Rattle.paper.specs.Grammar.{Gives, look-in-range}
 use Rattle.paper.specs.Line.{begins?}
 use Rattle.paper.specs.WellFormed.{tokens-of}
 use Rattle.laws.specs.Names.{names-added}
-use Rattle.expressions.specs.Draft.{with-offsets}
-use Rattle.expressions.specs.DraftLaws.{Starts}
-use Rattle.expressions.specs.Says.{Env, Mem, Asks, Wrote, items-at, known}
-use Rattle.reader.specs.Ends.{Halts}
-use Rattle.expressions.specs.declared.Spot.{Spot}
-use Rattle.expressions.specs.declared.Step.{Step}
-use Rattle.expressions.specs.declared.Step.the-variants.{Done, Refused as Halted}
-use Rattle.reader.specs.declared.Ended.{Ended}
-use Rattle.reader.specs.declared.Ended.the-variants.{More, Last, Refused}
+use Rattle.operands.specs.Draft.{with-offsets}
+use Rattle.operands.specs.DraftLaws.{Starts}
+use Rattle.operands.specs.Says.{Env, Mem, Asks, Wrote, items-at, known}
+use Rattle.endings.specs.Ends.{Halts}
+use Rattle.operands.specs.declared.Spot.{Spot}
+use Rattle.operands.specs.declared.Step.{Step}
+use Rattle.operands.specs.declared.Step.the-variants.{Done, Refused as Halted}
+use Rattle.endings.specs.declared.Ended.{Ended}
+use Rattle.endings.specs.declared.Ended.the-variants.{More, Last, Refused}
 
 -- whole statements were written, each with its offset
 pub record Lined (E : Env) (q : Spot) (m : Mem) (us : List Token) (q′ : Spot) (m′ : Mem) : Type 0 where

@@ -12,7 +12,7 @@ use Rattle.paper.specs.Names.{names-in, name-bytes, add-names}
 use Rattle.paper.specs.Line.{line-bytes}
 use Rattle.paper.specs.Calls.{Translated, tokens, refused-at, translate, Head, numbered, too-great, no-digit, head-of}
 use Rattle.laws.specs.Names.{names-added}
-use Rattle.expressions.specs.Draft.{written-line}
+use Rattle.operands.specs.Draft.{written-line}
 use Rattle.reader.specs.declared.Reading.{Reading}
 use Rattle.reader.specs.declared.Reading.the-variants.{Read, Delete, Refused}
 

@@ -21,11 +21,11 @@ use Rattle.paper.specs.WellFormed.{tokens-of}
 use Rattle.paper.specs.Calls.{tokens, refused-at, place-of, outcome, translate, numbered, too-great, no-digit, head-of}
 use Rattle.laws.specs.Names.{names-added, closed?}
 use Rattle.buffers.specs.Sets.{front}
-use Rattle.expressions.specs.Draft.{low, with-offsets, written-line}
-use Rattle.expressions.specs.DraftLaws.{line-size}
-use Rattle.expressions.specs.Says.{env, Mem, mem, spot, known, items-at, Asks}
-use Rattle.expressions.specs.declared.Spot.{Spot}
-use Rattle.reader.specs.Ends.{Halts}
+use Rattle.operands.specs.Draft.{low, with-offsets, written-line}
+use Rattle.operands.specs.DraftLaws.{line-size}
+use Rattle.operands.specs.Says.{env, Mem, mem, spot, known, items-at, Asks}
+use Rattle.operands.specs.declared.Spot.{Spot}
+use Rattle.endings.specs.Ends.{Halts}
 use Rattle.reader.specs.Lines.{Finishes}
 use Rattle.reader.specs.LineLaws.{sets-set}
 use Rattle.reader.specs.Reading.{of-translated, of-head, reading, Accepted, Told, Capped}

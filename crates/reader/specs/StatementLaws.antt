@@ -29,24 +29,24 @@ use Rattle.items.specs.declared.Item.{Item as Found}
 use Rattle.items.specs.declared.RawText.{RawText}
 use Rattle.names.specs.Answers.{Numbers}
 use Rattle.names.specs.declared.Numbered.{Numbered}
-use Rattle.expressions.specs.Draft.{low, written, after, draft, still}
-use Rattle.expressions.specs.DraftLaws.{no-bool, still-more, still-none}
-use Rattle.expressions.specs.NameLaws.{new-same}
-use Rattle.expressions.specs.ClassLaws.{own-of, statement-by-class}
-use Rattle.expressions.specs.Says.{Env, env, Mem, mem, spot, known, items-at, taken, item-of, Asks, Next, Marks, Wrote}
-use Rattle.expressions.specs.Laws.{out-then, count-then, wrote-then, row-take, row-refuse, read-front, read-take}
-use Rattle.expressions.specs.TookLaws.{wrote-bytes, asks-after, one-byte, no-name, no-start}
-use Rattle.expressions.specs.SeesLaws.{next-of}
-use Rattle.expressions.specs.LeafLaws.{NameSeen, spelling, name-facts, wrote-name, asks-name, assigned-draft, assigned-after}
-use Rattle.expressions.specs.declared.Spot.{Spot}
-use Rattle.reader.specs.Ends.{Goes, Closes, Halts, Reads, Ends}
-use Rattle.reader.specs.EndLaws.{reads-last, reads-stop, reads-same}
+use Rattle.operands.specs.Draft.{low, written, after, draft, still}
+use Rattle.operands.specs.DraftLaws.{no-bool, still-more, still-none}
+use Rattle.operands.specs.NameLaws.{new-same}
+use Rattle.operands.specs.ClassLaws.{own-of, statement-by-class}
+use Rattle.operands.specs.Says.{Env, env, Mem, mem, spot, known, items-at, taken, item-of, Asks, Next, Marks, Wrote}
+use Rattle.operands.specs.Laws.{out-then, count-then, wrote-then, row-take, row-refuse, read-front, read-take}
+use Rattle.operands.specs.TookLaws.{wrote-bytes, asks-after, one-byte, no-name, no-start}
+use Rattle.operands.specs.SeesLaws.{next-of}
+use Rattle.operands.specs.LeafLaws.{NameSeen, spelling, name-facts, wrote-name, asks-name, assigned-draft, assigned-after}
+use Rattle.operands.specs.declared.Spot.{Spot}
+use Rattle.endings.specs.Ends.{Goes, Closes, Halts, Reads, Ends}
+use Rattle.endings.specs.EndLaws.{reads-last, reads-stop, reads-same}
 use Rattle.reader.specs.Lines.{Began}
 use Rattle.reader.specs.LineLaws.{part-items, part-asks}
-use Rattle.reader.specs.StatementTests.{opens-statement?, statement-frames, rest-items}
-use Rattle.reader.specs.StatementRows.{statement-row, statement-else, opener, raw-text-row, raw-end-row, raw-end-unfit}
-use Rattle.reader.specs.declared.Ended.{Ended}
-use Rattle.reader.specs.declared.Ended.the-variants.{More, Last, Refused}
+use Rattle.endings.specs.StatementTests.{opens-statement?, statement-frames, rest-items}
+use Rattle.endings.specs.StatementRows.{statement-row, statement-else, opener, raw-text-row, raw-end-row, raw-end-unfit}
+use Rattle.endings.specs.declared.Ended.{Ended}
+use Rattle.endings.specs.declared.Ended.the-variants.{More, Last, Refused}
 
 -- ---- raw text
 

@@ -1,13 +1,12 @@
 // From text to token line: the line's number, its statements, and their offsets.
-mod rests;
 mod statements;
 
 use buffers::Run;
 use buffers::byte_at;
 use buffers::put;
 use buffers::run_end;
-use expressions::Spot;
-use expressions::Step;
+use operands::Spot;
+use operands::Step;
 use statements::low_byte;
 use statements::statements;
 ghost use mathlib.Core.Path.{_≡_};
@@ -16,13 +15,6 @@ ghost use lib.ListN.{length, take, drop};
 ghost use Rattle.paper.specs.Constants.{value};
 ghost use Rattle.paper.specs.Names.{names-in};
 ghost use Rattle.reader.specs.Reading.{Told, Capped};
-
-// What a reader of a statement's rest answers: where the next statement begins, where the line's bytes end, or a refusal's number and place.
-pub enum Ended {
-    More(Spot),
-    Last(Spot),
-    Refused(u8, usize),
-}
 
 // A line that was read: its number, how many bytes it has, and how many bytes the names new in it have.
 pub struct Line {

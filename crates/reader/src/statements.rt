@@ -1,26 +1,26 @@
 // Statements, one after another: the first item of each, its rest, and its offset.
-use super::Ended;
-use super::rests::condition;
-use super::rests::dims;
-use super::rests::element_assigned;
-use super::rests::ending;
-use super::rests::for_variable;
-use super::rests::last_expression;
-use super::rests::let_target;
-use super::rests::next_variable;
-use super::rests::number_assigned;
-use super::rests::poke;
-use super::rests::print;
-use super::rests::restore;
-use super::rests::selection;
-use super::rests::substring_assigned;
-use super::rests::variables;
-use expressions::Spot;
-use expressions::Step;
-use expressions::name_number;
-use expressions::see;
-use expressions::variable_token;
+use endings::Ended;
+use endings::condition;
+use endings::element_assigned;
+use endings::ending;
+use endings::last_expression;
+use endings::let_target;
+use endings::number_assigned;
+use endings::substring_assigned;
 use items::Item;
+use operands::Spot;
+use operands::Step;
+use operands::name_number;
+use operands::see;
+use operands::variable_token;
+use rests::dims;
+use rests::for_variable;
+use rests::next_variable;
+use rests::poke;
+use rests::print;
+use rests::restore;
+use rests::selection;
+use rests::variables;
 use tokens::OperatorToken;
 use tokens::StatementToken;
 use tokens::class;
@@ -33,12 +33,12 @@ ghost use Rattle.paper.specs.Tokens.{class};
 ghost use Rattle.paper.specs.Items.{raw-at};
 ghost use Rattle.paper.specs.Frames.{want-raw-text, want-raw-end};
 ghost use Rattle.items.specs.Sees.{Sees, token-at};
-ghost use Rattle.expressions.specs.Draft.{low};
-ghost use Rattle.expressions.specs.ClassLaws.{own-of};
-ghost use Rattle.expressions.specs.Says.{env, mem, Asks};
-ghost use Rattle.reader.specs.Ends.{Reads};
+ghost use Rattle.operands.specs.Draft.{low};
+ghost use Rattle.operands.specs.ClassLaws.{own-of};
+ghost use Rattle.operands.specs.Says.{env, mem, Asks};
+ghost use Rattle.endings.specs.Ends.{Reads};
 ghost use Rattle.reader.specs.Lines.{Began, States, Tells};
-ghost use Rattle.reader.specs.StatementTests.{opens-statement?, statement-frames, rest-items};
+ghost use Rattle.endings.specs.StatementTests.{opens-statement?, statement-frames, rest-items};
 
 // The low byte of a number.
 pub fn low_byte(n: usize) -> u8
@@ -191,12 +191,12 @@ fn statement(text: &[u8], q: Spot, line: &mut [u8], names: &[u8], fresh: &mut [u
             named: p.named,
         };
         match rest(&text[end..], end, found, start, line, names, fresh) {
-            Ended::More(r) => {
-                buffers::put(line, written, low_byte(r.written));
+            Ended::More(next) => {
+                buffers::put(line, written, low_byte(next.written));
                 Ended::More(Spot {
-                    at: end + r.at,
-                    written: r.written,
-                    named: r.named,
+                    at: end + next.at,
+                    written: next.written,
+                    named: next.named,
                 })
             }
             Ended::Last(r) => {

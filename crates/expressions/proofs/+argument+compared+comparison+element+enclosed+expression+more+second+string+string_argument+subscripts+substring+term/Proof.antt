@@ -7,9 +7,9 @@ use lib.ListN.{length}
 use Rattle.paper.specs.Classes.{quoted as quoted-class, string-variable, string-function, numeric-variable, array, open-sign, close-sign, comma, plus-minus, not-word, function-of-string, function-of-number}
 use Rattle.paper.specs.Frames.{want-operand, want-more-terms, want-array-open, want-second, want-close, want-function-open, want-string, want-substring, want-string-comparison}
 use Rattle.paper.specs.Grammar.{look, itself}
-use Rattle.expressions.specs.Laws.{says-then, says-first, says-done, takes, takes-last, leaves, refuses, alike, counts}
-use Rattle.expressions.specs.TookLaws.{shifted, took-put, took-own, took-prefix, took-compare, hit-put, expects-put, expects-own, sign}
-use Rattle.expressions.specs.Rows.{operand-sign, operand-not, operand-number, operand-numeric, operand-array, operand-open, operand-of-string, operand-of-number, operand-quoted, operand-string, operand-function, operand-else, string-quoted, string-string, string-function-row, string-else, close-row, close-else, function-open-row, function-open-else, array-open-row, array-open-else, second-comma, second-close, second-else, substring-open, substring-else, more-row, more-else, joins-sign, compare-row, compare-else, compares-sign}
+use Rattle.operands.specs.Laws.{says-then, says-first, says-done, takes, takes-last, leaves, refuses, alike, counts}
+use Rattle.operands.specs.TookLaws.{shifted, took-put, took-own, took-prefix, took-compare, hit-put, expects-put, expects-own, sign}
+use Rattle.operands.specs.Rows.{operand-sign, operand-not, operand-number, operand-numeric, operand-array, operand-open, operand-of-string, operand-of-number, operand-quoted, operand-string, operand-function, operand-else, string-quoted, string-string, string-function-row, string-else, close-row, close-else, function-open-row, function-open-else, array-open-row, array-open-else, second-comma, second-close, second-else, substring-open, substring-else, more-row, more-else, joins-sign, compare-row, compare-else, compares-sign}
 use borrow.Author.Needs.{needs}
 use Prim.Native.Nat.{ℕ, _<_}
 use borrow.Fn.Kinds.{In}
@@ -53,17 +53,17 @@ use Rattle.expressions.proofs.+argument+compared+comparison+element+enc
 use Rattle.expressions.proofs.term.Reads as term
 use Rattle.expressions.proofs.term.Kinds as term-kinds
 use Rattle.expressions.proofs.+argument+compared+comparison+element+enclosed+expression+more+second+string+string_argument+subscripts+substring+term.Lts-term as term-lts
-use Rattle.expressions.proofs.compares.Reads as compares-reads
-use Rattle.expressions.proofs.constant.Reads as constant-reads
-use Rattle.expressions.proofs.expect.Reads as expect-reads
-use Rattle.expressions.proofs.expect_as.Reads as expect-as-reads
+use Rattle.operands.proofs.compares.Reads as compares-reads
+use Rattle.operands.proofs.constant.Reads as constant-reads
+use Rattle.operands.proofs.expect.Reads as expect-reads
+use Rattle.operands.proofs.expect_as.Reads as expect-as-reads
 use Rattle.expressions.proofs.joins.Reads as joins-reads
 use Rattle.expressions.proofs.prefix_operator.Reads as prefix-operator-reads
-use Rattle.expressions.proofs.quoted.Reads as quoted-reads
-use Rattle.expressions.proofs.see.Reads as see-reads
-use Rattle.expressions.proofs.string_operator.Reads as string-operator-reads
-use Rattle.expressions.proofs.token.Reads as token-reads
-use Rattle.expressions.proofs.variable.Reads as variable-reads
+use Rattle.operands.proofs.quoted.Reads as quoted-reads
+use Rattle.operands.proofs.see.Reads as see-reads
+use Rattle.operands.proofs.string_operator.Reads as string-operator-reads
+use Rattle.operands.proofs.token.Reads as token-reads
+use Rattle.operands.proofs.variable.Reads as variable-reads
 use Rattle.expressions.proofs.+argument+compared+comparison+element+enclosed+expression+more+second+string+string_argument+subscripts+substring+term.{
   statement,
 }

@@ -1,5 +1,5 @@
 use borrow.Author.Tests.{lt-ltb, le-ltb}
-use Rattle.expressions.specs.TookLaws.{shifted}
+use Rattle.operands.specs.TookLaws.{shifted}
 use borrow.Author.Needs.{needs}
 use Rattle.expressions.proofs.prefix_operator.Statement.{statement}
 use Rattle.expressions.proofs.prefix_operator.Tie as tie

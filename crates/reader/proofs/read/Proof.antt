@@ -5,7 +5,7 @@ use lib.ListN.{length, take, drop, length-drop}
 use lib.Seq.{length-take-le}
 use Rattle.paper.specs.Bytes.{blank?, run}
 use Rattle.paper.specs.Grammar.{start}
-use Rattle.expressions.specs.Draft.{low}
+use Rattle.operands.specs.Draft.{low}
 use Rattle.reader.specs.ReadingLaws.{head-none, head-great, head-number, capped-above, high-byte, told-none, told-great, told-delete, told-refused, told-read, translated-left, translated-bad, first-asks, line-whole, zero-more}
 use borrow.Author.Needs.{needs}
 use Rattle.reader.proofs.read.Statement.{statement}

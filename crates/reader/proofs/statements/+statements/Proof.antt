@@ -8,13 +8,13 @@ use borrow.Author.Tests.{ne-eqb}
 use Rattle.paper.specs.Frames.{want-statement}
 use Rattle.paper.specs.Grammar.{look, itself}
 use Rattle.items.specs.ScanLaws.{raw-within}
-use Rattle.expressions.specs.Draft.{low}
-use Rattle.expressions.specs.Says.{mem, item-of, env}
-use Rattle.expressions.specs.Laws.{row-take, row-refuse}
-use Rattle.reader.specs.EndLaws.{ends-refuse}
+use Rattle.operands.specs.Draft.{low}
+use Rattle.operands.specs.Says.{mem, item-of, env}
+use Rattle.operands.specs.Laws.{row-take, row-refuse}
+use Rattle.endings.specs.EndLaws.{ends-refuse}
 use Rattle.reader.specs.LineLaws.{states-more, states-last, states-halt, says-more, says-last, says-halt, tells-more, tells-done, tells-stop}
-use Rattle.reader.specs.StatementTests.{opens-statement?, statement-frames, rest-items}
-use Rattle.reader.specs.StatementRows.{opener, statement-row, statement-else}
+use Rattle.endings.specs.StatementTests.{opens-statement?, statement-frames, rest-items}
+use Rattle.endings.specs.StatementRows.{opener, statement-row, statement-else}
 use Rattle.reader.specs.StatementLaws.{raw-last, raw-stop, began-word, began-name, after-first, rest-is, rest-else, rest-part, rest-of, rest-asks}
 use borrow.Author.Needs.{needs}
 use Prim.Native.Nat.{ℕ, _<_}

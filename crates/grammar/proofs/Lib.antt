@@ -1,0 +1,4 @@
+pub mod Table
+pub mod Tables
+pub mod StackLaws
+pub mod Acting

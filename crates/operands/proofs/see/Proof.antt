@@ -1,0 +1,39 @@
+use native.Mathlib.Omega.{arith}
+use Prim.Native.Nat.{ℕ, _-_}
+use mathlib.Core.Path.{_≡_, refl, sym, subst, ap, _∙_}
+use mathlib.Core.Bool.{true, false}
+use mathlib.Core.List.{List, []}
+use lib.ListN.{length, take, drop}
+use Rattle.paper.specs.Names.{names-in}
+use Rattle.laws.specs.Names.{plain-name}
+use Rattle.items.specs.ScanLaws.{sees}
+use Rattle.operands.specs.KindLaws.{own-seen, is-quoted}
+use Rattle.operands.specs.SeesLaws.{next-of}
+use Rattle.operands.specs.LeafLaws.{low-of, name-facts, took-variable, took-quoted, counts-inside, counts-outside, name-part, numbers-as, number-written, six-part}
+use borrow.Author.Needs.{needs}
+use Rattle.operands.proofs.see.Statement.{statement}
+use Rattle.operands.proofs.see.Tie as tie
+use Rattle.operands.proofs.see.Reads as reads
+use Rattle.operands.proofs.see.Lts as lts
+use Rattle.operands.proofs.kinds.own_token.Reads as own-token-reads
+use Rattle.items.proofs.class_of.Reads as class-of-reads
+use Rattle.items.proofs.next_item.Reads as next-item-reads
+
+-- src/lib.rt:59:9
+next-item-requires : tie.Need-next-item-requires
+next-item-requires c κs = search needs
+
+-- src/lib.rt:61:9
+class-of-requires : tie.Need-class-of-requires
+class-of-requires c κs = search needs
+
+-- src/lib.rt:62:9
+own-token-requires : tie.Need-own-token-requires
+own-token-requires c κs = search needs
+
+-- src/lib.rt:55:1
+returns : tie.Need-returns
+returns c = record { sees = (sees (c .before .before .before .before .args .part .now) (c .before .before .before .before .args .at) (c .before .before .before .before .args .first) (c .before .before .before .before .pre) (c .before .before .next-item .ensures)); next = λ o n. next-of (sees (c .before .before .before .before .args .part .now) (c .before .before .before .before .args .at) (c .before .before .before .before .args .first) (c .before .before .before .before .pre) (c .before .before .next-item .ensures)) o n; class = c .before .class-of .ensures ∙ sym ((sees (c .before .before .before .before .args .part .now) (c .before .before .before .before .args .at) (c .before .before .before .before .args .first) (c .before .before .before .before .pre) (c .before .before .next-item .ensures)) .classed); own = c .own-token .ensures ∙ sym (own-seen (c .before .before .next-item .result .kind) _ (c .before .before .before .before .args .first)) }
+
+pub see-spec : {M : Type 1} → statement M
+see-spec = tie.close (tie.spec next-item-requires class-of-requires own-token-requires returns)

@@ -1,0 +1,60 @@
+use native.Mathlib.Omega.{arith}
+use Prim.Native.Nat.{ℕ, _-_}
+use mathlib.Core.Path.{_≡_, refl, sym, subst, ap, _∙_}
+use mathlib.Core.Bool.{true, false}
+use mathlib.Core.List.{List, []}
+use lib.ListN.{length, take, drop}
+use Rattle.paper.specs.Names.{names-in}
+use Rattle.laws.specs.Names.{plain-name}
+use Rattle.items.specs.ScanLaws.{sees}
+use Rattle.operands.specs.KindLaws.{own-seen, is-quoted}
+use Rattle.operands.specs.SeesLaws.{next-of}
+use Rattle.operands.specs.LeafLaws.{low-of, name-facts, took-variable, took-quoted, counts-inside, counts-outside, name-part, numbers-as, number-written, six-part}
+use borrow.Author.Needs.{needs}
+use Rattle.operands.proofs.variable.Statement.{statement}
+use Rattle.operands.proofs.variable.Tie as tie
+use Rattle.operands.proofs.variable.Reads as reads
+use Rattle.operands.proofs.variable.Lts as lts
+use Rattle.buffers.proofs.put.Reads as put-reads
+use Rattle.operands.proofs.name_number.Reads as name-number-reads
+use Rattle.operands.proofs.variable_token.Reads as variable-token-reads
+
+-- src/lib.rt:224:9
+name-number-requires : tie.Need-name-number-requires
+name-number-requires c κs = (record { at = c .before .before .before .before .before .args .q .at; first = false; sees = c .before .before .before .before .before .pre .1; least = c .before .before .before .before .before .pre .2; most = omega (arith, c .before .before .before .before .before .pre .3) }, omega (arith, c .before .before .before .before .before .pre .0 .added, c .before .before .before .before .before .pre .0 .room, c .before .before .before .before .before .pre .0 .short, c .before .before .before .before .before .pre .0 .within))
+
+-- src/lib.rt:225:33
+variable-token-requires : tie.Need-variable-token-requires
+variable-token-requires c κs = search needs
+
+-- src/lib.rt:225:5
+put-requires : tie.Need-put-requires
+put-requires c κs = search needs
+
+-- src/lib.rt:228:18
+add-t17 : tie.Need-add-t17
+add-t17 c = search needs
+
+-- src/lib.rt:218:1
+same-length : tie.Need-same-length
+same-length c = search needs
+
+-- src/lib.rt:218:1
+same-length-2 : tie.Need-same-length-2
+same-length-2 c = search needs
+
+-- src/lib.rt:218:1
+returns : tie.Need-returns
+returns c = took-variable (c .before .before .before .before .before .before .before .before .before .before .before .before .before .pre .0) (c .before .before .before .before .before .before .before .before .before .before .before .before .before .pre .1) (c .before .before .before .before .before .before .before .before .before .before .before .before .before .pre .2) (c .before .before .before .before .before .before .before .before .before .before .before .before .before .pre .3) (c .before .before .before .before .before .before .before .name-number .ensures) (c .before .before .before .variable-token .ensures) (c .before .before .put .ensures)
+
+pub variable-spec : {M : Type 1} → statement M
+variable-spec =
+    tie.close
+    (tie.spec
+    name-number-requires
+    variable-token-requires
+    put-requires
+    add-t17
+    same-length
+    same-length-2
+    returns)

@@ -1,0 +1,11 @@
+pub mod Pieces
+pub mod Rest
+pub mod Given
+pub mod Written
+pub mod Decoded
+pub mod GivenLaws
+pub mod PieceLaws
+pub mod WellFormed
+pub mod RestLaws
+pub mod ClassLaws
+pub mod NameLaws
