@@ -68,13 +68,16 @@ pub fn first_not_below(store: &[u8], used: usize, number: usize) -> usize
     ensures { λ r. ⌜ r ≡ length (joined (lines-below number (lines-in (take used (now (store .entry)))))) ⌝ }
 {
     let mut rest = &store[..used];
-    while HEAD <= rest.len() {
+    let found = loop {
+        if rest.len() < HEAD {
+            break used;
+        }
         if number <= heads::number(rest) {
-            return used - rest.len();
+            break used - rest.len();
         }
         rest = &rest[heads::size(rest)..];
-    }
-    used
+    };
+    found
 }
 
 // Where the line with a number begins, or would begin; its size is 0 if it is not stored.

@@ -33,15 +33,8 @@ loop-holds c =
 number-requires : tie.Need-number-requires Inv-loop μ-loop
 number-requires c κs = search needs
 
-sub-result : tie.Need-sub-result Inv-loop μ-loop
-sub-result c = c .before .before .before .loop .inv .0
-
-returns : tie.Need-returns Inv-loop μ-loop
-returns c =
-    let turn = c .before .before .before .loop in
-    let rest = turn .rest .now in
-    let line = here rest (omega arith) (turn .inv .1) in
-    omega (arith, search-here (c .before .before .before .before .before .before .args .number) rest line (omega (arith, c .before .number .ensures)), turn .inv .0, turn .inv .2)
+sub-found : tie.Need-sub-found Inv-loop μ-loop
+sub-found c = c .before .before .before .loop .inv .0
 
 size-requires : tie.Need-size-requires Inv-loop μ-loop
 size-requires c κs = search needs
@@ -78,11 +71,18 @@ loop-again c =
     let next = search-next (args .number) rest line (omega (arith, c .before .before .before .number .ensures)) in
     (omega (arith, c .rest2 .given .2, turn .inv .0), subst Whole (sym after) (line .next), omega (arith, ap (before (args .number)) after, head-size .ensures, c .rest2 .given .2, line .fits, next, turn .inv .2))
 
-returns-2 : tie.Need-returns-2 Inv-loop μ-loop
-returns-2 c =
+returns : tie.Need-returns Inv-loop μ-loop
+returns c =
     let turn = c .before .loop in
     let end = search-end (c .before .before .before .before .args .number) (turn .rest .now) (omega arith) (turn .inv .1) in
     omega (arith, end .0, end .1, turn .inv .2)
+
+returns-2 : tie.Need-returns-2 Inv-loop μ-loop
+returns-2 c =
+    let turn = c .before .before .before .loop in
+    let rest = turn .rest .now in
+    let line = here rest (omega arith) (turn .inv .1) in
+    omega (arith, search-here (c .before .before .before .before .before .before .args .number) rest line (omega (arith, c .before .number .ensures)), turn .inv .0, turn .inv .2)
 
 pub first-not-below-spec : {M : Type 1} → statement M
 first-not-below-spec =
@@ -93,12 +93,12 @@ first-not-below-spec =
     slice-aggregate-rest
     loop-holds
     number-requires
-    sub-result
-    returns
+    sub-found
     size-requires
     sub-rest
     part-rest-start
     part-rest-end
     loop-less
     loop-again
+    returns
     returns-2)
