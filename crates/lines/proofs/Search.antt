@@ -1,12 +1,12 @@
 -- The search for the first line whose number is not below the one asked for.
-use Prim.Native.Nat.{ℕ, _+_, _-_, _≤_, _<_}
+use Prim.Native.Nat.{ℕ, _+_, _≤_, _<_}
 use native.Mathlib.Omega.{arith}
-use mathlib.Core.Path.{_≡_, sym, ap, ap₂, _∙_, subst}
+use mathlib.Core.Path.{_≡_, refl, sym, ap, ap₂, _∙_, subst}
 use mathlib.Core.Bool.{Bool, _&&_}
 use mathlib.Core.List.{List, [], _∷_, _++_}
 use lib.Dec.{T, leb, eqb, leb→le, eqb→eq}
 use lib.ListN.{length, take, drop, getD, length-take, length-append, drop-of-length-le}
-use lib.Seq.{getD-take, drop-drop, length-take-le, drop-append-seam}
+use lib.Seq.{getD-take, length-take-le, drop-append-seam}
 use borrow.Author.Tests.{le-ltb, lt-ltb, eq-eqb, ne-eqb}
 use Rattle.paper.specs.Bytes.{pick, every, joined}
 use Rattle.paper.specs.Line.{line-number, lawful-number?}
@@ -15,7 +15,7 @@ use Rattle.laws.specs.Tests.{and-left, and-right}
 use Rattle.laws.specs.Lines.{lines-next, lines-back, bytes-back, joined-append, both-sides, every-second, old-line}
 use Rattle.lines.specs.declared.Place.{Place}
 use Rattle.lines.specs.Answers.{place-of}
-use Rattle.lines.proofs.Walk.{first-number, rest-number, rest-size, rest-length}
+use Rattle.lines.proofs.Walk.{first-number}
 
 -- ---- the first of some whole lines
 
@@ -41,69 +41,62 @@ unfolding lines-in lines-from every
 first-whole [] h t = absurd (omega arith)
 first-whole (b ∷ s) h t = first-go (b ∷ s) (and-left (whole-line? (take (getD s 1 0) (b ∷ s))) _ t)
 
--- the lines of a store from a place on are whole
-abbrev pub Whole : List ℕ → ℕ → ℕ → Type 0
-Whole store used at = T (every whole-line? (lines-in (drop at (take used store))))
+-- some bytes are whole lines
+abbrev pub Whole : List ℕ → Type 0
+Whole s = T (every whole-line? (lines-in s))
 
--- what is known of the line at a place
-pub record Here (store : List ℕ) (used at : ℕ) : Type 0 where
-  pub long : 6 ≤ getD (drop at store) 2 0
-  pub fits : at + getD (drop at store) 2 0 ≤ used
-  pub lines : lines-in (drop at (take used store)) ≡ take (getD (drop at store) 2 0) (drop at (take used store)) ∷ lines-in (drop (at + getD (drop at store) 2 0) (take used store))
-  pub number : line-number (take (getD (drop at store) 2 0) (drop at (take used store))) ≡ line-number (drop at store)
-  pub size : length (take (getD (drop at store) 2 0) (drop at (take used store))) ≡ getD (drop at store) 2 0
-  pub next : Whole store used (at + getD (drop at store) 2 0)
+-- what is known of the first line
+pub record Here (s : List ℕ) : Type 0 where
+  pub long : 6 ≤ getD s 2 0
+  pub fits : getD s 2 0 ≤ length s
+  pub lines : lines-in s ≡ take (getD s 2 0) s ∷ lines-in (drop (getD s 2 0) s)
+  pub number : line-number (take (getD s 2 0) s) ≡ line-number s
+  pub size : length (take (getD s 2 0) s) ≡ getD s 2 0
+  pub next : Whole (drop (getD s 2 0) s)
 
-pub here : (store : List ℕ) (used at : ℕ) → used ≤ length store → at < used → Whole store used at → Here store used at
+pub here : (s : List ℕ) → 0 < length s → Whole s → Here s
 unfolding every
-here store used at lent inside t =
-    let r : List ℕ = drop at (take used store) in
-    let w : length r ≡ used - at = rest-length store used lent at inside in
-    let f : First r = first-whole r (omega arith) t in
-    let e : getD r 2 0 ≡ getD (drop at store) 2 0 = rest-size store used lent at inside (omega (arith, f .long, f .fits)) in
-    let m : ℕ = getD (drop at store) 2 0 in
-    let p : lines-in r ≡ take m r ∷ lines-in (drop (at + m) (take used store)) =
-    lines-next r (omega (arith, f .long))
-    ∙ ap (λ (k : ℕ). take k r ∷ lines-in (drop k r)) e
-    ∙ ap (λ (x : List ℕ). take m r ∷ lines-in x) (drop-drop m at (take used store)) in
+here s inside t =
+    let f : First s = first-whole s inside t in
+    let m : ℕ = getD s 2 0 in
+    let p : lines-in s ≡ take m s ∷ lines-in (drop m s) = lines-next s (omega (arith, f .long)) in
     record {
-      long = omega (arith, f .long);
-      fits = omega (arith, f .fits);
+      long = f .long;
+      fits = f .fits;
       lines = p;
-      number = first-number r m (omega (arith, f .long)) ∙ rest-number store used lent at inside (omega (arith, f .long, f .fits));
-      size = length-take-le m r (omega (arith, f .fits));
-      next = and-right (whole-line? (take m r)) (every whole-line? (lines-in (drop (at + m) (take used store)))) (subst (λ (x : List (List ℕ)). T (every whole-line? x)) p t);
+      number = first-number s m (omega (arith, f .long));
+      size = length-take-le m s (f .fits);
+      next = and-right (whole-line? (take m s)) (every whole-line? (lines-in (drop m s))) (subst (λ (x : List (List ℕ)). T (every whole-line? x)) p t);
     }
 
 -- ---- a turn of the search
 
--- the bytes from a place on of the lines below a number
-abbrev pub before : List ℕ → ℕ → ℕ → ℕ → ℕ
-before store used n at = length (joined (lines-below n (lines-in (drop at (take used store)))))
+-- the bytes of the lines below a number
+abbrev pub before : ℕ → List ℕ → ℕ
+before n s = length (joined (lines-below n (lines-in s)))
 
--- no line is left
-pub search-end : (store : List ℕ) (used n at : ℕ) → used ≤ length store → used ≤ at → before store used n at ≡ 0
+-- fewer bytes than a head are none
+pub search-end : (n : ℕ) (s : List ℕ) → length s < 3 → Whole s → (length s ≡ 0) × (before n s ≡ 0)
 unfolding lines-in lines-from lines-below joined
-search-end store used n at lent h =
-    let e : length (take used store) ≤ at = omega (arith, length-take-le used store lent) in
-    rw (drop-of-length-le (take used store) e)
+search-end n [] h t = (refl, refl)
+search-end n (b ∷ s) h t = let f : First (b ∷ s) = first-whole (b ∷ s) (omega arith) t in absurd (omega (arith, f .long, f .fits))
 
-module _ (store : List ℕ) (used n at : ℕ) (h : Here store used at) where
+module _ (n : ℕ) (s : List ℕ) (h : Here s) where
   -- the line is not below the number
-  pub search-here : n ≤ line-number (drop at store) → before store used n at ≡ 0
+  pub search-here : n ≤ line-number s → before n s ≡ 0
   unfolding lines-below joined
   search-here g =
-      let l : List ℕ = take (getD (drop at store) 2 0) (drop at (take used store)) in
-      let ls : List (List ℕ) = lines-in (drop (at + getD (drop at store) 2 0) (take used store)) in
+      let l : List ℕ = take (getD s 2 0) s in
+      let ls : List (List ℕ) = lines-in (drop (getD s 2 0) s) in
       ap (λ (x : List (List ℕ)). length (joined (lines-below n x))) (h .lines)
       ∙ ap (λ (b : Bool). length (joined (pick b (l ∷ lines-below n ls) []))) (le-ltb (line-number l) n (omega (arith, h .number)))
 
   -- the line is below it
-  pub search-next : line-number (drop at store) < n → before store used n at ≡ getD (drop at store) 2 0 + before store used n (at + getD (drop at store) 2 0)
+  pub search-next : line-number s < n → before n s ≡ getD s 2 0 + before n (drop (getD s 2 0) s)
   unfolding lines-below joined
   search-next g =
-      let l : List ℕ = take (getD (drop at store) 2 0) (drop at (take used store)) in
-      let ls : List (List ℕ) = lines-in (drop (at + getD (drop at store) 2 0) (take used store)) in
+      let l : List ℕ = take (getD s 2 0) s in
+      let ls : List (List ℕ) = lines-in (drop (getD s 2 0) s) in
       ap (λ (x : List (List ℕ)). length (joined (lines-below n x))) (h .lines)
       ∙ ap (λ (b : Bool). length (joined (pick b (l ∷ lines-below n ls) []))) (lt-ltb (line-number l) n (omega (arith, h .number)))
       ∙ length-append l (joined (lines-below n ls))
@@ -112,57 +105,46 @@ module _ (store : List ℕ) (used n at : ℕ) (h : Here store used at) where
 -- ---- the line that the search finds
 
 -- the lines from there on
-pub record Found (store : List ℕ) (used n at : ℕ) : Type 0 where
-  pub lines : lines-in (drop at (take used store)) ≡ lines-not-below n (lines-in (take used store))
-  pub whole : Whole store used at
-  pub within : at ≤ used
+pub record Found (n : ℕ) (s : List ℕ) (at : ℕ) : Type 0 where
+  pub lines : lines-in (drop at s) ≡ lines-not-below n (lines-in s)
+  pub whole : Whole (drop at s)
 
-pub found : (store : List ℕ) (used n at : ℕ) → used ≤ length store → T (every whole-line? (lines-in (take used store))) → at ≡ before store used n 0 → Found store used n at
-found store used n at lent t e =
-    let s : List ℕ = take used store in
+pub found : (n : ℕ) (s : List ℕ) (at : ℕ) → Whole s → at ≡ before n s → Found n s at
+found n s at t e =
     let a : List (List ℕ) = lines-below n (lines-in s) in
     let b : List (List ℕ) = lines-not-below n (lines-in s) in
     let j : joined a ++ joined b ≡ s = sym (joined-append a b) ∙ ap joined (both-sides n (lines-in s)) ∙ bytes-back s t in
     let w : T (every whole-line? b) = every-second whole-line? a b (subst (λ (x : List (List ℕ)). T (every whole-line? x)) (sym (both-sides n (lines-in s))) t) in
     let d : drop at s ≡ joined b = ap₂ drop e (sym j) ∙ drop-append-seam (joined a) (joined b) in
     let p : lines-in (drop at s) ≡ b = ap lines-in d ∙ lines-back b w in
-    record {
-      lines = p;
-      whole = subst (λ (x : List (List ℕ)). T (every whole-line? x)) (sym p) w;
-      within = omega (arith, length-take-le used store lent, length-append (joined a) (joined b), ap length j, e);
-    }
+    record { lines = p; whole = subst (λ (x : List (List ℕ)). T (every whole-line? x)) (sym p) w }
 
-module _ (store : List ℕ) (used n at : ℕ) (f : Found store used n at) where
+module _ (n : ℕ) (s : List ℕ) (at : ℕ) (f : Found n s at) where
   -- there is none
-  pub old-end : used ≤ length store → used ≤ at → length (old-line n (lines-in (take used store))) ≡ 0
+  pub old-end : length s ≤ at → length (old-line n (lines-in s)) ≡ 0
   unfolding old-line stored? line-at first-is? lines-in lines-from
-  old-end lent h =
-      let e : length (take used store) ≤ at = omega (arith, length-take-le used store lent) in
-      ap (λ (x : List (List ℕ)). length (pick (first-is? n x) (first-line x) [])) (sym (f .lines) ∙ ap lines-in (drop-of-length-le (take used store) e))
+  old-end h = ap (λ (x : List (List ℕ)). length (pick (first-is? n x) (first-line x) [])) (sym (f .lines) ∙ ap lines-in (drop-of-length-le s h))
 
-  old-here : Here store used at
-      → length (old-line n (lines-in (take used store))) ≡ length (pick (eqb (line-number (drop at store)) n) (take (getD (drop at store) 2 0) (drop at (take used store))) [])
+  old-here : Here (drop at s) → length (old-line n (lines-in s)) ≡ length (pick (eqb (line-number (drop at s)) n) (take (getD (drop at s) 2 0) (drop at s)) [])
   unfolding old-line stored? line-at first-is? first-line
   old-here h =
-      let l : List ℕ = take (getD (drop at store) 2 0) (drop at (take used store)) in
+      let l : List ℕ = take (getD (drop at s) 2 0) (drop at s) in
       ap (λ (x : List (List ℕ)). length (pick (first-is? n x) (first-line x) [])) (sym (f .lines) ∙ h .lines)
       ∙ ap (λ (k : ℕ). length (pick (eqb k n) l [])) (h .number)
 
   -- its number is the one asked for
-  pub old-same : Here store used at → line-number (drop at store) ≡ n → length (old-line n (lines-in (take used store))) ≡ getD (drop at store) 2 0
+  pub old-same : Here (drop at s) → line-number (drop at s) ≡ n → length (old-line n (lines-in s)) ≡ getD (drop at s) 2 0
   old-same h e =
       old-here h
-      ∙ ap (λ (b : Bool). length (pick b (take (getD (drop at store) 2 0) (drop at (take used store))) [])) (eq-eqb (line-number (drop at store)) n e)
+      ∙ ap (λ (b : Bool). length (pick b (take (getD (drop at s) 2 0) (drop at s)) [])) (eq-eqb (line-number (drop at s)) n e)
       ∙ h .size
 
   -- its number is another
-  pub old-other : Here store used at → (line-number (drop at store) ≡ n → ⊥) → length (old-line n (lines-in (take used store))) ≡ 0
+  pub old-other : Here (drop at s) → (line-number (drop at s) ≡ n → ⊥) → length (old-line n (lines-in s)) ≡ 0
   old-other h e =
-      old-here h
-      ∙ ap (λ (b : Bool). length (pick b (take (getD (drop at store) 2 0) (drop at (take used store))) [])) (ne-eqb (line-number (drop at store)) n e)
+      old-here h ∙ ap (λ (b : Bool). length (pick b (take (getD (drop at s) 2 0) (drop at s)) [])) (ne-eqb (line-number (drop at s)) n e)
 
 -- the place, from its two parts
-pub place-is : (store : List ℕ) (used n at size : ℕ) → at ≡ before store used n 0 → size ≡ length (old-line n (lines-in (take used store)))
-    → record { at = at; size = size } ≡ place-of n (lines-in (take used store))
+pub place-is : (n : ℕ) (s : List ℕ) (at size : ℕ) → at ≡ before n s → size ≡ length (old-line n (lines-in s)) → record { at = at; size = size } ≡ place-of n (lines-in s)
 unfolding place-of old-line
-place-is store used n at size e f = let make : ℕ → ℕ → Place = λ a z. record { at = a; size = z } in ap₂ make e f
+place-is n s at size e f = let make : ℕ → ℕ → Place = λ a z. record { at = a; size = z } in ap₂ make e f

@@ -1,15 +1,14 @@
 -- The walk over the used bytes of a store, a line at a time: what the tests of `sound` decide.
 use Prim.Native.Nat.{ℕ, suc, _+_, _*_, _-_, _≤_, _<_}
-use native.Mathlib.Nat.{add-zero}
 use native.Mathlib.Numerals.{add-one}
 use native.Mathlib.Omega.{arith}
 use mathlib.Core.Path.{_≡_, refl, sym, ap, ap₂, _∙_}
 use mathlib.Core.Bool.{Bool, true, false, _&&_}
 use mathlib.Core.List.{List, [], _∷_}
-use lib.Dec.{leb, ltb, eqb, leb·zero}
-use lib.ListN.{length, take, drop, getD, length-take, length-drop, drop-of-length-le, List·getD-eq-default}
-use lib.Seq.{getD-take, getD-drop, drop-drop, take-all, length-take-le}
-use borrow.Author.Tests.{le-leb, lt-leb, eq-eqb, ne-eqb, ltb-true, ltb-false}
+use lib.Dec.{leb, eqb, leb·zero}
+use lib.ListN.{length, take, drop, getD, length-take, length-drop, List·getD-eq-default}
+use lib.Seq.{getD-take, take-all, length-take-le}
+use borrow.Author.Tests.{le-leb, lt-leb, eq-eqb, ne-eqb}
 use Rattle.paper.specs.Bytes.{every}
 use Rattle.paper.specs.Line.{line-number, lawful-number?}
 use Rattle.paper.specs.Store.{lines-from, lines-in, whole-line?, rising-above, rising, sound-lines, room, sound-store}
@@ -18,11 +17,6 @@ use Rattle.laws.specs.Lines.{lines-next}
 and-false : (a : Bool) → (a && false) ≡ false
 and-false true = refl
 and-false false = refl
-
--- the number of the line at a place, byte by byte
-pub number-read : (s : List ℕ) (at : ℕ) → getD s at 0 + 256 * getD s (at + 1) 0 ≡ line-number (drop at s)
-unfolding line-number
-number-read s at = simp (getD-drop, add-zero)
 
 -- ---- the first line of some bytes
 
@@ -65,6 +59,10 @@ good-line s h f g =
     let n : leb (line-number (take m s)) 32767 ≡ true = ap (λ (k : ℕ). leb k 32767) (first-number s m (omega arith)) ∙ le-leb (line-number s) 32767 g in
     ap₂ (λ (x y : Bool). x && (y && leb (line-number (take m s)) 32767)) a b ∙ n
 
+-- the bytes after some, as a slice has them
+pub past : (s : List ℕ) (k m : ℕ) → k ≡ m → take (length s - k) (drop k s) ≡ drop m s
+past s k m e = take-all (length s - k) (drop k s) (omega (arith, length-drop k s)) ∙ ap (λ (i : ℕ). drop i s) e
+
 -- ---- soundness from a line on
 
 -- numbers strictly rising, the first not below k
@@ -91,9 +89,22 @@ unfolding sound-from lines-in lines-from every
 from-bad k [] h e = absurd (omega arith)
 from-bad k (b ∷ s) h e = rw (e)
 
-from-low : (k : ℕ) (s : List ℕ) → 6 ≤ getD s 2 0 → line-number s < k → sound-from k s ≡ false
+-- a length byte below 6
+pub sound-short : (k : ℕ) (s : List ℕ) → 0 < length s → getD s 2 0 < 6 → sound-from k s ≡ false
+sound-short k s h e = from-bad k s h (short-line s e)
+
+-- a line that goes on past the bytes
+pub sound-cut : (k : ℕ) (s : List ℕ) → 0 < length s → length s < getD s 2 0 → sound-from k s ≡ false
+sound-cut k s h e = from-bad k s h (cut-line s e)
+
+-- a number above 32767
+pub sound-great : (k : ℕ) (s : List ℕ) → 0 < length s → 6 ≤ getD s 2 0 → 32767 < line-number s → sound-from k s ≡ false
+sound-great k s h f g = from-bad k s h (great-line s f g)
+
+-- a number that does not rise
+pub sound-low : (k : ℕ) (s : List ℕ) → 6 ≤ getD s 2 0 → line-number s < k → sound-from k s ≡ false
 unfolding sound-from rising-from
-from-low k s h g =
+sound-low k s h g =
     let m : ℕ = getD s 2 0 in
     let ls : List (List ℕ) = take m s ∷ lines-in (drop m s) in
     let n : leb k (line-number (take m s)) ≡ false = ap (λ (x : ℕ). leb k x) (first-number s m (omega arith)) ∙ lt-leb k (line-number s) g in
@@ -101,10 +112,11 @@ from-low k s h g =
     ∙ ap (λ (b : Bool). every whole-line? ls && (b && rising-above (line-number (take m s)) (lines-in (drop m s)))) n
     ∙ and-false (every whole-line? ls)
 
-from-next : (k : ℕ) (s : List ℕ) → 6 ≤ getD s 2 0 → getD s 2 0 ≤ length s → k ≤ line-number s → line-number s ≤ 32767
+-- a line that is right: the others decide
+pub sound-next : (k : ℕ) (s : List ℕ) → 6 ≤ getD s 2 0 → getD s 2 0 ≤ length s → k ≤ line-number s → line-number s ≤ 32767
     → sound-from k s ≡ sound-from (line-number s + 1) (drop (getD s 2 0) s)
 unfolding sound-from rising-from every
-from-next k s h f l g =
+sound-next k s h f l g =
     let m : ℕ = getD s 2 0 in
     let r : List (List ℕ) = lines-in (drop m s) in
     let e : line-number (take m s) ≡ line-number s = first-number s m (omega arith) in
@@ -115,77 +127,10 @@ from-next k s h f l g =
     ∙ ap (λ (b : Bool). every whole-line? r && b) (from-above (line-number s) r)
     ∙ ap (λ (x : ℕ). every whole-line? r && rising-from x r) (sym (add-one (line-number s)))
 
--- ---- the used bytes of a store from a place on
-
-module _ (store : List ℕ) (used : ℕ) (lent : used ≤ length store) (at : ℕ) (inside : at < used) where
-  pub rest-length : length (drop at (take used store)) ≡ used - at
-  rest-length = length-drop at (take used store) ∙ ap (λ (n : ℕ). n - at) (length-take-le used store lent)
-
-  -- a byte of the head, where it is used
-  rest-byte : (i : ℕ) → at + i < used → getD (drop at (take used store)) i 0 ≡ getD (drop at store) i 0
-  rest-byte i h = getD-drop at (take used store) i 0 ∙ getD-take used store (at + i) 0 h ∙ sym (getD-drop at store i 0)
-
-  -- a byte that is not used counts as 0
-  rest-past : (i : ℕ) → used ≤ at + i → getD (drop at (take used store)) i 0 ≡ 0
-  rest-past i h = List·getD-eq-default (drop at (take used store)) 0 (omega (arith, rest-length))
-
-  pub rest-number : at + 1 < used → line-number (drop at (take used store)) ≡ line-number (drop at store)
-  unfolding line-number
-  rest-number h =
-      let a : at + 0 < used = omega arith in
-      ap₂ (λ (x y : ℕ). x + 256 * y) (rest-byte 0 a) (rest-byte 1 h)
-
-  pub rest-size : at + 2 < used → getD (drop at (take used store)) 2 0 ≡ getD (drop at store) 2 0
-  rest-size h = rest-byte 2 h
-
-  -- the size in the store, or 0 where its byte is not used
-  size-cases : {A : Type 0} → (getD (drop at (take used store)) 2 0 ≡ getD (drop at store) 2 0 → A) → (getD (drop at (take used store)) 2 0 ≡ 0 → used - at ≤ 2 → A) → A
-  size-cases {A} f g = go (ltb (at + 2) used) refl
-    where
-      go : (b : Bool) → ltb (at + 2) used ≡ b → A
-      go true e = let h = ltb-true (at + 2) used e in f (rest-size h)
-      go false e = let h = ltb-false (at + 2) used e in g (rest-past 2 h) (omega arith)
-
-  -- a length byte below 6
-  pub sound-short : (k : ℕ) → getD (drop at store) 2 0 < 6 → sound-from k (drop at (take used store)) ≡ false
-  sound-short k h =
-      from-bad k (drop at (take used store)) (omega (arith, rest-length))
-      (short-line (drop at (take used store)) (size-cases (λ e. omega arith) (λ e l. omega arith)))
-
-  -- a line that goes on past the used bytes
-  pub sound-cut : (k : ℕ) → used - at < getD (drop at store) 2 0 → sound-from k (drop at (take used store)) ≡ false
-  sound-cut k h =
-      let r : List ℕ = drop at (take used store) in
-      from-bad k r (omega (arith, rest-length))
-      (size-cases (λ e. cut-line r (omega (arith, rest-length))) (λ e l. short-line r (omega arith)))
-
-  module _ (long : 6 ≤ getD (drop at store) 2 0) (fits : getD (drop at store) 2 0 ≤ used - at) where
-    whole-size : getD (drop at (take used store)) 2 0 ≡ getD (drop at store) 2 0
-    whole-size = rest-size (omega arith)
-
-    whole-number : line-number (drop at (take used store)) ≡ line-number (drop at store)
-    whole-number = rest-number (omega arith)
-
-    -- a number that does not rise
-    pub sound-low : (k : ℕ) → line-number (drop at store) < k → sound-from k (drop at (take used store)) ≡ false
-    sound-low k h = from-low k (drop at (take used store)) (omega (arith, whole-size)) (omega (arith, whole-number))
-
-    -- a number above 32767
-    pub sound-great : (k : ℕ) → 32767 < line-number (drop at store) → sound-from k (drop at (take used store)) ≡ false
-    sound-great k h =
-        from-bad k (drop at (take used store)) (omega (arith, rest-length)) (great-line (drop at (take used store)) (omega (arith, whole-size)) (omega (arith, whole-number)))
-
-    -- a line that is right: the others decide
-    pub sound-next : (k : ℕ) → k ≤ line-number (drop at store) → line-number (drop at store) ≤ 32767
-        → sound-from k (drop at (take used store)) ≡ sound-from (line-number (drop at store) + 1) (drop (at + getD (drop at store) 2 0) (take used store))
-    sound-next k h g =
-        let r : List ℕ = drop at (take used store) in
-        from-next k r (omega (arith, whole-size)) (omega (arith, whole-size, rest-length)) (omega (arith, whole-number)) (omega (arith, whole-number))
-        ∙ ap₂ (λ (n m : ℕ). sound-from (n + 1) (drop m r)) whole-number whole-size
-        ∙ ap (sound-from (line-number (drop at store) + 1)) (drop-drop (getD (drop at store) 2 0) at (take used store))
+-- ---- the whole walk
 
 -- before the first line
-pub sound-start : (store : List ℕ) (used : ℕ) → used ≤ room store → sound-from 0 (drop 0 (take used store)) ≡ sound-store store used
+pub sound-start : (store : List ℕ) (used : ℕ) → used ≤ room store → sound-from 0 (take used store) ≡ sound-store store used
 unfolding sound-from sound-store sound-lines
 sound-start store used h = rw (le-leb used (room store) h, from-zero (lines-in (take used store)))
 
@@ -194,9 +139,10 @@ pub sound-over : (store : List ℕ) (used : ℕ) → room store < used → sound
 unfolding sound-store
 sound-over store used h = rw (lt-leb used (room store) h)
 
--- after the last line
-pub sound-end : (store : List ℕ) (used at k : ℕ) → used ≤ length store → used ≤ at → sound-from k (drop at (take used store)) ≡ true
+-- fewer bytes than a head: right if they are none
+pub sound-end : (k : ℕ) (s : List ℕ) → length s < 3 → sound-from k s ≡ eqb (length s) 0
 unfolding sound-from lines-in lines-from every rising-from
-sound-end store used at k l h =
-    let e : length (take used store) ≤ at = omega (arith, length-take-le used store l) in
-    rw (drop-of-length-le (take used store) e)
+sound-end k [] h = refl
+sound-end k (b ∷ s) h =
+    let short : getD (b ∷ s) 2 0 < 6 = omega (arith, List·getD-eq-default (b ∷ s) 0 {n = 2} (omega arith)) in
+    sound-short k (b ∷ s) (omega arith) short ∙ sym (ne-eqb (length (b ∷ s)) 0 (λ z. omega arith))

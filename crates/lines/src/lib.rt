@@ -12,6 +12,9 @@ ghost use Rattle.lines.specs.Answers.{place-of, stored-answer, stored-by
 // The bytes that a store may use at most.
 const MOST_ROOM: usize = 65535;
 
+// The length of a line's head.
+const HEAD: usize = 3;
+
 // The length of the shortest line.
 const SHORTEST_LINE: usize = 6;
 
@@ -36,17 +39,17 @@ pub fn sound(store: &[u8], used: usize) -> bool
     if room_of(store) < used {
         return false;
     }
-    let mut at: usize = 0;
+    let mut rest = &store[..used];
     let mut least: usize = 0;
-    while at < used {
-        let size = heads::size_at(store, at);
+    while HEAD <= rest.len() {
+        let size = heads::size(rest);
         if size < SHORTEST_LINE {
             return false;
         }
-        if used - at < size {
+        if rest.len() < size {
             return false;
         }
-        let number = heads::number_at(store, at);
+        let number = heads::number(rest);
         if number < least {
             return false;
         }
@@ -54,9 +57,9 @@ pub fn sound(store: &[u8], used: usize) -> bool
             return false;
         }
         least = number + 1;
-        at += size;
+        rest = &rest[size..];
     }
-    true
+    rest.len() == 0
 }
 
 // The offset of the first line whose number is not below the one asked for; the used count if there is none.
@@ -64,15 +67,15 @@ pub fn first_not_below(store: &[u8], used: usize, number: usize) -> usize
     requires { ⌜ T (sound-store (now store) used) ⌝ }
     ensures { λ r. ⌜ r ≡ length (joined (lines-below number (lines-in (take used (now (store .entry)))))) ⌝ }
 {
-    let mut at: usize = 0;
+    let mut rest = &store[..used];
     let found = loop {
-        if used <= at {
-            break at;
+        if rest.len() < HEAD {
+            break used;
         }
-        if number <= heads::number_at(store, at) {
-            break at;
+        if number <= heads::number(rest) {
+            break used - rest.len();
         }
-        at += heads::size_at(store, at);
+        rest = &rest[heads::size(rest)..];
     };
     found
 }
@@ -92,10 +95,12 @@ pub fn find(store: &[u8], used: usize, number: usize) -> Place
     if used <= at {
         return Place { at, size: 0 };
     }
-    if heads::number_at(store, at) == number {
+    let lines = &store[..used];
+    let rest = &lines[at..];
+    if heads::number(rest) == number {
         Place {
             at,
-            size: heads::size_at(store, at),
+            size: heads::size(rest),
         }
     } else {
         Place { at, size: 0 }
@@ -114,7 +119,7 @@ pub fn put_in(store: &mut [u8], used: usize, line: &[u8]) -> Stored
     ensures { λ r. ⌜ (r ≡ stored-answer (now (store .entry)) (put-line (now (line .entry)) (lines-in (take used (now (store .entry))))))
         × (now (store .exit) ≡ stored-bytes (now (store .entry)) (put-line (now (line .entry)) (lines-in (take used (now (store .entry)))))) ⌝ }
 {
-    let place = find(store, used, heads::number_at(line, 0));
+    let place = find(store, used, heads::number(line));
     let at = place.at;
     let old = place.size;
     let new = line.len();

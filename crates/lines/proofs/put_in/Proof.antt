@@ -12,8 +12,8 @@ use borrow.Author.Needs.{needs}
 use Rattle.lines.proofs.put_in.Statement.{statement}
 use Rattle.lines.proofs.put_in.Tie as tie
 
-number-at-requires : tie.Need-number-at-requires
-number-at-requires c κs = search needs
+number-requires : tie.Need-number-requires
+number-requires c κs = search needs
 
 find-requires : tie.Need-find-requires
 find-requires c κs = search needs
@@ -23,7 +23,7 @@ sub-after c =
     let args = c .before .before .before .before .before .args in
     let given = c .before .before .before .before .before .pre in
     let find = c .find in
-    omega (arith, place-within (args .store .now) (args .used) (c .before .number-at .result) given (find .result) (find .ensures))
+    omega (arith, place-within (args .store .now) (args .used) (c .before .number .result) given (find .result) (find .ensures))
 
 add-after : tie.Need-add-after
 add-after c =
@@ -42,19 +42,19 @@ returns : tie.Need-returns
 returns c =
     let find = c .before .before .before .find in
     let args = c .before .before .before .before .before .before .before .before .args in
-    let number-at = c .before .before .before .before .number-at in
+    let number = c .before .before .before .before .number in
     let given = c .before .before .before .before .before .before .before .before .pre in
-    let place = find .ensures ∙ ap (λ (k : ℕ). place-of k (lines-in (take (args .used) (args .store .now)))) (number-at .ensures) in
+    let place = find .ensures ∙ ap (λ (k : ℕ). place-of k (lines-in (take (args .used) (args .store .now)))) (number .ensures) in
     put-refused (args .store .now) (args .used) (args .line .now) given (find .result) place (omega (arith, c .before .room-of .ensures))
 
 resize-requires : tie.Need-resize-requires
 resize-requires c κs =
     let args = c .before .before .before .before .before .before .before .before .before .args in
     let given = c .before .before .before .before .before .before .before .before .before .pre in
-    let number-at = c .before .before .before .before .before .number-at in
+    let number = c .before .before .before .before .before .number in
     let find = c .before .before .before .before .find in
     let u = used-of (args .store .now) (args .used) given in
-    let inside = place-within (args .store .now) (args .used) (number-at .result) given (find .result) (find .ensures) in
+    let inside = place-within (args .store .now) (args .used) (number .result) given (find .result) (find .ensures) in
     (inside, u .lent, omega (arith, c .before .before .room-of .ensures, room-lent (args .store .now)))
 
 copy-requires : tie.Need-copy-requires
@@ -67,18 +67,18 @@ returns-2 : tie.Need-returns-2
 returns-2 c =
     let find = c .before .before .before .before .before .before .before .before .before .before .before .find in
     let args = c .before .before .before .before .before .before .before .before .before .before .before .before .before .before .before .before .args in
-    let number-at = c .before .before .before .before .before .before .before .before .before .before .before .before .number-at in
+    let number = c .before .before .before .before .before .before .before .before .before .before .before .before .number in
     let given = c .before .before .before .before .before .before .before .before .before .before .before .before .before .before .before .before .pre in
     let room-of = c .before .before .before .before .before .before .before .before .before .room-of in
     let resize = c .before .before .before .before .before .before .resize in
-    let place = find .ensures ∙ ap (λ (k : ℕ). place-of k (lines-in (take (args .used) (args .store .now)))) (number-at .ensures) in
+    let place = find .ensures ∙ ap (λ (k : ℕ). place-of k (lines-in (take (args .used) (args .store .now)))) (number .ensures) in
     put-done (args .store .now) (args .used) (args .line .now) given (find .result) place (omega (arith, room-of .ensures)) _ _ (resize .ensures) (c .before .before .copy .ensures)
 
 pub put-in-spec : {M : Type 1} → statement M
 put-in-spec =
     tie.close
     (tie.spec
-    number-at-requires
+    number-requires
     find-requires
     sub-after
     add-after
