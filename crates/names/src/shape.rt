@@ -2,13 +2,14 @@
 use tokens::Reserved;
 use tokens::Statement;
 ghost use mathlib.Core.Path.{_≡_};
-ghost use mathlib.Core.Bool.{_||_};
+ghost use mathlib.Core.Bool.{true, _||_};
 ghost use mathlib.Core.List.{[], _∷_, _++_};
 ghost use lib.Dec.{eqb};
 ghost use lib.ListN.{getD};
-ghost use Rattle.paper.specs.Bytes.{letter-or-digit?};
+ghost use Rattle.paper.specs.Bytes.{letter-or-digit?, run, among};
 ghost use Rattle.paper.specs.Words.{reserved?, statement-word?};
 ghost use Rattle.paper.specs.Names.{name?, less-open};
+ghost use Rattle.names.specs.Words.{last-of, ends, word-ends};
 ghost use Rattle.names.specs.Answers.{Bare};
 
 // A name's first byte, from those before its last, and its last.
@@ -32,6 +33,20 @@ fn ends_name(b: u8) -> bool
     }
 }
 
+// The end of the letters and digits that some bytes begin with.
+fn run_end(bytes: &[u8]) -> usize
+    ensures { λ r. ⌜ r ≡ run letter-or-digit? (now (bytes .entry)) ⌝ }
+{
+    let mut i: usize = 0;
+    while i < bytes.len() {
+        if !buffers::is_letter_or_digit(bytes[i]) {
+            return i;
+        }
+        i += 1;
+    }
+    i
+}
+
 // Whether a table may hold a name: a letter, then letters or digits, then possibly `$` or `(`.
 pub(crate) fn is_name(front: &[u8], last: u8) -> bool
     ensures { λ r. ⌜ r ≡ name? (now (front .entry) ++ last ∷ []) ⌝ }
@@ -39,7 +54,7 @@ pub(crate) fn is_name(front: &[u8], last: u8) -> bool
     if !buffers::is_letter(first_byte(front, last)) {
         return false;
     }
-    if buffers::run_end(front, 0, buffers::Run::NameBytes) < front.len() {
+    if run_end(front) < front.len() {
         return false;
     }
     ends_name(last)
@@ -82,10 +97,66 @@ fn states(word: &[u8]) -> bool
     }
 }
 
+// The last byte of a name less its `(`, or 0.
+fn bare_last(front: &[u8], last: u8) -> u8
+    ensures { λ r. ⌜ r ≡ last-of (less-open (now (front .entry) ++ last ∷ [])) ⌝ }
+{
+    if last != 40 {
+        return last;
+    }
+    let size = front.len();
+    if size == 0 { 0 } else { front[size - 1] }
+}
+
+// Whether a word operator or a function's name begins with one letter and ends with another. The two are looked up as one number, twice that of
+// their bytes, so that no two of the numbers are neighbours.
+fn has_word_ends(first: u8, last: u8) -> bool
+    ensures { λ r. ⌜ r ≡ among (ends first last) word-ends ⌝ }
+{
+    match (first as usize) * 512 + (last as usize) * 2 {
+        0x8286
+        | 0x8288
+        | 0x829C
+        | 0x82A4
+        | 0x82A6
+        | 0x8648
+        | 0x868E
+        | 0x86A6
+        | 0x8AA0
+        | 0x8C8A
+        | 0x8E84
+        | 0x8E9E
+        | 0x92A8
+        | 0x988E
+        | 0x989C
+        | 0x9CA8
+        | 0x9EA4
+        | 0xA08A
+        | 0xA08E
+        | 0xA096
+        | 0xA488
+        | 0xA648
+        | 0xA68E
+        | 0xA696
+        | 0xA69C
+        | 0xA6A0
+        | 0xA6A4
+        | 0xA89C
+        | 0xA89E
+        | 0xAAA4
+        | 0xAC98 => true,
+        _ => false,
+    }
+}
+
 // Whether a name less its `(` is a word operator or a function's name.
 pub(crate) fn is_reserved(front: &[u8], last: u8) -> bool
+    requires { ⌜ name? (now front ++ last ∷ []) ≡ true ⌝ }
     ensures { λ r. ⌜ r ≡ reserved? (less-open (now (front .entry) ++ last ∷ [])) ⌝ }
 {
+    if !has_word_ends(first_byte(front, last), bare_last(front, last)) {
+        return false;
+    }
     let mut word = [0u8; LONGEST_WORD];
     let size = write_bare(front, last, &mut word);
     if LONGEST_WORD < size {
