@@ -10,7 +10,7 @@ last-of s = getD s (length s - 1) 0
 
 -- two bytes as one number
 abbrev pub ends : ℕ → ℕ → ℕ
-ends x y = x * 512 + y * 2
+ends x y = x * 0x1000 + y * 0x10
 
 -- bytes two by two, each two as one number
 unfoldable pub twos : List ℕ → List ℕ

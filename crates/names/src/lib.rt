@@ -9,7 +9,7 @@ ghost use mathlib.Core.Bool.{true, _&&_};
 ghost use mathlib.Core.List.{[], _∷_, _++_};
 ghost use Prim.Native.Nat.{_+_, _-_, _*_, _≤_, _<_};
 ghost use lib.Dec.{leb};
-ghost use lib.ListN.{length, take, drop, getD};
+ghost use lib.ListN.{length, take, getD};
 ghost use lib.Seq.{sets};
 ghost use Rattle.paper.specs.Bytes.{pick, joined};
 ghost use Rattle.paper.specs.Tokens.{by-kind};
@@ -37,7 +37,7 @@ fn is_closed(bytes: &[u8]) -> bool
     128 <= bytes[size - 1]
 }
 
-// Whether a name may stand in a table after the names of some bytes, which are marked; the name's own place is given.
+// Whether a name may stand in a table after the names of some bytes, which are marked; its own place for a mark is `place`.
 fn is_lawful(bytes: &[u8], marks: &[u8], place: usize, front: &[u8], last: u8) -> bool
     requires { ⌜ Marks (now marks) (names-in (now bytes)) × (place ≡ place-of (now front ++ last ∷ [])) ⌝ }
     ensures { λ r. ⌜ r ≡ lawful (now (front .entry) ++ last ∷ []) (names-in (now (bytes .entry))) ⌝ }
@@ -51,7 +51,7 @@ fn is_lawful(bytes: &[u8], marks: &[u8], place: usize, front: &[u8], last: u8) -
     !mark::is_known(bytes, marks, place, front, last)
 }
 
-// Whether bytes are this many names that a sound table may hold; marks them.
+// Whether bytes are this many names that a sound table may hold. Each name that may stand there is marked, for those after it.
 fn are_marked(bytes: &[u8], count: usize, marks: &mut [u8]) -> bool
     requires { ⌜ (closed? (now bytes) ≡ true) × (length (now marks) ≡ places) ⌝ }
     ensures { λ r. ⌜ r ≡ sound-after [] (names-in (now (bytes .entry))) count ⌝ }

@@ -3,7 +3,6 @@ use crate::table;
 ghost use mathlib.Core.Path.{_≡_};
 ghost use mathlib.Core.List.{[], _∷_, _++_};
 ghost use Prim.Native.Nat.{_<_};
-ghost use lib.ListN.{length};
 ghost use Rattle.paper.specs.Names.{names-in, known?};
 ghost use Rattle.names.specs.Marks.{places, mixed, place-of, Marks};
 
@@ -31,7 +30,7 @@ pub(crate) fn place(front: &[u8], last: u8) -> usize
     mix(at, last)
 }
 
-// Whether a name with a place is among the names of some bytes, all of which are marked.
+// Whether a name is among the names of some bytes, all of which are marked; its own place is `at`.
 pub(crate) fn is_known(bytes: &[u8], marks: &[u8], at: usize, front: &[u8], last: u8) -> bool
     requires { ⌜ Marks (now marks) (names-in (now bytes)) × (at ≡ place-of (now front ++ last ∷ [])) ⌝ }
     ensures { λ r. ⌜ r ≡ known? (names-in (now (bytes .entry))) (now (front .entry) ++ last ∷ []) ⌝ }

@@ -108,43 +108,43 @@ fn bare_last(front: &[u8], last: u8) -> u8
     if size == 0 { 0 } else { front[size - 1] }
 }
 
-// Whether a word operator or a function's name begins with one letter and ends with another. The two are looked up as one number, twice that of
-// their bytes, so that no two of the numbers are neighbours.
+// Whether a word operator or a function's name begins with one letter and ends with another. The two are looked up as one number, with a 0 behind
+// them so that no two of the numbers are neighbours: 0x41430 is A and C.
 fn has_word_ends(first: u8, last: u8) -> bool
     ensures { λ r. ⌜ r ≡ among (ends first last) word-ends ⌝ }
 {
-    match (first as usize) * 512 + (last as usize) * 2 {
-        0x8286
-        | 0x8288
-        | 0x829C
-        | 0x82A4
-        | 0x82A6
-        | 0x8648
-        | 0x868E
-        | 0x86A6
-        | 0x8AA0
-        | 0x8C8A
-        | 0x8E84
-        | 0x8E9E
-        | 0x92A8
-        | 0x988E
-        | 0x989C
-        | 0x9CA8
-        | 0x9EA4
-        | 0xA08A
-        | 0xA08E
-        | 0xA096
-        | 0xA488
-        | 0xA648
-        | 0xA68E
-        | 0xA696
-        | 0xA69C
-        | 0xA6A0
-        | 0xA6A4
-        | 0xA89C
-        | 0xA89E
-        | 0xAAA4
-        | 0xAC98 => true,
+    match (first as usize) * 0x1000 + (last as usize) * 0x10 {
+        0x41430
+        | 0x41440
+        | 0x414E0
+        | 0x41520
+        | 0x41530
+        | 0x43240
+        | 0x43470
+        | 0x43530
+        | 0x45500
+        | 0x46450
+        | 0x47420
+        | 0x474F0
+        | 0x49540
+        | 0x4C470
+        | 0x4C4E0
+        | 0x4E540
+        | 0x4F520
+        | 0x50450
+        | 0x50470
+        | 0x504B0
+        | 0x52440
+        | 0x53240
+        | 0x53470
+        | 0x534B0
+        | 0x534E0
+        | 0x53500
+        | 0x53520
+        | 0x544E0
+        | 0x544F0
+        | 0x55520
+        | 0x564C0 => true,
         _ => false,
     }
 }
