@@ -1,6 +1,5 @@
 use Rattle.names.proofs.Shapes.{bare-ends-array, bare-ends-none, bare-ends-other}
 use borrow.Author.Needs.{needs}
-use borrow.Author.Tests.{not-false, not-true}
 use Rattle.names.proofs.shape.bare_last.Statement.{statement}
 use Rattle.names.proofs.shape.bare_last.Tie as tie
 

@@ -1,5 +1,5 @@
 -- The loop keeps: the run goes on from the place.
-use Prim.Native.Nat.{_+_, _-_, _≤_}
+use Prim.Native.Nat.{_+_, _-_}
 use Rattle.buffers.specs.Runs.{run-off, run-on, run-past}
 use Rattle.paper.specs.Bytes.{letter-or-digit?, run}
 use borrow.Author.Needs.{needs}
