@@ -2,6 +2,7 @@ pub mod Walking
 pub mod Shapes
 pub mod Values
 pub mod Ends
+pub mod Marking
 pub mod Soundness
 pub mod Numbers
 pub mod Rooms

@@ -1,35 +1,35 @@
 -- Walking a table name by name: where a name ends, whether it is spelled so, its number, where it begins.
 use Prim.Native.Nat.{ℕ, zero, suc, _+_, _-_, _≤_, _<_}
+use native.Mathlib.Numerals.{add-one}
 use native.Mathlib.Omega.{arith}
 use mathlib.Core.Path.{_≡_, refl, sym, ap, _∙_}
 use mathlib.Core.Bool.{Bool, true, false}
 use mathlib.Core.List.{List, [], _∷_, _++_}
-use lib.Dec.{ltb}
 use lib.ListN.{length, take, drop, getD, length-append, length-drop, drop-of-length-le}
-use lib.Seq.{take-suc, take-nil, length-take-le}
-use borrow.Author.Tests.{lt-ltb, le-ltb}
-use Rattle.paper.specs.Bytes.{run, same, joined}
+use lib.Seq.{take-suc, take-nil, drop-cons, length-take-le}
+use borrow.Author.Tests.{le-leb, lt-leb}
+use Rattle.paper.specs.Bytes.{same, joined}
 use Rattle.paper.specs.Names.{names-in, number-of}
-use Rattle.buffers.specs.Runs.{low?}
 use Rattle.laws.specs.Names.{same-self, same-eq, same-ne, number-most, less-known, most-unknown}
 use Rattle.names.specs.declared.table.Found.{Found}
 use Rattle.names.specs.Tables.{cleared, unmarked, first-size}
-use Rattle.names.specs.Places.{first-run, unmarked-last, length-unmarked, name-bounds, name-here, names-few}
+use Rattle.names.specs.Places.{unmarked-last, length-unmarked, name-bounds, name-here, names-few}
 use Rattle.names.specs.Answers.{Finds}
 
--- the end of a name, past the byte that ends the run of others
-pub ends-past : (t : List ℕ) (at e : ℕ) → e ≡ at + run low? (drop at t) → e < length t → e + 1 ≡ at + first-size (drop at t)
-ends-past t at e h k =
-    let less : ltb (run low? (drop at t)) (length (drop at t)) ≡ true = lt-ltb (run low? (drop at t)) (length (drop at t)) (omega (arith, length-drop at t)) in
-    let size : first-size (drop at t) ≡ suc (run low? (drop at t)) = first-run (drop at t) ∙ rw (less) in
-    omega arith
+-- ---- the end of a name, byte by byte
 
--- or at the table's end
-pub ends-there : (t : List ℕ) (at e : ℕ) → e ≡ at + run low? (drop at t) → length t ≤ e → e ≡ at + first-size (drop at t)
-ends-there t at e h k =
-    let not-less : ltb (run low? (drop at t)) (length (drop at t)) ≡ false = le-ltb (run low? (drop at t)) (length (drop at t)) (omega (arith, length-drop at t)) in
-    let size : first-size (drop at t) ≡ run low? (drop at t) = first-run (drop at t) ∙ rw (not-less) in
-    omega arith
+module _ (t : List ℕ) (at i : ℕ) (end : at + first-size (drop at t) ≡ i + first-size (drop i t)) where
+  pub ends-here : i < length t → 128 ≤ getD t i 0 → i + 1 ≡ at + first-size (drop at t)
+  unfolding first-size
+  ends-here h k = let one : first-size (drop i t) ≡ 1 = rw (drop-cons t i 0 h, le-leb 128 (getD t i 0) k) in omega arith
+
+  pub ends-later : i < length t → getD t i 0 < 128 → at + first-size (drop at t) ≡ i + 1 + first-size (drop (i + 1) t)
+  unfolding first-size
+  ends-later h k = let more : first-size (drop i t) ≡ suc (first-size (drop (i + 1) t)) = rw (drop-cons t i 0 h, lt-leb 128 (getD t i 0) k, add-one) in omega arith
+
+  pub ends-there : length t ≤ i → i ≡ at + first-size (drop at t)
+  unfolding first-size
+  ends-there h = let none : first-size (drop i t) ≡ 0 = rw (drop-of-length-le t h) in omega arith
 
 -- ---- a name spelled so
 

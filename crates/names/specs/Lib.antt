@@ -1,4 +1,6 @@
 pub mod Tables
+pub mod Marks
+pub mod Words
 pub mod Places
 pub mod Answers
 pub mod Uses

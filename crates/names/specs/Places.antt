@@ -4,13 +4,12 @@ use native.Mathlib.Omega.{arith}
 use mathlib.Core.Path.{_≡_, refl, sym, ap, _∙_}
 use mathlib.Core.Bool.{Bool, true, false}
 use mathlib.Core.List.{List, [], _∷_, _++_}
-use lib.Dec.{leb, ltb}
-use lib.ListN.{length, take, drop, getD, length-drop}
-use lib.Seq.{take-suc, drop-drop, getD-drop, length-take-le}
-use borrow.Author.Tests.{leb-true, leb-false, lt-ltb, le-ltb, ltb-true, ltb-false}
-use Rattle.paper.specs.Bytes.{pick, run}
+use lib.Dec.{leb}
+use lib.ListN.{length, take, drop, getD, length-drop, drop-of-length-le}
+use lib.Seq.{take-suc, take-take, take-add, drop-drop, getD-drop, length-take-le}
+use Rattle.paper.specs.Bytes.{pick}
 use Rattle.paper.specs.Names.{in-front, names-in}
-use Rattle.buffers.specs.Runs.{low?}
+use Rattle.laws.specs.Names.{closed?, closed-append, names-append}
 use Rattle.names.specs.Tables.{cleared, unmarked, first-size}
 
 pub first-most : (bs : List ℕ) → first-size bs ≤ length bs
@@ -31,22 +30,10 @@ first-some (b ∷ bs) h = go (leb 128 b)
     go true = omega arith
     go false = omega arith
 
--- the run of bytes with their top bit clear, and the byte after it if there is one
-pub first-run : (bs : List ℕ) → first-size bs ≡ pick (ltb (run low? bs) (length bs)) (suc (run low? bs)) (run low? bs)
-unfolding first-size run low?
-first-run [] = refl
-first-run (b ∷ bs) = go (leb 128 b) refl (first-run bs)
-  where
-    go : (t : Bool) → leb 128 b ≡ t → first-size bs ≡ pick (ltb (run low? bs) (length bs)) (suc (run low? bs)) (run low? bs)
-        → pick t 1 (suc (first-size bs))
-        ≡ pick (ltb (pick (ltb b 128) (suc (run low? bs)) 0) (suc (length bs))) (suc (pick (ltb b 128) (suc (run low? bs)) 0)) (pick (ltb b 128) (suc (run low? bs)) 0)
-    go true e h = rw (le-ltb b 128 (leb-true 128 b e), lt-ltb 0 (suc (length bs)) (omega arith))
-    go false e h = rw (lt-ltb b 128 (leb-false 128 b e)) (more (ltb (run low? bs) (length bs)) refl h)
-      where
-        more : (s : Bool) → ltb (run low? bs) (length bs) ≡ s → first-size bs ≡ pick s (suc (run low? bs)) (run low? bs)
-            → suc (first-size bs) ≡ pick (ltb (suc (run low? bs)) (suc (length bs))) (suc (suc (run low? bs))) (suc (run low? bs))
-        more true f k = rw (lt-ltb (suc (run low? bs)) (suc (length bs)) (omega (arith, ltb-true (run low? bs) (length bs) f))) (ap suc k)
-        more false f k = rw (le-ltb (suc (run low? bs)) (suc (length bs)) (omega (arith, ltb-false (run low? bs) (length bs) f))) (ap suc k)
+behind : (x : ℕ) (xs : List ℕ) → 0 < length xs → closed? (x ∷ xs) ≡ closed? xs
+unfolding closed?
+behind x [] h = absurd (omega arith)
+behind x (y ∷ ys) h = refl
 
 pub unmarked-more : (x : ℕ) (xs : List ℕ) → 0 < length xs → unmarked (x ∷ xs) ≡ x ∷ unmarked xs
 unfolding unmarked
@@ -119,6 +106,39 @@ module _ (t : List ℕ) (i end : ℕ) (inside : i < length t) (ends : end ≡ i 
       ∙ ap (λ (j : ℕ). unmarked (take j (drop i t)) ∷ names-in (drop j (drop i t))) k
       ∙ ap (λ (l : List ℕ). unmarked (take (end - i) (drop i t)) ∷ names-in l) d
 
+-- the first name of its own bytes, alone
+first-alone : (bs : List ℕ) → first-size (take (first-size bs) bs) ≡ first-size bs
+unfolding first-size
+first-alone [] = refl
+first-alone (b ∷ bs) = go (leb 128 b) refl (first-alone bs)
+  where
+    go : (t : Bool) → leb 128 b ≡ t → first-size (take (first-size bs) bs) ≡ first-size bs → first-size (take (pick t 1 (suc (first-size bs))) (b ∷ bs)) ≡ pick t 1 (suc (first-size bs))
+    go true e k = rw (e)
+    go false e k = rw (e) (ap suc k)
+
+one-name : (bs : List ℕ) → 0 < length bs → names-in (take (first-size bs) bs) ≡ unmarked (take (first-size bs) bs) ∷ []
+unfolding names-in
+one-name bs h =
+    let s = first-size bs in
+    let size : length (take s bs) ≡ s = length-take-le s bs (first-most bs) in
+    let none : names-in (drop s (take s bs)) ≡ [] = ap names-in (drop-of-length-le (take s bs) {i = s} (omega arith)) in
+    first-name (take s bs) (omega (arith, first-some bs h))
+    ∙ ap (λ (j : ℕ). unmarked (take j (take s bs)) ∷ names-in (drop j (take s bs))) (first-alone bs)
+    ∙ ap (λ (l : List ℕ). unmarked l ∷ names-in (drop s (take s bs))) (take-take s s bs (omega arith))
+    ∙ ap (λ (ns : List (List ℕ)). unmarked (take s bs) ∷ ns) none
+
+-- bytes that end with a name's end: so do their first name's, and those after it
+first-closed : (bs : List ℕ) → closed? bs ≡ true → (closed? (take (first-size bs) bs) ≡ true) × (closed? (drop (first-size bs) bs) ≡ true)
+unfolding closed? first-size
+first-closed [] h = (refl, refl)
+first-closed (b ∷ []) h = rw (h) (h, refl)
+first-closed (b ∷ c ∷ cs) h = go (leb 128 b) refl (first-closed (c ∷ cs) h)
+  where
+    go : (t : Bool) → leb 128 b ≡ t → (closed? (take (first-size (c ∷ cs)) (c ∷ cs)) ≡ true) × (closed? (drop (first-size (c ∷ cs)) (c ∷ cs)) ≡ true)
+        → (closed? (take (pick t 1 (suc (first-size (c ∷ cs)))) (b ∷ c ∷ cs)) ≡ true) × (closed? (drop (pick t 1 (suc (first-size (c ∷ cs)))) (b ∷ c ∷ cs)) ≡ true)
+    go true e k = (e, h)
+    go false e k = (behind b (take (first-size (c ∷ cs)) (c ∷ cs)) (omega (arith, length-take-le (first-size (c ∷ cs)) (c ∷ cs) (first-most (c ∷ cs)), first-some (c ∷ cs) (omega arith))) ∙ k .0, k .1)
+
 -- bytes have no more names than there are bytes
 pub names-few : (bs : List ℕ) → length (names-in bs) ≤ length bs
 unfolding names-in in-front
@@ -129,3 +149,24 @@ names-few (b ∷ bs) = go (leb 128 b) (names-in bs) (names-few bs)
     go true r h = omega arith
     go false [] h = omega arith
     go false (n ∷ ns) h = omega arith
+
+-- In the table t, whose bytes end with a name's end, a name stands at i, and ends at `end`.
+module _ (t : List ℕ) (i end : ℕ) (inside : i < length t) (ends : end ≡ i + first-size (drop i t)) (before : closed? (take i t) ≡ true) (after : closed? (drop i t) ≡ true) where
+  -- so does the part before its end
+  pub closed-before : closed? (take end t) ≡ true
+  closed-before =
+      ap (λ (j : ℕ). closed? (take j t)) ends ∙ ap closed? (take-add i (first-size (drop i t)) t)
+      ∙ closed-append (take i t) (take (first-size (drop i t)) (drop i t)) before (first-closed (drop i t) after .0)
+
+  -- and the part behind it
+  pub closed-after : closed? (drop end t) ≡ true
+  closed-after = ap (λ (j : ℕ). closed? (drop j t)) ends ∙ ap closed? (sym (drop-drop (first-size (drop i t)) i t)) ∙ first-closed (drop i t) after .1
+
+  -- the names before its end are those before it, and the name
+  pub names-before : names-in (take end t) ≡ names-in (take i t) ++ unmarked (take (end - i) (drop i t)) ∷ []
+  names-before =
+      let k : first-size (drop i t) ≡ end - i = omega arith in
+      ap (λ (j : ℕ). names-in (take j t)) ends ∙ ap names-in (take-add i (first-size (drop i t)) t)
+      ∙ names-append (take i t) (take (first-size (drop i t)) (drop i t)) before
+      ∙ ap (λ (ns : List (List ℕ)). names-in (take i t) ++ ns) (one-name (drop i t) (omega (arith, length-drop i t)))
+      ∙ ap (λ (j : ℕ). names-in (take i t) ++ unmarked (take j (drop i t)) ∷ []) k

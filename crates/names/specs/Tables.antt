@@ -26,11 +26,11 @@ first-size (b ∷ bs) = let more = suc (first-size bs) in pick (leb 128 b) 1 mor
 unfoldable pub spelled : List ℕ → Bool → List ℕ
 spelled w array = pick array (w ++ 40 ∷ []) w
 
--- a name that a sound table may hold before the names ns
+-- a name that a sound table may hold after the names ns
 unfoldable pub lawful : List ℕ → List (List ℕ) → Bool
 lawful n ns = name? n && (not (reserved? (less-open n)) && not (known? ns n))
 
--- names that a sound table may hold, and this many
-unfoldable pub sound-rest : List (List ℕ) → ℕ → Bool
-sound-rest [] count = eqb count 0
-sound-rest (n ∷ ns) count = ltb 0 count && (lawful n ns && sound-rest ns (count - 1))
+-- names that a sound table may hold after others, and this many
+unfoldable pub sound-after : List (List ℕ) → List (List ℕ) → ℕ → Bool
+sound-after before [] count = eqb count 0
+sound-after before (n ∷ ns) count = ltb 0 count && (lawful n before && sound-after (before ++ n ∷ []) ns (count - 1))

@@ -1,4 +1,5 @@
 // The name table and the value table: whether they are sound, a name's number, new names, and the rooms and the limit for them.
+mod mark;
 mod shape;
 mod table;
 
@@ -8,7 +9,7 @@ ghost use mathlib.Core.Bool.{true, _&&_};
 ghost use mathlib.Core.List.{[], _∷_, _++_};
 ghost use Prim.Native.Nat.{_+_, _-_, _*_, _≤_, _<_};
 ghost use lib.Dec.{leb};
-ghost use lib.ListN.{length, take, drop, getD};
+ghost use lib.ListN.{length, take, getD};
 ghost use lib.Seq.{sets};
 ghost use Rattle.paper.specs.Bytes.{pick, joined};
 ghost use Rattle.paper.specs.Tokens.{by-kind};
@@ -16,7 +17,8 @@ ghost use Rattle.paper.specs.Words.{statement-word?};
 ghost use Rattle.paper.specs.Names.{names-in, name-bytes, less-open, sound-table, value-entries};
 ghost use Rattle.paper.specs.Store.{overwritten};
 ghost use Rattle.laws.specs.Names.{closed?, plain-name};
-ghost use Rattle.names.specs.Tables.{unmarked, first-size, spelled, lawful, sound-rest};
+ghost use Rattle.names.specs.Tables.{spelled, lawful, sound-after};
+ghost use Rattle.names.specs.Marks.{places, place-of, Marks};
 ghost use Rattle.names.specs.Answers.{Numbers, lacks, Room, Stands};
 
 // The most names that a table may hold.
@@ -35,27 +37,24 @@ fn is_closed(bytes: &[u8]) -> bool
     128 <= bytes[size - 1]
 }
 
-// Whether the name from one place of a table to another may stand in it before the names that follow.
-fn is_lawful(bytes: &[u8], at: usize, end: usize) -> bool
-    requires { ⌜ (at < length (now bytes)) × (end ≡ at + first-size (drop at (now bytes))) ⌝ }
-    ensures { λ r. ⌜ r ≡ lawful (unmarked (take (end - at) (drop at (now (bytes .entry))))) (names-in (drop end (now (bytes .entry)))) ⌝ }
+// Whether a name may stand in a table after the names of some bytes, which are marked; its own place for a mark is `place`.
+fn is_lawful(bytes: &[u8], marks: &[u8], place: usize, front: &[u8], last: u8) -> bool
+    requires { ⌜ Marks (now marks) (names-in (now bytes)) × (place ≡ place-of (now front ++ last ∷ [])) ⌝ }
+    ensures { λ r. ⌜ r ≡ lawful (now (front .entry) ++ last ∷ []) (names-in (now (bytes .entry))) ⌝ }
 {
-    let last_at = end - 1;
-    let front = &bytes[at..last_at];
-    let last = table::clear(bytes[last_at]);
     if !shape::is_name(front, last) {
         return false;
     }
     if shape::is_reserved(front, last) {
         return false;
     }
-    let found = table::find(&bytes[end..], front, last);
-    !found.known
+    !mark::is_known(bytes, marks, place, front, last)
 }
 
-// Whether bytes are this many names that a sound table may hold.
-fn are_lawful(bytes: &[u8], count: usize) -> bool
-    ensures { λ r. ⌜ r ≡ sound-rest (names-in (now (bytes .entry))) count ⌝ }
+// Whether bytes are this many names that a sound table may hold. Each name that may stand there is marked, for those after it.
+fn are_marked(bytes: &[u8], count: usize, marks: &mut [u8]) -> bool
+    requires { ⌜ (closed? (now bytes) ≡ true) × (length (now marks) ≡ places) ⌝ }
+    ensures { λ r. ⌜ r ≡ sound-after [] (names-in (now (bytes .entry))) count ⌝ }
 {
     let mut at: usize = 0;
     let mut left = count;
@@ -64,13 +63,30 @@ fn are_lawful(bytes: &[u8], count: usize) -> bool
             return false;
         }
         let end = table::name_end(bytes, at);
-        if !is_lawful(bytes, at, end) {
+        let last_at = end - 1;
+        let front = &bytes[at..last_at];
+        let last = table::clear(bytes[last_at]);
+        let place = mark::place(front, last);
+        if !is_lawful(&bytes[..at], marks, place, front, last) {
             return false;
         }
+        marks[place] = 1;
         at = end;
         left -= 1;
     }
     left == 0
+}
+
+// Whether bytes are this many names that a sound table may hold.
+fn are_lawful(bytes: &[u8], count: usize) -> bool
+    requires { ⌜ closed? (now bytes) ≡ true ⌝ }
+    ensures { λ r. ⌜ r ≡ sound-after [] (names-in (now (bytes .entry))) count ⌝ }
+{
+    if bytes.len() == 0 {
+        return count == 0;
+    }
+    let mut marks = [0u8; mark::PLACES];
+    are_marked(bytes, count, &mut marks)
 }
 
 // Whether a name table of `size` bytes and `count` names is sound, and there is room for the names' values.

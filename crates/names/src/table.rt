@@ -19,8 +19,14 @@ pub(crate) fn clear(b: u8) -> u8
 pub(crate) fn name_end(table: &[u8], at: usize) -> usize
     ensures { λ r. ⌜ r ≡ at + first-size (drop at (now (table .entry))) ⌝ }
 {
-    let end = buffers::run_end(table, at, buffers::Run::LowBytes);
-    if end < table.len() { end + 1 } else { end }
+    let mut i = at;
+    while i < table.len() {
+        if 128 <= table[i] {
+            return i + 1;
+        }
+        i += 1;
+    }
+    i
 }
 
 // Whether a name as it lies in a table is the name with these bytes: those before its last, and its last.

@@ -3,7 +3,7 @@ use Rattle.names.specs.Standing.{start}
 use borrow.Author.Needs.{needs}
 use borrow.Author.Tests.{not-false, not-true}
 use lib.Seq.{length-take-le}
-use mathlib.Core.Path.{sym}
+use mathlib.Core.Path.{_∙_, sym}
 use Rattle.names.proofs.sound.Statement.{statement}
 use Rattle.names.proofs.sound.Tie as tie
 
@@ -32,7 +32,7 @@ slice-aggregate-are-lawful : tie.Need-slice-aggregate-are-lawful
 slice-aggregate-are-lawful c = sym (length-take-le _ _ (c .before .before .before .before .before .before .if1 .left))
 
 are-lawful-requires : tie.Need-are-lawful-requires
-are-lawful-requires c κs = search needs
+are-lawful-requires c κs = sym (c .before .before .is-closed .ensures) ∙ not-false _ (c .before .if4 .left)
 
 returns-5 : tie.Need-returns-5
 returns-5 c = let start = c .before .before .before .before .before .before .before .before .before in all-sound (start .args .names .now) (start .args .size) _ _ (c .before .before .before .before .before .before .before .if1 .left) (c .before .before .before .before .before .before .if2 .left) (c .before .before .before .before .before .if3 .left) (c .before .before .before .is-closed .ensures) (not-false _ (c .before .before .if4 .left)) (c .are-lawful .ensures)

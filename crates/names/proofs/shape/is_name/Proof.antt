@@ -19,13 +19,13 @@ run-end-requires : tie.Need-run-end-requires
 run-end-requires c κs = search needs
 
 returns-2 : tie.Need-returns-2
-returns-2 c = let start = c .before .before .before .before .before .before in no-run (start .args .front .now) (start .args .last) (c .before .run-end .ensures .0) (c .if2 .taken)
+returns-2 c = let start = c .before .before .before .before .before .before in no-run (start .args .front .now) (start .args .last) (c .before .run-end .ensures) (c .if2 .taken)
 
 ends-name-requires : tie.Need-ends-name-requires
 ends-name-requires c κs = search needs
 
 returns-3 : tie.Need-returns-3
-returns-3 c = let start = c .before .before .before .before .before .before .before in c .ends-name .ensures ∙ full-run (start .args .front .now) (start .args .last) (c .before .before .before .before .before .first-byte .ensures) (c .before .before .before .before .is-letter .ensures) (not-false _ (c .before .before .before .if1 .left)) (c .before .before .run-end .ensures .0) (c .before .if2 .left)
+returns-3 c = let start = c .before .before .before .before .before .before .before in c .ends-name .ensures ∙ full-run (start .args .front .now) (start .args .last) (c .before .before .before .before .before .first-byte .ensures) (c .before .before .before .before .is-letter .ensures) (not-false _ (c .before .before .before .if1 .left)) (c .before .before .run-end .ensures) (c .before .if2 .left)
 
 pub is-name-spec : {M : Type 1} → statement M
 is-name-spec =
