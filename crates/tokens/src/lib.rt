@@ -384,8 +384,8 @@ pub fn read_as(token: u8) -> u8
     )
 }
 
-// The statement word that is the whole of a name.
-pub fn statement_word(name: &[u8]) -> Statement
+// The statement word that is the whole of a name, looked for in the table.
+fn find_statement(name: &[u8]) -> Statement
     ensures { λ r. ⌜ r ≡ statement-found (find-word statements (now (name .entry))) ⌝ }
 {
     match tables::find(&WORDS, 0, &tables::STATEMENT_LENGTHS, 0, name) {
@@ -394,8 +394,19 @@ pub fn statement_word(name: &[u8]) -> Statement
     }
 }
 
-// The word operator or function that is the whole of a name.
-pub fn reserved_word(name: &[u8]) -> Reserved
+// The statement word that is the whole of a name.
+pub fn statement_word(name: &[u8]) -> Statement
+    ensures { λ r. ⌜ r ≡ statement-found (find-word statements (now (name .entry))) ⌝ }
+{
+    if tables::may_state(tables::entry(name, 0, 0), name.len()) {
+        find_statement(name)
+    } else {
+        Statement::Nothing
+    }
+}
+
+// The word operator or function that is the whole of a name, looked for in the table.
+fn find_reserved(name: &[u8]) -> Reserved
     ensures { λ r. ⌜ r ≡ reserved-found (find-word operators (now (name .entry))) ⌝ }
 {
     match tables::find(
@@ -413,6 +424,17 @@ pub fn reserved_word(name: &[u8]) -> Reserved
             }
         }
         Found::Nothing => Reserved::Nothing,
+    }
+}
+
+// The word operator or function that is the whole of a name.
+pub fn reserved_word(name: &[u8]) -> Reserved
+    ensures { λ r. ⌜ r ≡ reserved-found (find-word operators (now (name .entry))) ⌝ }
+{
+    if tables::may_reserve(tables::entry(name, 0, 0), name.len()) {
+        find_reserved(name)
+    } else {
+        Reserved::Nothing
     }
 }
 

@@ -4,9 +4,10 @@ ghost use mathlib.Core.Bool.{_&&_, not};
 ghost use Prim.Native.Nat.{_+_, _≤_};
 ghost use lib.Dec.{eqb};
 ghost use lib.ListN.{length, getD, take, drop};
-ghost use Rattle.paper.specs.Bytes.{same};
+ghost use Rattle.paper.specs.Bytes.{same, letter?};
 ghost use Rattle.paper.specs.Words.{find-word};
 ghost use Rattle.tokens.specs.Tables.{total, words-of, token-found};
+ghost use Rattle.tokens.specs.Guards.{within, may-state, may-reserve};
 use crate::Found;
 use crate::class;
 
@@ -431,6 +432,49 @@ pub(crate) fn entry(table: &[u8], i: usize, other: u8) -> u8
     ensures { λ r. ⌜ r ≡ getD (now (table .entry)) i other ⌝ }
 {
     if i < table.len() { table[i] } else { other }
+}
+
+// Whether a number is one from `low` to `high`.
+fn within(low: usize, high: usize, n: usize) -> bool
+    ensures { λ r. ⌜ r ≡ within low high n ⌝ }
+{
+    if n < low { false } else { n <= high }
+}
+
+// Whether a byte is no letter.
+fn no_letter(b: u8) -> bool
+    ensures { λ r. ⌜ r ≡ not (letter? b) ⌝ }
+{
+    if b < b'A' { true } else { b'Z' < b }
+}
+
+// Whether a statement word may begin with a byte and have a length; no word does where it may not.
+pub(crate) fn may_state(first: u8, size: usize) -> bool
+    ensures { λ r. ⌜ r ≡ may-state first size ⌝ }
+{
+    match first {
+        b'B' | b'F' | b'X' => size == 3,
+        b'T' => size == 4,
+        b'I' | b'O' => within(2, 5, size),
+        b'C' | b'E' | b'N' => within(3, 5, size),
+        b'D' | b'L' | b'R' => within(3, 7, size),
+        b'G' | b'P' | b'S' => within(3, 8, size),
+        _ => no_letter(first),
+    }
+}
+
+// Whether the word of an operator or function may begin with a byte and have a length; no word does where it may not.
+pub(crate) fn may_reserve(first: u8, size: usize) -> bool
+    ensures { λ r. ⌜ r ≡ may-reserve first size ⌝ }
+{
+    match first {
+        b'A' | b'E' | b'I' | b'L' | b'N' | b'R' | b'U' => size == 3,
+        b'C' | b'F' | b'V' => within(3, 4, size),
+        b'G' | b'P' => within(4, 6, size),
+        b'O' | b'T' => within(2, 4, size),
+        b'S' => within(3, 5, size),
+        _ => no_letter(first),
+    }
 }
 
 // Whether the word of `size` bytes at `from` is the whole of `name`: the lengths and the first bytes are compared before the rest.
