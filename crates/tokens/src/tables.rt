@@ -1,4 +1,4 @@
-// The tables: what each token's word is, how long, where, and of what class; and the one search of words.
+// The tables: what each token's word is, how long and where; what a word may begin with; and the one search of words.
 ghost use mathlib.Core.Path.{_≡_};
 ghost use mathlib.Core.Bool.{_&&_, not};
 ghost use Prim.Native.Nat.{_+_, _≤_};
@@ -9,7 +9,6 @@ ghost use Rattle.paper.specs.Words.{find-word};
 ghost use Rattle.tokens.specs.Tables.{total, words-of, token-found};
 ghost use Rattle.tokens.specs.Guards.{within, may-state, may-reserve};
 use crate::Found;
-use crate::class;
 
 // How many bytes of the fixed words are statement words.
 pub(crate) const STATEMENT_BYTES: usize = 223;
@@ -128,64 +127,6 @@ pub(crate) const STATEMENT_STARTS: [u8; 54] = [
     207,
     213,
     218,
-];
-
-// The class of each statement word, by its token.
-pub(crate) const STATEMENT_CLASSES: [u8; 54] = [
-    class::REMARK,
-    class::REMARK,
-    class::READ_INPUT,
-    class::UNFIT,
-    class::UNFIT,
-    class::UNFIT,
-    class::LET_WORD,
-    class::IF_WORD,
-    class::FOR_WORD,
-    class::NEXT_WORD,
-    class::JUMP,
-    class::UNFIT,
-    class::JUMP,
-    class::JUMP,
-    class::UNFIT,
-    class::UNFIT,
-    class::UNFIT,
-    class::UNFIT,
-    class::ALONE,
-    class::ALONE,
-    class::DIM_WORD,
-    class::ALONE,
-    class::UNFIT,
-    class::UNFIT,
-    class::UNFIT,
-    class::UNFIT,
-    class::UNFIT,
-    class::UNFIT,
-    class::UNFIT,
-    class::UNFIT,
-    class::ON_WORD,
-    class::POKE_WORD,
-    class::PRINT_WORD,
-    class::ALONE,
-    class::READ_INPUT,
-    class::RESTORE_WORD,
-    class::ALONE,
-    class::UNFIT,
-    class::ALONE,
-    class::ALONE,
-    class::PRINT_WORD,
-    class::UNFIT,
-    class::UNFIT,
-    class::UNFIT,
-    class::UNFIT,
-    class::UNFIT,
-    class::UNFIT,
-    class::UNFIT,
-    class::UNFIT,
-    class::UNFIT,
-    class::UNFIT,
-    class::UNFIT,
-    class::UNFIT,
-    class::UNFIT,
 ];
 
 // The first token that an operator's word has.
@@ -331,100 +272,6 @@ pub(crate) const OPERATOR_STARTS: [u8; 67] = [
     117,
     122,
     127,
-];
-
-// The class of each operator or function, by its token from the first one on.
-pub(crate) const OPERATOR_CLASSES: [u8; 67] = [
-    class::COMMA,
-    class::UNFIT,
-    class::COLON,
-    class::SEMICOLON,
-    class::LINE_END,
-    class::GOTO_GOSUB,
-    class::GOTO_GOSUB,
-    class::TO_WORD,
-    class::STEP_WORD,
-    class::THEN_WORD,
-    class::UNFIT,
-    class::COMPARISON,
-    class::COMPARISON,
-    class::COMPARISON,
-    class::COMPARISON,
-    class::COMPARISON,
-    class::EQUALS,
-    class::FACTOR_SIGN,
-    class::FACTOR_SIGN,
-    class::PLUS_MINUS,
-    class::PLUS_MINUS,
-    class::FACTOR_SIGN,
-    class::NOT_WORD,
-    class::OR_AND,
-    class::OR_AND,
-    class::OPEN_SIGN,
-    class::CLOSE_SIGN,
-    class::UNFIT,
-    class::UNFIT,
-    class::UNFIT,
-    class::UNFIT,
-    class::UNFIT,
-    class::UNFIT,
-    class::UNFIT,
-    class::UNFIT,
-    class::UNFIT,
-    class::UNFIT,
-    class::UNFIT,
-    class::UNFIT,
-    class::UNFIT,
-    class::UNFIT,
-    class::UNFIT,
-    class::UNFIT,
-    class::STRING_FUNCTION,
-    class::STRING_FUNCTION,
-    class::UNFIT,
-    class::FUNCTION_OF_STRING,
-    class::FUNCTION_OF_STRING,
-    class::FUNCTION_OF_STRING,
-    class::UNFIT,
-    class::FUNCTION_OF_NUMBER,
-    class::FUNCTION_OF_NUMBER,
-    class::FUNCTION_OF_NUMBER,
-    class::FUNCTION_OF_NUMBER,
-    class::FUNCTION_OF_NUMBER,
-    class::FUNCTION_OF_NUMBER,
-    class::FUNCTION_OF_NUMBER,
-    class::FUNCTION_OF_NUMBER,
-    class::FUNCTION_OF_NUMBER,
-    class::FUNCTION_OF_NUMBER,
-    class::FUNCTION_OF_NUMBER,
-    class::FUNCTION_OF_NUMBER,
-    class::FUNCTION_OF_NUMBER,
-    class::UNFIT,
-    class::UNFIT,
-    class::UNFIT,
-    class::UNFIT,
-];
-
-// The first token that the grammar puts in the place of an earlier one.
-pub(crate) const FIRST_PLACED: u8 = 0x2D;
-
-// The earlier operator with the same spelling, by the token from the first placed one on.
-pub(crate) const READ_AS: [u8; 16] = [
-    0x22,
-    0x22,
-    0x1D,
-    0x1E,
-    0x1F,
-    0x20,
-    0x21,
-    0x22,
-    0x25,
-    0x26,
-    0x2B,
-    0x2B,
-    0x2B,
-    0x2B,
-    0x2B,
-    0x12,
 ];
 
 // The entry of a table at a place, or another number past its end.
