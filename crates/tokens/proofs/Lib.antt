@@ -2,3 +2,5 @@ pub mod Classes
 pub mod Search
 pub mod Symbols
 pub mod Cuts
+pub mod Keys
+pub mod Guarded

@@ -150,10 +150,6 @@ pub past-statements : (t : ℕ) → 0x36 ≤ t → word-of statements t ≡ word
 unfolding every token-within statements word
 past-statements t h = let l : 0 ≤ t = omega arith in outside 0 0x35 statements tt t (rw (le-leb 0 t l, lt-leb t 0x35 h))
 
-pub before-operators : (t : ℕ) → t < 0x12 → word-of operators t ≡ word t "" unfit
-unfolding every token-within operators read-operators functions placed-operators word
-before-operators t h = outside 0x12 0x54 operators tt t (rw (lt-leb 0x12 t h))
-
 pub past-operators : (t : ℕ) → 0x55 ≤ t → word-of operators t ≡ word t "" unfit
 unfolding every token-within operators read-operators functions placed-operators word
 past-operators t h = let l : 0x12 ≤ t = omega arith in outside 0x12 0x54 operators tt t (rw (le-leb 0x12 t l, lt-leb t 0x54 h))

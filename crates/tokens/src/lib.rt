@@ -327,24 +327,87 @@ pub struct Part {
 pub fn statement_class(token: StatementToken) -> u8
     ensures { λ r. ⌜ r ≡ (word-of statements (token .0)) .class ⌝ }
 {
-    tables::entry(&tables::STATEMENT_CLASSES, token.0 as usize, class::UNFIT)
+    let t = token.0;
+    match t {
+        0x00 => class::REMARK,
+        0x01 => class::REMARK,
+        0x02 => class::READ_INPUT,
+        0x06 => class::LET_WORD,
+        0x07 => class::IF_WORD,
+        0x08 => class::FOR_WORD,
+        0x09 => class::NEXT_WORD,
+        0x0A => class::JUMP,
+        0x0C => class::JUMP,
+        0x0D => class::JUMP,
+        0x12 => class::ALONE,
+        0x13 => class::ALONE,
+        0x14 => class::DIM_WORD,
+        0x15 => class::ALONE,
+        0x1E => class::ON_WORD,
+        0x1F => class::POKE_WORD,
+        0x20 => class::PRINT_WORD,
+        0x21 => class::ALONE,
+        0x22 => class::READ_INPUT,
+        0x23 => class::RESTORE_WORD,
+        0x24 => class::ALONE,
+        0x26 => class::ALONE,
+        0x27 => class::ALONE,
+        0x28 => class::PRINT_WORD,
+        _ => class::UNFIT,
+    }
 }
 
 // The class of an operator or function.
 pub fn operator_class(token: u8) -> u8
     ensures { λ r. ⌜ r ≡ operator-class token ⌝ }
 {
-    if token == OperatorToken::RAW_END.0 {
-        return class::RAW_END;
+    match token {
+        0x12 => class::COMMA,
+        0x14 => class::COLON,
+        0x15 => class::SEMICOLON,
+        0x16 => class::LINE_END,
+        0x17 => class::GOTO_GOSUB,
+        0x18 => class::GOTO_GOSUB,
+        0x19 => class::TO_WORD,
+        0x1A => class::STEP_WORD,
+        0x1B => class::THEN_WORD,
+        0x1D => class::COMPARISON,
+        0x1E => class::COMPARISON,
+        0x1F => class::COMPARISON,
+        0x20 => class::COMPARISON,
+        0x21 => class::COMPARISON,
+        0x22 => class::EQUALS,
+        0x23 => class::FACTOR_SIGN,
+        0x24 => class::FACTOR_SIGN,
+        0x25 => class::PLUS_MINUS,
+        0x26 => class::PLUS_MINUS,
+        0x27 => class::FACTOR_SIGN,
+        0x28 => class::NOT_WORD,
+        0x29 => class::OR_AND,
+        0x2A => class::OR_AND,
+        0x2B => class::OPEN_SIGN,
+        0x2C => class::CLOSE_SIGN,
+        0x3D => class::STRING_FUNCTION,
+        0x3E => class::STRING_FUNCTION,
+        0x40 => class::FUNCTION_OF_STRING,
+        0x41 => class::FUNCTION_OF_STRING,
+        0x42 => class::FUNCTION_OF_STRING,
+        0x44 => class::FUNCTION_OF_NUMBER,
+        0x45 => class::FUNCTION_OF_NUMBER,
+        0x46 => class::FUNCTION_OF_NUMBER,
+        0x47 => class::FUNCTION_OF_NUMBER,
+        0x48 => class::FUNCTION_OF_NUMBER,
+        0x49 => class::FUNCTION_OF_NUMBER,
+        0x4A => class::FUNCTION_OF_NUMBER,
+        0x4B => class::FUNCTION_OF_NUMBER,
+        0x4C => class::FUNCTION_OF_NUMBER,
+        0x4D => class::FUNCTION_OF_NUMBER,
+        0x4E => class::FUNCTION_OF_NUMBER,
+        0x4F => class::FUNCTION_OF_NUMBER,
+        0x50 => class::FUNCTION_OF_NUMBER,
+        0x9B => class::RAW_END,
+        _ => class::UNFIT,
     }
-    if token < tables::FIRST_OPERATOR {
-        return class::UNFIT;
-    }
-    tables::entry(
-        &tables::OPERATOR_CLASSES,
-        (token - tables::FIRST_OPERATOR) as usize,
-        class::UNFIT,
-    )
 }
 
 // Whether an operator is a word: GOTO GOSUB TO STEP THEN, NOT OR AND.
@@ -374,18 +437,29 @@ pub fn is_raw_statement(token: StatementToken) -> bool
 pub fn read_as(token: u8) -> u8
     ensures { λ r. ⌜ r ≡ read-as token ⌝ }
 {
-    if token < tables::FIRST_PLACED {
-        return token;
+    match token {
+        0x2D => 0x22,
+        0x2E => 0x22,
+        0x2F => 0x1D,
+        0x30 => 0x1E,
+        0x31 => 0x1F,
+        0x32 => 0x20,
+        0x33 => 0x21,
+        0x34 => 0x22,
+        0x35 => 0x25,
+        0x36 => 0x26,
+        0x37 => 0x2B,
+        0x38 => 0x2B,
+        0x39 => 0x2B,
+        0x3A => 0x2B,
+        0x3B => 0x2B,
+        0x3C => 0x12,
+        _ => token,
     }
-    tables::entry(
-        &tables::READ_AS,
-        (token - tables::FIRST_PLACED) as usize,
-        token,
-    )
 }
 
-// The statement word that is the whole of a name.
-pub fn statement_word(name: &[u8]) -> Statement
+// The statement word that is the whole of a name, looked for in the table.
+fn find_statement(name: &[u8]) -> Statement
     ensures { λ r. ⌜ r ≡ statement-found (find-word statements (now (name .entry))) ⌝ }
 {
     match tables::find(&WORDS, 0, &tables::STATEMENT_LENGTHS, 0, name) {
@@ -394,8 +468,19 @@ pub fn statement_word(name: &[u8]) -> Statement
     }
 }
 
-// The word operator or function that is the whole of a name.
-pub fn reserved_word(name: &[u8]) -> Reserved
+// The statement word that is the whole of a name.
+pub fn statement_word(name: &[u8]) -> Statement
+    ensures { λ r. ⌜ r ≡ statement-found (find-word statements (now (name .entry))) ⌝ }
+{
+    if tables::may_state(tables::entry(name, 0, 0), name.len()) {
+        find_statement(name)
+    } else {
+        Statement::Nothing
+    }
+}
+
+// The word operator or function that is the whole of a name, looked for in the table.
+fn find_reserved(name: &[u8]) -> Reserved
     ensures { λ r. ⌜ r ≡ reserved-found (find-word operators (now (name .entry))) ⌝ }
 {
     match tables::find(
@@ -413,6 +498,17 @@ pub fn reserved_word(name: &[u8]) -> Reserved
             }
         }
         Found::Nothing => Reserved::Nothing,
+    }
+}
+
+// The word operator or function that is the whole of a name.
+pub fn reserved_word(name: &[u8]) -> Reserved
+    ensures { λ r. ⌜ r ≡ reserved-found (find-word operators (now (name .entry))) ⌝ }
+{
+    if tables::may_reserve(tables::entry(name, 0, 0), name.len()) {
+        find_reserved(name)
+    } else {
+        Reserved::Nothing
     }
 }
 

@@ -1,14 +1,14 @@
-// The tables: what each token's word is, how long, where, and of what class; and the one search of words.
+// The tables: what each token's word is, how long and where; what a word may begin with; and the one search of words.
 ghost use mathlib.Core.Path.{_≡_};
 ghost use mathlib.Core.Bool.{_&&_, not};
 ghost use Prim.Native.Nat.{_+_, _≤_};
 ghost use lib.Dec.{eqb};
 ghost use lib.ListN.{length, getD, take, drop};
-ghost use Rattle.paper.specs.Bytes.{same};
+ghost use Rattle.paper.specs.Bytes.{same, letter?};
 ghost use Rattle.paper.specs.Words.{find-word};
 ghost use Rattle.tokens.specs.Tables.{total, words-of, token-found};
+ghost use Rattle.tokens.specs.Guards.{within, may-state, may-reserve};
 use crate::Found;
-use crate::class;
 
 // How many bytes of the fixed words are statement words.
 pub(crate) const STATEMENT_BYTES: usize = 223;
@@ -127,64 +127,6 @@ pub(crate) const STATEMENT_STARTS: [u8; 54] = [
     207,
     213,
     218,
-];
-
-// The class of each statement word, by its token.
-pub(crate) const STATEMENT_CLASSES: [u8; 54] = [
-    class::REMARK,
-    class::REMARK,
-    class::READ_INPUT,
-    class::UNFIT,
-    class::UNFIT,
-    class::UNFIT,
-    class::LET_WORD,
-    class::IF_WORD,
-    class::FOR_WORD,
-    class::NEXT_WORD,
-    class::JUMP,
-    class::UNFIT,
-    class::JUMP,
-    class::JUMP,
-    class::UNFIT,
-    class::UNFIT,
-    class::UNFIT,
-    class::UNFIT,
-    class::ALONE,
-    class::ALONE,
-    class::DIM_WORD,
-    class::ALONE,
-    class::UNFIT,
-    class::UNFIT,
-    class::UNFIT,
-    class::UNFIT,
-    class::UNFIT,
-    class::UNFIT,
-    class::UNFIT,
-    class::UNFIT,
-    class::ON_WORD,
-    class::POKE_WORD,
-    class::PRINT_WORD,
-    class::ALONE,
-    class::READ_INPUT,
-    class::RESTORE_WORD,
-    class::ALONE,
-    class::UNFIT,
-    class::ALONE,
-    class::ALONE,
-    class::PRINT_WORD,
-    class::UNFIT,
-    class::UNFIT,
-    class::UNFIT,
-    class::UNFIT,
-    class::UNFIT,
-    class::UNFIT,
-    class::UNFIT,
-    class::UNFIT,
-    class::UNFIT,
-    class::UNFIT,
-    class::UNFIT,
-    class::UNFIT,
-    class::UNFIT,
 ];
 
 // The first token that an operator's word has.
@@ -332,105 +274,54 @@ pub(crate) const OPERATOR_STARTS: [u8; 67] = [
     127,
 ];
 
-// The class of each operator or function, by its token from the first one on.
-pub(crate) const OPERATOR_CLASSES: [u8; 67] = [
-    class::COMMA,
-    class::UNFIT,
-    class::COLON,
-    class::SEMICOLON,
-    class::LINE_END,
-    class::GOTO_GOSUB,
-    class::GOTO_GOSUB,
-    class::TO_WORD,
-    class::STEP_WORD,
-    class::THEN_WORD,
-    class::UNFIT,
-    class::COMPARISON,
-    class::COMPARISON,
-    class::COMPARISON,
-    class::COMPARISON,
-    class::COMPARISON,
-    class::EQUALS,
-    class::FACTOR_SIGN,
-    class::FACTOR_SIGN,
-    class::PLUS_MINUS,
-    class::PLUS_MINUS,
-    class::FACTOR_SIGN,
-    class::NOT_WORD,
-    class::OR_AND,
-    class::OR_AND,
-    class::OPEN_SIGN,
-    class::CLOSE_SIGN,
-    class::UNFIT,
-    class::UNFIT,
-    class::UNFIT,
-    class::UNFIT,
-    class::UNFIT,
-    class::UNFIT,
-    class::UNFIT,
-    class::UNFIT,
-    class::UNFIT,
-    class::UNFIT,
-    class::UNFIT,
-    class::UNFIT,
-    class::UNFIT,
-    class::UNFIT,
-    class::UNFIT,
-    class::UNFIT,
-    class::STRING_FUNCTION,
-    class::STRING_FUNCTION,
-    class::UNFIT,
-    class::FUNCTION_OF_STRING,
-    class::FUNCTION_OF_STRING,
-    class::FUNCTION_OF_STRING,
-    class::UNFIT,
-    class::FUNCTION_OF_NUMBER,
-    class::FUNCTION_OF_NUMBER,
-    class::FUNCTION_OF_NUMBER,
-    class::FUNCTION_OF_NUMBER,
-    class::FUNCTION_OF_NUMBER,
-    class::FUNCTION_OF_NUMBER,
-    class::FUNCTION_OF_NUMBER,
-    class::FUNCTION_OF_NUMBER,
-    class::FUNCTION_OF_NUMBER,
-    class::FUNCTION_OF_NUMBER,
-    class::FUNCTION_OF_NUMBER,
-    class::FUNCTION_OF_NUMBER,
-    class::FUNCTION_OF_NUMBER,
-    class::UNFIT,
-    class::UNFIT,
-    class::UNFIT,
-    class::UNFIT,
-];
-
-// The first token that the grammar puts in the place of an earlier one.
-pub(crate) const FIRST_PLACED: u8 = 0x2D;
-
-// The earlier operator with the same spelling, by the token from the first placed one on.
-pub(crate) const READ_AS: [u8; 16] = [
-    0x22,
-    0x22,
-    0x1D,
-    0x1E,
-    0x1F,
-    0x20,
-    0x21,
-    0x22,
-    0x25,
-    0x26,
-    0x2B,
-    0x2B,
-    0x2B,
-    0x2B,
-    0x2B,
-    0x12,
-];
-
 // The entry of a table at a place, or another number past its end.
 pub(crate) fn entry(table: &[u8], i: usize, other: u8) -> u8
     ensures { λ r. ⌜ r ≡ getD (now (table .entry)) i other ⌝ }
 {
     if i < table.len() { table[i] } else { other }
+}
+
+// Whether a number is one from `low` to `high`.
+fn within(low: usize, high: usize, n: usize) -> bool
+    ensures { λ r. ⌜ r ≡ within low high n ⌝ }
+{
+    if n < low { false } else { n <= high }
+}
+
+// Whether a byte is no letter.
+fn no_letter(b: u8) -> bool
+    ensures { λ r. ⌜ r ≡ not (letter? b) ⌝ }
+{
+    if b < b'A' { true } else { b'Z' < b }
+}
+
+// Whether a statement word may begin with a byte and have a length; no word does where it may not.
+pub(crate) fn may_state(first: u8, size: usize) -> bool
+    ensures { λ r. ⌜ r ≡ may-state first size ⌝ }
+{
+    match first {
+        b'B' | b'F' | b'X' => size == 3,
+        b'T' => size == 4,
+        b'I' | b'O' => within(2, 5, size),
+        b'C' | b'E' | b'N' => within(3, 5, size),
+        b'D' | b'L' | b'R' => within(3, 7, size),
+        b'G' | b'P' | b'S' => within(3, 8, size),
+        _ => no_letter(first),
+    }
+}
+
+// Whether the word of an operator or function may begin with a byte and have a length; no word does where it may not.
+pub(crate) fn may_reserve(first: u8, size: usize) -> bool
+    ensures { λ r. ⌜ r ≡ may-reserve first size ⌝ }
+{
+    match first {
+        b'A' | b'E' | b'I' | b'L' | b'N' | b'R' | b'U' => size == 3,
+        b'C' | b'F' | b'V' => within(3, 4, size),
+        b'G' | b'P' => within(4, 6, size),
+        b'O' | b'T' => within(2, 4, size),
+        b'S' => within(3, 5, size),
+        _ => no_letter(first),
+    }
 }
 
 // Whether the word of `size` bytes at `from` is the whole of `name`: the lengths and the first bytes are compared before the rest.
