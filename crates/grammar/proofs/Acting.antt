@@ -12,10 +12,11 @@ use Rattle.grammar.specs.declared.Act.{Act}
 use Rattle.grammar.specs.declared.Act.the-variants as Act′
 use Rattle.grammar.specs.Stack.{stack, gives-of, Takes-at, Acts}
 use Rattle.grammar.proofs.Table.{frames-of, says?, says, refuses-so, leaves-so, TakesSo, takes-so, stacked}
-use Rattle.grammar.proofs.Tables.{acts, gives, starts, wants, right}
+use Rattle.grammar.specs.Tables.{acts}
+use Rattle.grammar.proofs.Tables.{gives, starts, wants, right}
 use Rattle.grammar.proofs.StackLaws.{acts-refused, acts-left, acts-took}
 
-module _ (f c x : ℕ) (h : c < 43) (e : x ≡ getD acts (f * 43 + c) 0) where
+module _ (f c x : ℕ) (h : c < 43) (e : x ≡ getD acts (f * 43 + c) 46) where
   told : T (says? gives starts wants x (look f c))
   told = subst (λ (n : ℕ). T (says? gives starts wants n (look f c))) (sym e) (says acts gives starts wants right f c h)
 

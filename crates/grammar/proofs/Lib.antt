@@ -1,4 +1,5 @@
 pub mod Table
 pub mod Tables
 pub mod StackLaws
+pub mod Places
 pub mod Acting

@@ -48,7 +48,7 @@ right-table? a g s w = eqb (length a) 1548 && everyAt (λ i x. says? g s w x (lo
 
 -- ---- from the test to the rule
 
-at-each : {A : Type 0} (p : ℕ → A → Bool) (d : A) (k : ℕ) (l : List A) → T (everyAt p k l) → (i : ℕ) → i < length l → T (p (k + i) (getD l i d))
+pub at-each : {A : Type 0} (p : ℕ → A → Bool) (d : A) (k : ℕ) (l : List A) → T (everyAt p k l) → (i : ℕ) → i < length l → T (p (k + i) (getD l i d))
 unfolding everyAt
 at-each p d k [] t i h = absurd (omega arith)
 at-each p d k (x ∷ l) t zero h = subst (λ (n : ℕ). T (p n x)) (sym (add-zero k)) (and-left (p k x) _ t)
@@ -72,14 +72,14 @@ unfolding find-row every
 rows-miss [] f c h t = refl
 rows-miss (r ∷ rs) f c h t = row-miss r f c (find-row rs may-be-empty f c) h (and-left (low-row? r) _ t) ∙ rows-miss rs f c h (and-right (low-row? r) _ t)
 
-not-among : (f : ℕ) (fs : List ℕ) → 36 ≤ f → T (every (λ x. ltb x 36) fs) → among f fs ≡ false
+pub not-among : (f : ℕ) (fs : List ℕ) → 36 ≤ f → T (every (λ x. ltb x 36) fs) → among f fs ≡ false
 unfolding among every
 not-among f [] h t = refl
 not-among f (x ∷ fs) h t =
     let l : x < 36 = ltb→lt x 36 (and-left (ltb x 36) _ t) in
     rw (ne-eqb f x (λ e. omega arith)) (not-among f fs h (and-right (ltb x 36) _ t))
 
-low-empty : T (every (λ x. ltb x 36) may-be-empty)
+pub low-empty : T (every (λ x. ltb x 36) may-be-empty)
 unfolding all-Bytes all-Grammar
 low-empty = tt
 
@@ -88,39 +88,39 @@ look-high : (f c : ℕ) → 36 ≤ f → look f c ≡ refuse 4
 unfolding look no-row
 look-high f c h = rows-miss grammar f c h low-rows ∙ ap no-row (not-among f may-be-empty h low-empty)
 
-none-refuses : (g s w : List ℕ) → T (says? g s w 0 (refuse 4))
+none-refuses : (g s w : List ℕ) → T (says? g s w 46 (refuse 4))
 unfolding says?
 none-refuses g s w = tt
 
 -- what the test says of one act
-pub says : (a g s w : List ℕ) → T (right-table? a g s w) → (f c : ℕ) → c < 43 → T (says? g s w (getD a (f * 43 + c) 0) (look f c))
+pub says : (a g s w : List ℕ) → T (right-table? a g s w) → (f c : ℕ) → c < 43 → T (says? g s w (getD a (f * 43 + c) 46) (look f c))
 unfolding right-table?
 says a g s w t f c h = go (ltb f 36) refl
   where
     size : length a ≡ 1548
     size = eqb→eq (length a) 1548 (and-left (eqb (length a) 1548) _ t)
 
-    low : f < 36 → T (says? g s w (getD a (f * 43 + c) 0) (look f c))
+    low : f < 36 → T (says? g s w (getD a (f * 43 + c) 46) (look f c))
     low l =
         let i : ℕ = f * 43 + c in
         let k : i / 43 ≡ f = omega arith in
         let m : i % 43 ≡ c = omega arith in
         let z : 0 + i ≡ i = omega arith in
-        let r : T (says? g s w (getD a i 0) (look (i / 43) (i % 43))) =
-        subst (λ (n : ℕ). T (says? g s w (getD a i 0) (look (n / 43) (n % 43)))) z
-        (at-each (λ i x. says? g s w x (look (i / 43) (i % 43))) 0 0 a (and-right (eqb (length a) 1548) _ t) i (omega (arith, size))) in
-        subst (λ (n : ℕ). T (says? g s w (getD a i 0) (look f n))) m (subst (λ (n : ℕ). T (says? g s w (getD a i 0) (look n (i % 43)))) k r)
+        let r : T (says? g s w (getD a i 46) (look (i / 43) (i % 43))) =
+        subst (λ (n : ℕ). T (says? g s w (getD a i 46) (look (n / 43) (n % 43)))) z
+        (at-each (λ i x. says? g s w x (look (i / 43) (i % 43))) 46 0 a (and-right (eqb (length a) 1548) _ t) i (omega (arith, size))) in
+        subst (λ (n : ℕ). T (says? g s w (getD a i 46) (look f n))) m (subst (λ (n : ℕ). T (says? g s w (getD a i 46) (look n (i % 43)))) k r)
 
-    high : 36 ≤ f → T (says? g s w (getD a (f * 43 + c) 0) (look f c))
+    high : 36 ≤ f → T (says? g s w (getD a (f * 43 + c) 46) (look f c))
     high l =
         let o : length a ≤ f * 43 + c = omega (arith, size) in
-        let z : getD a (f * 43 + c) 0 ≡ 0 = List·getD-eq-default a 0 o in
-        subst (λ (n : ℕ). T (says? g s w n (look f c))) (sym z) (subst (λ (r : Act Gives). T (says? g s w 0 r)) (sym (look-high f c l)) none)
+        let z : getD a (f * 43 + c) 46 ≡ 46 = List·getD-eq-default a 46 o in
+        subst (λ (n : ℕ). T (says? g s w n (look f c))) (sym z) (subst (λ (r : Act Gives). T (says? g s w 46 r)) (sym (look-high f c l)) none)
       where
-        none : T (says? g s w 0 (refuse 4))
+        none : T (says? g s w 46 (refuse 4))
         none = none-refuses g s w
 
-    go : (b : Bool) → ltb f 36 ≡ b → T (says? g s w (getD a (f * 43 + c) 0) (look f c))
+    go : (b : Bool) → ltb f 36 ≡ b → T (says? g s w (getD a (f * 43 + c) 46) (look f c))
     go true e = low (ltb-true f 36 e)
     go false e = high (ltb-false f 36 e)
 
