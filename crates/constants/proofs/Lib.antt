@@ -1,8 +1,3 @@
-pub mod Powers
-pub mod Values
-pub mod TenDigits
-pub mod Places
-pub mod Outcomes
 pub mod TextDigits
 pub mod TextShapes
 pub mod TextWrites

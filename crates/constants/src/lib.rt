@@ -1,61 +1,18 @@
-// Constants: the text of a number as six bytes, six bytes that are right, and six bytes as text.
+// Constants: six bytes that are right, and six bytes as text.
 ghost use mathlib.Core.Path.{_≡_};
 ghost use lib.ListN.{length, take, drop};
 ghost use lib.Seq.{sets};
 ghost use Rattle.paper.specs.Constants.{right-constant?, constant-text};
-ghost use Rattle.constants.specs.Numerals.{Written, numeral-six};
 ghost use Rattle.constants.specs.Texts.{six-here};
 
 mod decimals;
-mod numerals;
 mod texts;
-
-// A number that is not zero is in range from 10 to the power of -98 on, and below 10 to the power of 98.
-const RANGE: usize = 98;
 
 // The first byte of a constant that is not zero is 64 and its power of a hundred: -49 at least.
 const FIRST_LEAST: u8 = 0x0f;
 
 // And 48 at most.
 const FIRST_MOST: u8 = 0x70;
-
-// A number's text as it was found: `whole` digits at the front, then, if there is a point, the point and `fraction` digits; the
-// exponent's sign (`down`: a minus) and its value, 0 without one.
-pub struct Numeral {
-    pub whole: usize,
-    pub fraction: usize,
-    pub down: bool,
-    pub power: u8,
-}
-
-// The six bytes of a number; all 0 if it is out of range.
-pub struct Six {
-    pub in_range: bool,
-    pub bytes: [u8; 6],
-}
-
-// The six bytes of the number at the front of a text, where its digits were found. The range is tested on the value as it is written;
-// digits after the tenth are cut.
-pub fn six_bytes(text: &[u8], n: Numeral) -> Six
-    requires { ⌜ Written (now text) n ⌝ }
-    ensures { λ r. ⌜ r ≡ numeral-six (now (text .entry)) n ⌝ }
-{
-    let count = n.whole + n.fraction;
-    let first = numerals::leading(text, n);
-    if count <= first {
-        return numerals::zeros(true);
-    }
-    // The value is at least 10 to the power of `up - down`, and below ten times that.
-    let up = count - 1 - first + numerals::up(n);
-    let down = numerals::down(n);
-    if up + RANGE < down {
-        return numerals::zeros(false);
-    }
-    if RANGE + down <= up {
-        return numerals::zeros(false);
-    }
-    numerals::six_from(text, n, first, up + RANGE - down)
-}
 
 // Whether six bytes stand at a place, and are those of a constant: zero, or a power byte and five bytes of decimal digits.
 pub fn is_right(s: &[u8], at: usize) -> bool

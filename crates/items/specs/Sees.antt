@@ -8,7 +8,7 @@ use Rattle.paper.specs.Bytes.{every, run, blank?}
 use Rattle.paper.specs.Classes.{line-end}
 use Rattle.paper.specs.Tokens.{Token, by-kind, class}
 use Rattle.buffers.specs.Runs.{low?}
-use Rattle.constants.specs.Numerals.{Written}
+use Rattle.numerals.specs.Numerals.{Written}
 use Rattle.items.specs.declared.Item.{Item}
 use Rattle.items.specs.declared.Kind.{Kind}
 use Rattle.items.specs.declared.Kind.the-variants.{Numeric, Text, Array, Number, Quoted, Operator, Function, Statement, End, Bad}

@@ -11,7 +11,7 @@ use Rattle.paper.specs.Words.{Found, found, nowhere, find-word, statements, ope
 use Rattle.paper.specs.Tokens.{statement, operator, string, unreadable}
 use Rattle.paper.specs.Constants.{value, constant-of}
 use Rattle.paper.specs.Items.{Item, item, statement-or, operator-or, variable-at, name-token, name-at, sign-size, power-size, with-power, number-at, string-byte?, string-at, symbol-or, symbol-at, item-at}
-use Rattle.constants.specs.Numerals.{digits-in, numeral-token}
+use Rattle.numerals.specs.Numerals.{digits-in, numeral-token}
 use Rattle.items.specs.declared.Kind.{Kind}
 use Rattle.items.specs.declared.Kind.the-variants.{Numeric, Text, Array, Number, Quoted, Operator, Function, Statement, Bad}
 use Rattle.items.specs.Token.{token-of}

@@ -18,8 +18,8 @@ use Rattle.laws.specs.Tests.{is-true}
 use Rattle.buffers.specs.Runs.{low?, run-on, run-within}
 use Rattle.tokens.specs.Same.{no-bool}
 use Rattle.tokens.specs.Words.{found-spelling, found-token}
-use Rattle.constants.specs.declared.Numeral.{Numeral}
-use Rattle.constants.specs.Numerals.{digits-in, numeral-token}
+use Rattle.numerals.specs.declared.Numeral.{Numeral}
+use Rattle.numerals.specs.Numerals.{digits-in, numeral-token}
 use Rattle.items.specs.declared.Exponent.{Exponent}
 use Rattle.items.specs.declared.Kind.{Kind}
 use Rattle.items.specs.declared.Kind.the-variants.{Numeric, Text, Array, Quoted, Operator, Function, Statement, Bad}

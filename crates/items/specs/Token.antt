@@ -5,7 +5,7 @@ use mathlib.Core.List.{List, [], _∷_, _++_}
 use lib.ListN.{take, drop}
 use Rattle.paper.specs.Tokens.{Token, statement, operator, string, unreadable}
 use Rattle.paper.specs.Items.{variable-at}
-use Rattle.constants.specs.Numerals.{numeral-token}
+use Rattle.numerals.specs.Numerals.{numeral-token}
 use Rattle.items.specs.declared.Kind.{Kind}
 use Rattle.items.specs.declared.Kind.the-variants.{Numeric, Text, Array, Number, Quoted, Operator, Function, Statement, End, Bad}
 

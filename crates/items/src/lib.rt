@@ -7,7 +7,7 @@ use buffers::Run;
 use buffers::byte_at;
 use buffers::is_letter;
 use buffers::run_end;
-use constants::Numeral;
+use numerals::Numeral;
 use tokens::FunctionToken;
 use tokens::OperatorToken;
 use tokens::StatementToken;

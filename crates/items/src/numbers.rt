@@ -6,7 +6,7 @@ use buffers::Run;
 use buffers::byte_at;
 use buffers::is_digit;
 use buffers::run_end;
-use constants::Numeral;
+use numerals::Numeral;
 ghost use mathlib.Core.Path.{_≡_};
 ghost use mathlib.Core.Bool.{_&&_, _||_};
 ghost use Prim.Native.Nat.{suc, _-_, _<_};

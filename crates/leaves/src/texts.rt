@@ -4,10 +4,10 @@ use buffers::front;
 use console::print;
 use console::print_hex;
 use console::print_number;
-use constants::Six;
 use items::Item;
 use items::Kind;
 use items::next_item;
+use numerals::Six;
 use tokens::Reserved;
 use tokens::Statement;
 use tokens::class;
@@ -40,7 +40,7 @@ fn print_constant(text: &[u8]) {
     let at = item.at;
     let end = item.end;
     if let Kind::Number(n) = kind {
-        let six = constants::six_bytes(&text[at..], n);
+        let six = numerals::six_bytes(&text[at..], n);
         print(&text[at..end]);
         print(b"\t");
         print_six(six);

@@ -14,8 +14,8 @@ use Rattle.paper.specs.Words.{word-of, statements}
 use Rattle.paper.specs.Items.{variable-at}
 use Rattle.laws.specs.Names.{plain-name, some-plain, every-append}
 use Rattle.buffers.specs.Runs.{low?}
-use Rattle.constants.specs.Numerals.{Written, digits-in, numeral-token}
-use Rattle.constants.specs.declared.Numeral.{Numeral}
+use Rattle.numerals.specs.Numerals.{Written, digits-in, numeral-token}
+use Rattle.numerals.specs.declared.Numeral.{Numeral}
 use Rattle.items.specs.Token.{token-of}
 use Rattle.items.specs.Kinds.{class-of}
 use Rattle.items.specs.Sees.{Holds, Named}

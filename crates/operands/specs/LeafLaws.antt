@@ -18,10 +18,10 @@ use Rattle.paper.specs.Grammar.{Gives, itself, given}
 use Rattle.paper.specs.Line.{begins?}
 use Rattle.laws.specs.Names.{names-added, name-added, add-append, closed?, closed-append, closed-names, plain-name, names-of-more, name-bytes-append, length-marked}
 use Rattle.buffers.specs.Sets.{written as read-back}
-use Rattle.constants.specs.Numerals.{Written, digits-in, up, down, six-if, zeros-if, six-of, numeral-six, numeral-token, token-of-six}
-use Rattle.constants.specs.Laws.{six-token}
-use Rattle.constants.specs.declared.Numeral.{Numeral}
-use Rattle.constants.specs.declared.Six.{Six}
+use Rattle.numerals.specs.Numerals.{Written, digits-in, up, down, six-if, zeros-if, six-of, numeral-six, numeral-token, token-of-six}
+use Rattle.numerals.specs.Laws.{six-token}
+use Rattle.numerals.specs.declared.Numeral.{Numeral}
+use Rattle.numerals.specs.declared.Six.{Six}
 use Rattle.items.specs.Sees.{Sees, token-at}
 use Rattle.items.specs.declared.Item.{Item as Found}
 use Rattle.names.specs.Tables.{spelled}

@@ -1,6 +1,6 @@
 // What a kind of item tells: how long a name, number or string is, and the number of a token.
-use constants::Numeral;
 use items::Kind;
+use numerals::Numeral;
 use tokens::OperatorToken;
 ghost use mathlib.Core.Path.{_≡_};
 ghost use Rattle.operands.specs.KindLaws.{name-length, array?, numeral-of, quoted-length, own-kind, no-numeral};

@@ -145,7 +145,7 @@ pub fn constant(
     let written = q.written;
     let kind = it.kind;
     let place = offset + at;
-    let six = constants::six_bytes(&part[at..], kinds::numeral_of(kind));
+    let six = numerals::six_bytes(&part[at..], kinds::numeral_of(kind));
     if six.in_range {
         let bytes = six.bytes;
         buffers::put(line, written, OperatorToken::NUMBER.0);

@@ -17,7 +17,7 @@ use Rattle.operands.proofs.constant.Reads as reads
 use Rattle.operands.proofs.constant.Lts as lts
 use Rattle.buffers.proofs.copy.Reads as copy-reads
 use Rattle.buffers.proofs.put.Reads as put-reads
-use Rattle.constants.proofs.six_bytes.Reads as six-bytes-reads
+use Rattle.numerals.proofs.six_bytes.Reads as six-bytes-reads
 use Rattle.operands.proofs.kinds.numeral_of.Reads as numeral-of-reads
 
 -- src/lib.rt:162:17

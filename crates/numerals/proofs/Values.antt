@@ -12,8 +12,8 @@ use Rattle.laws.specs.Tests.{and-left, and-right, as-T}
 use Rattle.laws.specs.Runs.{All}
 use Rattle.paper.specs.Bytes.{pick, run, digit?}
 use Rattle.paper.specs.Constants.{value}
-use Rattle.constants.specs.Numerals.{nought?}
-use Rattle.constants.proofs.Powers.{ten-pos}
+use Rattle.numerals.specs.Numerals.{nought?}
+use Rattle.numerals.proofs.Powers.{ten-pos}
 
 -- a digit is at most 9
 pub digit-most : (x : ℕ) → digit? x ≡ true → x - 48 ≤ 9

@@ -7,11 +7,11 @@ use mathlib.Core.List.{List}
 use lib.ListN.{length}
 use Rattle.paper.specs.Bytes.{run}
 use Rattle.paper.specs.Constants.{value}
-use Rattle.constants.specs.declared.Numeral.{Numeral}
-use Rattle.constants.specs.declared.Six.{Six}
-use Rattle.constants.specs.Numerals.{Written, digits-in, nought?, up, down, zeros-if, six-from, numeral-six}
-use Rattle.constants.proofs.Places.{all-digits, count}
-use Rattle.constants.proofs.TenDigits.{six-zero, six-low, six-high, six-within}
+use Rattle.numerals.specs.declared.Numeral.{Numeral}
+use Rattle.numerals.specs.declared.Six.{Six}
+use Rattle.numerals.specs.Numerals.{Written, digits-in, nought?, up, down, zeros-if, six-from, numeral-six}
+use Rattle.numerals.proofs.Places.{all-digits, count}
+use Rattle.numerals.proofs.TenDigits.{six-zero, six-low, six-high, six-within}
 
 module _ (s : List ℕ) (n : Numeral) (w : Written s n) {z : ℕ} (e : z ≡ run nought? (digits-in s n)) where
   -- only zeros

@@ -2,11 +2,11 @@
 use borrow.Author.Needs.{needs}
 use native.Mathlib.Omega.{arith}
 use Prim.Native.Nat.{_+_}
-use Rattle.constants.specs.Numerals.{digits-in, pair-at}
-use Rattle.constants.proofs.Places.{all-digits}
-use Rattle.constants.proofs.TenDigits.{digit-at-most}
-use Rattle.constants.proofs.numerals.pair.Statement.{statement}
-use Rattle.constants.proofs.numerals.pair.Tie as tie
+use Rattle.numerals.specs.Numerals.{digits-in, pair-at}
+use Rattle.numerals.proofs.Places.{all-digits}
+use Rattle.numerals.proofs.TenDigits.{digit-at-most}
+use Rattle.numerals.proofs.digits.pair.Statement.{statement}
+use Rattle.numerals.proofs.digits.pair.Tie as tie
 
 digit-requires : tie.Need-digit-requires
 digit-requires c κs = search needs

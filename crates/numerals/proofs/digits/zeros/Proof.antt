@@ -1,9 +1,9 @@
 -- `zeros` meets its contract by computing.
 use mathlib.Core.Path.{refl}
 use Rattle.paper.specs.Constants.{zero-bytes}
-use Rattle.constants.specs.Numerals.{zeros-if}
-use Rattle.constants.proofs.numerals.zeros.Statement.{statement}
-use Rattle.constants.proofs.numerals.zeros.Tie as tie
+use Rattle.numerals.specs.Numerals.{zeros-if}
+use Rattle.numerals.proofs.digits.zeros.Statement.{statement}
+use Rattle.numerals.proofs.digits.zeros.Tie as tie
 
 returns : tie.Need-returns
 unfolding zeros-if zero-bytes

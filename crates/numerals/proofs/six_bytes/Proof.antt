@@ -1,9 +1,9 @@
 -- `six_bytes` meets its contract: zero, below the range, above it, and within it.
 use borrow.Author.Needs.{needs}
 use native.Mathlib.Omega.{arith}
-use Rattle.constants.proofs.Outcomes.{numeral-zero, numeral-low, numeral-high, numeral-within}
-use Rattle.constants.proofs.six_bytes.Statement.{statement}
-use Rattle.constants.proofs.six_bytes.Tie as tie
+use Rattle.numerals.proofs.Outcomes.{numeral-zero, numeral-low, numeral-high, numeral-within}
+use Rattle.numerals.proofs.six_bytes.Statement.{statement}
+use Rattle.numerals.proofs.six_bytes.Tie as tie
 
 add-count : tie.Need-add-count
 add-count c = search needs

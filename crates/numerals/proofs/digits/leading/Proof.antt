@@ -4,10 +4,10 @@ use Prim.Native.Nat.{_+_, _-_, _≤_}
 use mathlib.Core.Path.{_≡_, refl}
 use lib.ListN.{length, drop}
 use Rattle.paper.specs.Bytes.{run}
-use Rattle.constants.specs.Numerals.{digits-in, nought?}
-use Rattle.constants.proofs.Places.{count, one-more, no-more, all-noughts}
-use Rattle.constants.proofs.numerals.leading.Statement.{statement}
-use Rattle.constants.proofs.numerals.leading.Tie as tie
+use Rattle.numerals.specs.Numerals.{digits-in, nought?}
+use Rattle.numerals.proofs.Places.{count, one-more, no-more, all-noughts}
+use Rattle.numerals.proofs.digits.leading.Statement.{statement}
+use Rattle.numerals.proofs.digits.leading.Tie as tie
 
 abbrev Inv-loop : tie.InvT-loop
 Inv-loop text n count i₀ i = (i ≤ count) × (run nought? (digits-in text n) ≡ i + run nought? (drop i (digits-in text n)))

@@ -1,8 +1,8 @@
 -- `digit` meets its contract: the digit before the point, after it, or past the last.
 use borrow.Author.Needs.{needs}
-use Rattle.constants.proofs.Places.{whole-low, fraction-low, whole-digit, fraction-digit, past-digit}
-use Rattle.constants.proofs.numerals.digit.Statement.{statement}
-use Rattle.constants.proofs.numerals.digit.Tie as tie
+use Rattle.numerals.proofs.Places.{whole-low, fraction-low, whole-digit, fraction-digit, past-digit}
+use Rattle.numerals.proofs.digits.digit.Statement.{statement}
+use Rattle.numerals.proofs.digits.digit.Tie as tie
 
 shared-slice-read-result : tie.Need-shared-slice-read-result
 shared-slice-read-result c = search needs

@@ -1,9 +1,9 @@
 -- `down` meets its contract: one answer for each sign.
 use borrow.Author.Needs.{needs}
 use native.Mathlib.Omega.{arith}
-use Rattle.constants.specs.Numerals.{down}
-use Rattle.constants.proofs.numerals.down.Statement.{statement}
-use Rattle.constants.proofs.numerals.down.Tie as tie
+use Rattle.numerals.specs.Numerals.{down}
+use Rattle.numerals.proofs.digits.down.Statement.{statement}
+use Rattle.numerals.proofs.digits.down.Tie as tie
 
 cast-result : tie.Need-cast-result
 cast-result c = search needs

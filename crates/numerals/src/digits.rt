@@ -3,7 +3,7 @@ ghost use mathlib.Core.Path.{_≡_};
 ghost use Prim.Native.Nat.{_+_, _^_, _≤_, _<_};
 ghost use lib.ListN.{length};
 ghost use Rattle.paper.specs.Bytes.{run};
-ghost use Rattle.constants.specs.Numerals.{Written, digits-in, digit-at, pair-at, nought?, up, down, bytes-with, six-from, zeros-if};
+ghost use Rattle.numerals.specs.Numerals.{Written, digits-in, digit-at, pair-at, nought?, up, down, bytes-with, six-from, zeros-if};
 use super::Numeral;
 use super::Six;
 

@@ -14,10 +14,10 @@ use borrow.Author.Tests.{lt-leb, le-leb, lt-ltb, le-ltb, ne-eqb, eqb-true, eqb-f
 use Rattle.laws.specs.Runs.{All, all-drop}
 use Rattle.paper.specs.Bytes.{pick, run, digit?}
 use Rattle.paper.specs.Constants.{value, in-range, six, five, decimal-byte, zero-bytes}
-use Rattle.constants.specs.declared.Six.{Six}
-use Rattle.constants.specs.Numerals.{digit-at, pair-at, nought?, bytes-with, six-from, zeros-if, six-if, six-of}
-use Rattle.constants.proofs.Powers.{pow-add, ten-pos, quotient-is, six-is}
-use Rattle.constants.proofs.Values.{digit-most, value-below, value-least, value-skip, skipped, cut, cut-is}
+use Rattle.numerals.specs.declared.Six.{Six}
+use Rattle.numerals.specs.Numerals.{digit-at, pair-at, nought?, bytes-with, six-from, zeros-if, six-if, six-of}
+use Rattle.numerals.proofs.Powers.{pow-add, ten-pos, quotient-is, six-is}
+use Rattle.numerals.proofs.Values.{digit-most, value-below, value-least, value-skip, skipped, cut, cut-is}
 
 -- ---- digits at places
 

@@ -1,10 +1,10 @@
 -- `six_from` meets its contract: one answer for an even power of ten, and one for an odd one.
 use borrow.Author.Needs.{needs}
 use borrow.Author.Tests.{eq-eqb, ne-eqb}
-use Rattle.constants.specs.Numerals.{six-from}
-use Rattle.constants.proofs.TenDigits.{made}
-use Rattle.constants.proofs.numerals.six_from.Statement.{statement}
-use Rattle.constants.proofs.numerals.six_from.Tie as tie
+use Rattle.numerals.specs.Numerals.{six-from}
+use Rattle.numerals.proofs.TenDigits.{made}
+use Rattle.numerals.proofs.digits.six_from.Statement.{statement}
+use Rattle.numerals.proofs.digits.six_from.Tie as tie
 
 add-power : tie.Need-add-power
 add-power c = search needs

@@ -1,9 +1,9 @@
 -- `up` meets its contract: one answer for each sign.
 use borrow.Author.Needs.{needs}
 use native.Mathlib.Omega.{arith}
-use Rattle.constants.specs.Numerals.{up}
-use Rattle.constants.proofs.numerals.up.Statement.{statement}
-use Rattle.constants.proofs.numerals.up.Tie as tie
+use Rattle.numerals.specs.Numerals.{up}
+use Rattle.numerals.proofs.digits.up.Statement.{statement}
+use Rattle.numerals.proofs.digits.up.Tie as tie
 
 cast-result : tie.Need-cast-result
 cast-result c = search needs

@@ -1,7 +1,7 @@
 -- `bytes_with` meets its contract: four pairs, each as `pair` gives it.
 use borrow.Author.Needs.{needs}
-use Rattle.constants.proofs.numerals.bytes_with.Statement.{statement}
-use Rattle.constants.proofs.numerals.bytes_with.Tie as tie
+use Rattle.numerals.proofs.digits.bytes_with.Statement.{statement}
+use Rattle.numerals.proofs.digits.bytes_with.Tie as tie
 
 pair-requires : tie.Need-pair-requires
 pair-requires c κs = search needs

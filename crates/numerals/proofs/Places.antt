@@ -12,8 +12,8 @@ use Rattle.laws.specs.Tests.{and-left, as-T}
 use Rattle.laws.specs.Runs.{All, all-every}
 use Rattle.paper.specs.Bytes.{run, digit?, every}
 use Rattle.buffers.specs.Runs.{run-on, run-off, run-past}
-use Rattle.constants.specs.declared.Numeral.{Numeral}
-use Rattle.constants.specs.Numerals.{Written, digits-in, digit-at, nought?}
+use Rattle.numerals.specs.declared.Numeral.{Numeral}
+use Rattle.numerals.specs.Numerals.{Written, digits-in, digit-at, nought?}
 
 -- inside a list what stands past its end does not matter
 pub any-default : (l : List ℕ) (i a b : ℕ) → i < length l → getD l i a ≡ getD l i b

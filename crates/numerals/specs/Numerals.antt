@@ -8,8 +8,8 @@ use lib.ListN.{length, take, drop, getD}
 use Rattle.paper.specs.Bytes.{pick, digit?, every}
 use Rattle.paper.specs.Tokens.{Token, constant, out-of-range}
 use Rattle.paper.specs.Constants.{value, in-range, zero-bytes, six, constant-of}
-use Rattle.constants.specs.declared.Numeral.{Numeral}
-use Rattle.constants.specs.declared.Six.{Six}
+use Rattle.numerals.specs.declared.Numeral.{Numeral}
+use Rattle.numerals.specs.declared.Six.{Six}
 
 -- the digits before the point, and those after it
 unfoldable pub digits-in : List ℕ → Numeral → List ℕ

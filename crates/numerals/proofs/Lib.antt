@@ -1,0 +1,5 @@
+pub mod Powers
+pub mod Values
+pub mod TenDigits
+pub mod Places
+pub mod Outcomes
