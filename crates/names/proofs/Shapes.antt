@@ -1,16 +1,14 @@
 -- What a name may be, from its bytes before its last and its last: its shape, the name less its `(`, words.
-use Prim.Native.Nat.{ℕ, zero, suc, _+_, _-_, _≤_, _<_}
+use Prim.Native.Nat.{ℕ, zero, suc, _+_, _≤_, _<_}
 use native.Mathlib.Omega.{arith}
 use mathlib.Core.Path.{_≡_, refl, sym, ap, _∙_}
-use mathlib.Core.Bool.{Bool, true, false, not, _&&_, _||_}
-use mathlib.Core.Logic.{inl, inr}
+use mathlib.Core.Bool.{Bool, true, false, _&&_, _||_}
 use mathlib.Core.List.{List, [], _∷_, _++_}
 use lib.Dec.{leb, ltb, eqb}
 use lib.ListN.{length, take, drop, getD, set, length-append}
-use lib.Seq.{sets, getD-append-add}
-use types.Run.{OneOf}
-use borrow.Author.Tests.{eq-eqb, ne-eqb, eqb-true, lt-leb}
-use Rattle.paper.specs.Bytes.{pick, letter?, letter-or-digit?, run, same, every, among, bytes}
+use lib.Seq.{sets}
+use borrow.Author.Tests.{eq-eqb, ne-eqb, leb-true}
+use Rattle.paper.specs.Bytes.{pick, letter?, letter-or-digit?, run, same, every, bytes}
 use Rattle.paper.specs.Words.{Word, word, Found, found, nowhere, find-word, found?, statements, operators, read-operators, functions, placed-operators, reserved?, statement-word?}
 use Rattle.paper.specs.Names.{name-end?, name?, less-open}
 use Rattle.buffers.specs.Sets.{sets-append, front}
@@ -23,12 +21,7 @@ use Rattle.tokens.specs.declared.Reserved.{Reserved}
 use Rattle.tokens.specs.declared.Reserved.the-variants.{Operator, Function, Nothing as NotReserved}
 use Rattle.tokens.specs.Tables.{statement-found, reserved-found}
 use Rattle.laws.specs.Names.{same-ne, every-first, every-rest}
-use Rattle.names.specs.Words.{last-of, ends, twos, word-ends}
 use Rattle.names.specs.Answers.{Bare}
-
-and-first : (a b : Bool) → a && b ≡ true → a ≡ true
-and-first true b h = refl
-and-first false b h = h
 
 -- ---- the shape
 
@@ -126,112 +119,35 @@ bare-other xs last {mid} {word} old h d e k =
       bytes = λ f. ap (λ (j : ℕ). take j word) (sym n) ∙ ap (take (length (xs ++ last ∷ []))) w ∙ front old (xs ++ last ∷ []) (omega arith) ∙ sym less;
     }
 
--- a letter that begins a name begins it less its `(`
-bare-first : (front : List ℕ) (last : ℕ) → letter? (getD (front ++ last ∷ []) 0 0) ≡ true → getD (less-open (front ++ last ∷ [])) 0 0 ≡ getD (front ++ last ∷ []) 0 0
-unfolding less-open letter?
-bare-first [] last h = go (eqb last 40) refl
-  where
-    go : (t : Bool) → eqb last 40 ≡ t → getD (pick t [] (last ∷ [])) 0 0 ≡ last
-    go true e = let z : _≡_ {A = ℕ} 0 1 = bools (sym (rw (eqb-true last 40 e) at h)) in absurd (omega arith)
-      where
-        bools : true ≡ false → _≡_ {A = ℕ} 0 1
-        bools e = cc
-    go false e = refl
-bare-first (x ∷ []) last h = refl
-bare-first (x ∷ y ∷ ys) last h = refl
-
 -- ---- words
 
--- a spelling that fails a test that every word of a table passes is none of them
-none-such : (q : List ℕ → Bool) (ws : List Word) (s : List ℕ) → every (λ w. q (w .spelling)) ws ≡ true → q s ≡ false → find-word ws s ≡ nowhere
-unfolding find-word
-none-such q [] s h f = refl
-none-such q (w ∷ ws) s h f =
-    let other : same (w .spelling) s ≡ false = same-ne (w .spelling) s (λ e.
-    let z : _≡_ {A = ℕ} 0 1 = bools (sym (every-first (λ w. q (w .spelling)) w ws h) ∙ ap q e ∙ f) in omega arith) in
-    rw (other) (none-such q ws s (every-rest (λ w. q (w .spelling)) w ws h) f)
-  where
-    bools : true ≡ false → _≡_ {A = ℕ} 0 1
-    bools e = cc
+short? : ℕ → Word → Bool
+short? k w = leb (length (w .spelling)) k
 
--- a number that a `match` finds among others, or not
-pub one-among : (x : ℕ) (ks : List ℕ) → OneOf ks x → true ≡ among x ks
-unfolding among
-one-among x [] h = absurd h
-one-among x (k ∷ []) h = rw (eq-eqb x k h)
-one-among x (k ∷ j ∷ ks) (inl h) = rw (eq-eqb x k h)
-one-among x (k ∷ j ∷ ks) (inr h) = rw (sym (one-among x (j ∷ ks) h)) (sym (either (eqb x k)))
-  where
-    either : (t : Bool) → t || true ≡ true
-    either true = refl
-    either false = refl
+-- a spelling longer than every word of a table is none of them
+none-so-long : (k : ℕ) (ws : List Word) (s : List ℕ) → every (short? k) ws ≡ true → k < length s → find-word ws s ≡ nowhere
+unfolding find-word short?
+none-so-long k [] s h l = refl
+none-so-long k (w ∷ ws) s h l =
+    let less = leb-true (length (w .spelling)) k (every-first (short? k) w ws h) in
+    let other : same (w .spelling) s ≡ false = same-ne (w .spelling) s (λ e. let z : length (w .spelling) ≡ length s = ap length e in omega arith) in
+    rw (other) (none-so-long k ws s (every-rest (short? k) w ws h) l)
 
-pub none-among : (x : ℕ) (ks : List ℕ) → (OneOf ks x → ⊥) → false ≡ among x ks
-unfolding among
-none-among x [] h = refl
-none-among x (k ∷ []) h = rw (ne-eqb x k h)
-none-among x (k ∷ j ∷ ks) h = rw (ne-eqb x k (λ e. h (inl e))) (none-among x (j ∷ ks) (λ e. h (inr e)))
-
--- a spelling that a word may have
-short? : List ℕ → Bool
-short? s = leb (length s) 8
-
-short-operators : every (λ w. short? (w .spelling)) operators ≡ true
+short-operators : every (short? 8) operators ≡ true
 unfolding every short? operators read-operators functions placed-operators word bytes
 short-operators = refl
 
-short-statements : every (λ w. short? (w .spelling)) statements ≡ true
+short-statements : every (short? 8) statements ≡ true
 unfolding every short? statements word bytes
 short-statements = refl
 
--- a sign, or bytes that begin and end as a word does
-word-like? : List ℕ → Bool
-word-like? s = not (letter? (getD s 0 0)) || among (ends (getD s 0 0) (last-of s)) word-ends
-
-word-like-operators : every (λ w. word-like? (w .spelling)) operators ≡ true
-unfolding every word-like? last-of word-ends twos among letter? operators read-operators functions placed-operators word bytes
-word-like-operators = refl
-
 pub long-reserved : (s : List ℕ) → 8 < length s → false ≡ reserved? s
-unfolding reserved? found? short?
-long-reserved s h = sym (rw (none-such short? operators s short-operators (lt-leb (length s) 8 h)))
+unfolding reserved? found?
+long-reserved s h = sym (rw (none-so-long 8 operators s short-operators h))
 
 pub long-statement : (s : List ℕ) → 8 < length s → false ≡ statement-word? s
-unfolding statement-word? found? short?
-long-statement s h = sym (rw (none-such short? statements s short-statements (lt-leb (length s) 8 h)))
-
--- the last byte of a name less its `(`
-last-behind : (xs : List ℕ) (x : ℕ) → last-of (xs ++ x ∷ []) ≡ x
-unfolding last-of
-last-behind xs x =
-    let z : length (xs ++ x ∷ []) - 1 ≡ length xs + 0 = omega (arith, length-append xs (x ∷ [])) in
-    ap (λ (i : ℕ). getD (xs ++ x ∷ []) i 0) z ∙ getD-append-add xs (x ∷ []) 0 0
-
-module _ (front : List ℕ) (last : ℕ) where
-  pub bare-ends-other : (last ≡ 40 → ⊥) → last ≡ last-of (less-open (front ++ last ∷ []))
-  bare-ends-other h = sym (ap last-of (bare-last front last ∙ rw (ne-eqb last 40 h)) ∙ last-behind front last)
-
-  pub bare-ends-array : last ≡ 40 → getD front (length front - 1) 0 ≡ last-of (less-open (front ++ last ∷ []))
-  unfolding last-of
-  bare-ends-array h = let z : less-open (front ++ last ∷ []) ≡ front = bare-last front last ∙ rw (eq-eqb last 40 h) in sym (ap last-of z)
-
-  pub bare-ends-none : last ≡ 40 → length front ≡ 0 → 0 ≡ last-of (less-open (front ++ last ∷ []))
-  bare-ends-none h k = past front k ∙ bare-ends-array h
-    where
-      past : (xs : List ℕ) → length xs ≡ 0 → 0 ≡ getD xs (length xs - 1) 0
-      past [] e = refl
-      past (x ∷ xs) e = absurd (omega arith)
-
-  -- a name that begins or ends as no word does
-  pub other-ends : {a b : ℕ} {r : Bool} → name? (front ++ last ∷ []) ≡ true → a ≡ getD (front ++ last ∷ []) 0 0 → b ≡ last-of (less-open (front ++ last ∷ [])) → r ≡ among (ends a b) word-ends → r ≡ false
-      → false ≡ reserved? (less-open (front ++ last ∷ []))
-  unfolding reserved? found? name? word-like?
-  other-ends {a} {b} {r} n e f g h =
-      let s = less-open (front ++ last ∷ []) in
-      let letter : letter? (getD (front ++ last ∷ []) 0 0) ≡ true = and-first (letter? (getD (front ++ last ∷ []) 0 0)) (name-end? (drop (run letter-or-digit? (front ++ last ∷ [])) (front ++ last ∷ []))) n in
-      let first : getD s 0 0 ≡ getD (front ++ last ∷ []) 0 0 = bare-first front last letter in
-      let unlike : word-like? s ≡ false = rw (first, letter, ← e, ← f) (sym g ∙ h) in
-      sym (rw (none-such word-like? operators s word-like-operators unlike))
+unfolding statement-word? found?
+long-statement s h = sym (rw (none-so-long 8 statements s short-statements h))
 
 -- ---- the first byte and the last
 

@@ -1,6 +1,5 @@
 pub mod Tables
 pub mod Marks
-pub mod Words
 pub mod Places
 pub mod Answers
 pub mod Uses

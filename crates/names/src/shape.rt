@@ -2,14 +2,13 @@
 use tokens::Reserved;
 use tokens::Statement;
 ghost use mathlib.Core.Path.{_≡_};
-ghost use mathlib.Core.Bool.{true, _||_};
+ghost use mathlib.Core.Bool.{_||_};
 ghost use mathlib.Core.List.{[], _∷_, _++_};
 ghost use lib.Dec.{eqb};
 ghost use lib.ListN.{getD};
-ghost use Rattle.paper.specs.Bytes.{letter-or-digit?, run, among};
+ghost use Rattle.paper.specs.Bytes.{letter-or-digit?, run};
 ghost use Rattle.paper.specs.Words.{reserved?, statement-word?};
 ghost use Rattle.paper.specs.Names.{name?, less-open};
-ghost use Rattle.names.specs.Words.{last-of, ends, word-ends};
 ghost use Rattle.names.specs.Answers.{Bare};
 
 // A name's first byte, from those before its last, and its last.
@@ -97,66 +96,10 @@ fn states(word: &[u8]) -> bool
     }
 }
 
-// The last byte of a name less its `(`, or 0.
-fn bare_last(front: &[u8], last: u8) -> u8
-    ensures { λ r. ⌜ r ≡ last-of (less-open (now (front .entry) ++ last ∷ [])) ⌝ }
-{
-    if last != 40 {
-        return last;
-    }
-    let size = front.len();
-    if size == 0 { 0 } else { front[size - 1] }
-}
-
-// Whether a word operator or a function's name begins with one letter and ends with another. The two are looked up as one number, with a 0 behind
-// them so that no two of the numbers are neighbours: 0x41430 is A and C.
-fn has_word_ends(first: u8, last: u8) -> bool
-    ensures { λ r. ⌜ r ≡ among (ends first last) word-ends ⌝ }
-{
-    match (first as usize) * 0x1000 + (last as usize) * 0x10 {
-        0x41430
-        | 0x41440
-        | 0x414E0
-        | 0x41520
-        | 0x41530
-        | 0x43240
-        | 0x43470
-        | 0x43530
-        | 0x45500
-        | 0x46450
-        | 0x47420
-        | 0x474F0
-        | 0x49540
-        | 0x4C470
-        | 0x4C4E0
-        | 0x4E540
-        | 0x4F520
-        | 0x50450
-        | 0x50470
-        | 0x504B0
-        | 0x52440
-        | 0x53240
-        | 0x53470
-        | 0x534B0
-        | 0x534E0
-        | 0x53500
-        | 0x53520
-        | 0x544E0
-        | 0x544F0
-        | 0x55520
-        | 0x564C0 => true,
-        _ => false,
-    }
-}
-
 // Whether a name less its `(` is a word operator or a function's name.
 pub(crate) fn is_reserved(front: &[u8], last: u8) -> bool
-    requires { ⌜ name? (now front ++ last ∷ []) ≡ true ⌝ }
     ensures { λ r. ⌜ r ≡ reserved? (less-open (now (front .entry) ++ last ∷ [])) ⌝ }
 {
-    if !has_word_ends(first_byte(front, last), bare_last(front, last)) {
-        return false;
-    }
     let mut word = [0u8; LONGEST_WORD];
     let size = write_bare(front, last, &mut word);
     if LONGEST_WORD < size {

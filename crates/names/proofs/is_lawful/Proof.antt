@@ -1,7 +1,6 @@
 use Rattle.names.proofs.Soundness.{a-word, no-name, once}
 use borrow.Author.Needs.{needs}
 use borrow.Author.Tests.{not-false, not-true}
-use mathlib.Core.Path.{_∙_, sym}
 use Rattle.names.proofs.is_lawful.Statement.{statement}
 use Rattle.names.proofs.is_lawful.Tie as tie
 
@@ -12,7 +11,7 @@ returns : tie.Need-returns
 returns c = no-name _ _ (c .before .is-name .ensures) (not-true _ (c .if1 .taken))
 
 is-reserved-requires : tie.Need-is-reserved-requires
-is-reserved-requires c κs = sym (c .before .is-name .ensures) ∙ not-false _ (c .if1 .left)
+is-reserved-requires c κs = search needs
 
 returns-2 : tie.Need-returns-2
 returns-2 c = a-word _ _ (c .before .before .before .is-name .ensures) (not-false _ (c .before .before .if1 .left)) (c .before .is-reserved .ensures) (c .if2 .taken)
