@@ -2,16 +2,22 @@
 use Prim.Native.Nat.{ℕ, _+_, _-_, _≤_, _<_}
 use native.Mathlib.Omega.{arith}
 use mathlib.Core.Path.{_≡_, refl, sym, ap, _∙_}
-use mathlib.Core.Bool.{Bool, true, false}
+use mathlib.Core.Bool.{Bool, true, false, _&&_}
 use mathlib.Core.List.{List, []}
-use lib.Dec.{leb}
-use lib.ListN.{length, take, drop, getD, drop-of-length-le, length-drop}
+use lib.Dec.{T, eqb, leb}
+use lib.ListN.{length, take, drop, getD, drop-of-length-le, length-drop, List·getD-eq-default}
 use lib.Seq.{take-all}
-use borrow.Author.Tests.{leb-true, leb-false, lt-ltb, le-ltb}
-use Rattle.paper.specs.Bytes.{pick}
+use borrow.Author.Tests.{leb-true, leb-false, lt-ltb, le-ltb, eqb-true}
+use Rattle.paper.specs.Bytes.{pick, bytes}
+use Rattle.paper.specs.Words.{word, word-of, statements, read-operators, functions}
 use Rattle.paper.specs.Tokens.{read-as}
-use Rattle.tokens.specs.Tables.{total, starts, statement-lengths, operator-lengths}
-use Rattle.tokens.specs.Parts.{fixed-part, word-part, operator-part}
+use Rattle.laws.specs.Tests.{and-left, and-right, is-true}
+use Rattle.tokens.specs.declared.Source.the-variants.{Fixed}
+use Rattle.tokens.specs.declared.Part.{Part}
+use Rattle.tokens.specs.Tables.{tabulated, total, read-words, word-size, starts, statement-lengths, operator-lengths}
+use Rattle.tokens.specs.Parts.{fixed-part, statement-part, word-part, operator-part}
+use Rattle.tokens.specs.Spellings.{below, below-at}
+use Rattle.tokens.proofs.Keys.{Rest, down, past-all}
 
 pub lesser-bounds : {r : ℕ} (a b : ℕ) → r ≡ pick (leb a b) a b → (r ≤ a) × (r ≤ b) × (r < a → r ≡ b)
 lesser-bounds {r} a b e = go (leb a b) refl e
@@ -41,11 +47,55 @@ cut-same {first} {last} s from end e f = go (leb from last) refl f (leb end (len
         let n : 0 ≤ end - from = omega arith in
         rw (z, d) (sym (take-all (end - from) [] n))
 
+-- ---- where words begin
+
+-- at each place the next word begins past this one
+unfoldable steps : List ℕ → ℕ → Bool
+steps ls t = eqb (getD (starts ls) t 0) (total (take t ls)) && eqb (total (take (t + 1) ls)) (total (take t ls) + getD ls t 0)
+
+statement-steps : T (below (steps statement-lengths) 0x36)
+unfolding below steps starts tabulated total statement-lengths word-size word-of statements word bytes
+statement-steps = tt
+
+operator-steps : T (below (steps operator-lengths) 0x43)
+unfolding below steps starts tabulated total operator-lengths word-size word-of read-words read-operators functions word bytes
+operator-steps = tt
+
+module _ (ls : List ℕ) (n : ℕ) (a : T (below (steps ls) n)) {from end : ℕ} (t : ℕ) (h : t < n) (e : from ≡ total (take t ls)) (f : end ≡ total (take (t + 1) ls)) where
+  here : T (steps ls t)
+  here = below-at (steps ls) n a t h
+
+  start-of : from ≡ getD (starts ls) t 0
+  unfolding steps
+  start-of = e ∙ sym (eqb-true (getD (starts ls) t 0) (total (take t ls)) (is-true (eqb (getD (starts ls) t 0) (total (take t ls))) (and-left (eqb (getD (starts ls) t 0) (total (take t ls))) (eqb (total (take (t + 1) ls)) (total (take t ls) + getD ls t 0)) here)))
+
+  end-of : end ≡ from + getD ls t 0
+  unfolding steps
+  end-of =
+      f ∙ eqb-true (total (take (t + 1) ls)) (total (take t ls) + getD ls t 0) (is-true (eqb (total (take (t + 1) ls)) (total (take t ls) + getD ls t 0)) (and-right (eqb (getD (starts ls) t 0) (total (take t ls))) (eqb (total (take (t + 1) ls)) (total (take t ls) + getD ls t 0)) here))
+      ∙ ap (λ (x : ℕ). x + getD ls t 0) (sym e)
+
+pub statement-start-else : (t : ℕ) → Rest (down 0x36) t → 223 ≡ total (take t statement-lengths)
+unfolding total statement-lengths tabulated word-size word-of statements word bytes
+statement-start-else t r = sym (ap total (take-all t statement-lengths (past-all 0x36 t r)))
+
+pub operator-start-else : (i : ℕ) → Rest (down 0x43) i → 132 ≡ total (take i operator-lengths)
+unfolding total operator-lengths tabulated word-size word-of read-words read-operators functions word bytes
+operator-start-else i r = sym (ap total (take-all i operator-lengths (past-all 0x43 i r)))
+
 -- ---- parts
 
--- some fixed words' bytes, by their table's entries
-pub part-of : {from size : ℕ} {f s : ℕ} → from ≡ f → size ≡ s → fixed-part from size ≡ fixed-part f s
-part-of e g = cc
+pub statement-part-at : {from end : ℕ} (t : ℕ) → t < 0x36 → from ≡ total (take t statement-lengths) → end ≡ total (take (t + 1) statement-lengths)
+    → _≡_ {A = Part} (record { source = Fixed; from = from; end = end }) (statement-part t)
+unfolding statement-part fixed-part
+statement-part-at {from} {end} t h e f =
+    let p : from ≡ getD (starts statement-lengths) t 0 = start-of statement-lengths 0x36 statement-steps t h e f in
+    let q : end ≡ getD (starts statement-lengths) t 0 + getD statement-lengths t 0 = end-of statement-lengths 0x36 statement-steps t h e f ∙ ap (λ (x : ℕ). x + getD statement-lengths t 0) p in
+    cc
+
+pub statement-part-past : (t : ℕ) → 0x36 ≤ t → fixed-part 0 0 ≡ statement-part t
+unfolding statement-part starts statement-lengths tabulated
+statement-part-past t h = sym (rw (List·getD-eq-default (starts statement-lengths) 0 h, List·getD-eq-default statement-lengths 0 h))
 
 pub part-none : {r : ℕ} (t : ℕ) → r ≡ read-as t → r < 0x12 → fixed-part 0 0 ≡ operator-part t
 unfolding operator-part word-part
@@ -59,3 +109,25 @@ part-word {r} {from} {size} t e h f g =
     ap (λ (x : ℕ). fixed-part (total statement-lengths + x) size) (f ∙ ap (λ (x : ℕ). getD (starts operator-lengths) (x - 0x12) 0) e)
     ∙ ap (fixed-part (total statement-lengths + getD (starts operator-lengths) (read-as t - 0x12) 0)) (g ∙ ap (λ (x : ℕ). getD operator-lengths (x - 0x12) 0) e)
     ∙ sym (rw (le-ltb (read-as t) 0x12 l))
+
+statement-bytes : 223 ≡ total statement-lengths
+unfolding total statement-lengths tabulated word-size word-of statements word bytes
+statement-bytes = refl
+
+pub operator-part-at : {r from end : ℕ} (t : ℕ) → r ≡ read-as t → 0x12 ≤ r → r - 0x12 < 0x43 → from ≡ total (take (r - 0x12) operator-lengths) → end ≡ total (take (r - 0x12 + 1) operator-lengths)
+    → _≡_ {A = Part} (record { source = Fixed; from = 223 + from; end = 223 + end }) (operator-part t)
+unfolding fixed-part
+operator-part-at {r} {from} {end} t p h k e f =
+    let a : 223 + from ≡ total statement-lengths + from = omega (arith, statement-bytes) in
+    let b : 223 + end ≡ total statement-lengths + from + getD operator-lengths (r - 0x12) 0 = omega (arith, statement-bytes, end-of operator-lengths 0x43 operator-steps (r - 0x12) k e f) in
+    let z : _≡_ {A = Part} (record { source = Fixed; from = 223 + from; end = 223 + end }) (fixed-part (total statement-lengths + from) (getD operator-lengths (r - 0x12) 0)) = cc in
+    z ∙ part-word t p h (start-of operator-lengths 0x43 operator-steps (r - 0x12) k e f) refl
+
+pub operator-part-past : {r : ℕ} (t : ℕ) → r ≡ read-as t → 0x12 ≤ r → 0x43 ≤ r - 0x12 → fixed-part 223 0 ≡ operator-part t
+unfolding starts operator-lengths tabulated
+operator-part-past {r} t p h k =
+    ap (λ (n : ℕ). fixed-part n 0) (statement-bytes ∙ plus-none (total statement-lengths))
+    ∙ part-word t p h (sym (List·getD-eq-default (starts operator-lengths) 0 k)) (sym (List·getD-eq-default operator-lengths 0 k))
+  where
+    plus-none : (n : ℕ) → n ≡ n + 0
+    plus-none n = omega arith
