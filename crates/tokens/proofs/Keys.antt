@@ -1,5 +1,6 @@
 -- The arms of a `match` on a number: where it is one of an arm's keys, and where it is none.
-use Prim.Native.Nat.{ℕ, _≤_}
+use Prim.Native.Nat.{ℕ, zero, suc, _≤_}
+use native.Mathlib.Omega.{arith}
 use mathlib.Core.Path.{_≡_, refl, sym, ap, _∙_, subst}
 use mathlib.Core.Bool.{Bool, true, false, _||_}
 use mathlib.Core.List.{List, [], _∷_}
@@ -56,3 +57,17 @@ otherwise f g ks n a past t r = go (ltb t n) refl
         (is-true (eqb (f t) (g t))
         (subst (λ (b : Bool). T (b || eqb (f t) (g t))) (no-keys t ks r) (below-at (λ t. among t ks || eqb (f t) (g t)) n a t (ltb-true t n e))))
     go false e = past t (ltb-false t n e)
+
+-- the keys of a `match` with an arm for each number below n
+abbrev pub down : ℕ → List ℕ
+down zero = []
+down (suc n) = n ∷ down n
+
+-- a number that is none of them is not below n
+pub past-all : (n t : ℕ) → Rest (down n) t → n ≤ t
+past-all zero t r = omega arith
+past-all (suc n) t r = go (past-all n t (r .0)) (ltb n t) refl
+  where
+    go : n ≤ t → (b : Bool) → ltb n t ≡ b → suc n ≤ t
+    go h true e = ltb-true n t e
+    go h false e = absurd (r .1 (omega (arith, h, ltb-false n t e)))

@@ -570,13 +570,18 @@ pub fn longest_symbol(b: u8, c: u8) -> Symbol
 pub fn statement_part(token: StatementToken) -> Part
     ensures { λ r. ⌜ r ≡ statement-part (token .0) ⌝ }
 {
-    let t = token.0 as usize;
-    let from = tables::entry(&tables::STATEMENT_STARTS, t, 0) as usize;
-    let size = tables::entry(&tables::STATEMENT_LENGTHS, t, 0) as usize;
+    let t = token.0;
+    if tables::STATEMENTS <= t {
+        return Part {
+            source: Source::Fixed,
+            from: 0,
+            end: 0,
+        };
+    }
     Part {
         source: Source::Fixed,
-        from,
-        end: from + size,
+        from: tables::statement_start(t) as usize,
+        end: tables::statement_start(t + 1) as usize,
     }
 }
 
@@ -592,13 +597,18 @@ pub fn operator_part(token: u8) -> Part
             end: 0,
         };
     }
-    let i = (read - tables::FIRST_OPERATOR) as usize;
-    let from = tables::STATEMENT_BYTES + tables::entry(&tables::OPERATOR_STARTS, i, 0) as usize;
-    let size = tables::entry(&tables::OPERATOR_LENGTHS, i, 0) as usize;
+    let i = read - tables::FIRST_OPERATOR;
+    if tables::OPERATORS <= i {
+        return Part {
+            source: Source::Fixed,
+            from: tables::STATEMENT_BYTES,
+            end: tables::STATEMENT_BYTES,
+        };
+    }
     Part {
         source: Source::Fixed,
-        from,
-        end: from + size,
+        from: tables::STATEMENT_BYTES + tables::operator_start(i) as usize,
+        end: tables::STATEMENT_BYTES + tables::operator_start(i + 1) as usize,
     }
 }
 
