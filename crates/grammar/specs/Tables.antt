@@ -55,6 +55,7 @@ packed (f ∷ fs) = packed fs * 64 + f
 unfoldable pub word : ℕ → List ℕ → ℕ
 word g fs = packed fs * 64 + g
 
+-- the word of each act, in the order of their bytes
 unfoldable pub words : List ℕ
 words =
     word 0 []

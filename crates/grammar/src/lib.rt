@@ -161,8 +161,8 @@ fn act_of(frame: u8, class: u8) -> u8
     }
 }
 
-// What an act gives for an item, and the frames that it wants: two octal digits for each, what is given last, and before it the frames, their last one
-// on top. What is given is 0 for the item's own token, 1 for the one for strings, 2 for the prefix one, any other number for that token.
+// The word of an act: a 1, then two octal digits for each frame that it wants, from the top of the stack down, then two for what it gives: 0 for the
+// item's own token, 1 for the one for strings, 2 for the prefix one, any other number for that token.
 fn word_of(act: u8) -> u64
     requires { ⌜ 48 ≤ act ⌝ }
     ensures { λ r. ⌜ r ≡ getD words (act - 48) 0 ⌝ }
