@@ -1,4 +1,5 @@
 pub mod Table
+pub mod Frames
 pub mod Tables
 pub mod StackLaws
 pub mod Places

@@ -1,5 +1,5 @@
 -- What the arms of a `match` on the places of acts say of the table of acts.
-use Prim.Native.Nat.{ℕ, zero, suc, _+_, _*_, _/_, _%_, _≤_, _<_}
+use Prim.Native.Nat.{ℕ, zero, suc, _+_, _-_, _*_, _/_, _%_, _≤_, _<_}
 use native.Mathlib.Omega.{arith}
 use native.Mathlib.Nat.{add-zero}
 use mathlib.Core.Path.{_≡_, refl, subst, sym, ap, _∙_}
@@ -12,7 +12,7 @@ use Rattle.paper.specs.Bytes.{pick, among}
 use Rattle.paper.specs.Grammar.{may-be-empty}
 use Rattle.paper.specs.Open.{all-Bytes, all-Grammar}
 use Rattle.laws.specs.Tests.{everyAt, or-else}
-use Rattle.grammar.specs.Tables.{acts}
+use Rattle.grammar.specs.Tables.{acts, words}
 use Rattle.grammar.proofs.Table.{at-each, not-among, low-empty}
 
 -- the place of entry i of the table: a hundred times its frame, and its class
@@ -27,6 +27,25 @@ place-of f c h = omega arith
 abbrev pub NoneOf : List ℕ → ℕ → Type 0
 NoneOf [] x = Unit {0}
 NoneOf (k ∷ ks) x = NoneOf ks x × (x ≡ k → ⊥)
+
+-- n numbers from 48 on, the last one first
+unfoldable pub from-48 : ℕ → List ℕ
+from-48 zero = []
+from-48 (suc n) = (48 + n) ∷ from-48 n
+
+-- a number from 48 on that is none of them is past them
+past : (n x : ℕ) → NoneOf (from-48 n) x → 48 ≤ x → 48 + n ≤ x
+unfolding from-48
+past zero x o h = omega arith
+past (suc n) x o h =
+    let l = past n x (o .0) h in
+    let m = o .1 in
+    omega arith
+
+-- a number that is none of the 66 acts has no word
+pub no-word : (x : ℕ) → NoneOf (from-48 66) x → 48 ≤ x → 0 ≡ getD words (x - 48) 0
+unfolding words
+no-word x o h = let l : length words ≤ x - 48 = omega (arith, past 66 x o h) in sym (List·getD-eq-default words 0 l)
 
 -- the places of the acts of a list, whose first is entry k of the table, the last place first, before others
 unfoldable pub taken : ℕ → List ℕ → List ℕ → List ℕ

@@ -2,20 +2,19 @@
 use Prim.Native.Nat.{ℕ, zero, suc, _+_, _-_, _*_, _/_, _%_, _≤_, _<_}
 use native.Mathlib.Omega.{arith}
 use native.Mathlib.Nat.{add-zero}
-use native.Mathlib.Decide.{decLt}
 use mathlib.Core.Path.{_≡_, refl, subst, sym, ap, ap₂, _∙_}
 use mathlib.Core.Bool.{Bool, true, false, not, _&&_}
-use mathlib.Core.List.{List, [], _∷_, _++_}
+use mathlib.Core.List.{List, [], _∷_}
 use lib.Dec.{T, T-not, eqb, leb, ltb, eqb→eq, leb→le, ltb→lt}
-use lib.ListN.{length, take, drop, getD, set, length-set, length-drop, List·getD-eq-default}
-use lib.Seq.{sets, getD-set-same, getD-set-other, length-take-le}
+use lib.ListN.{length, getD, List·getD-eq-default}
 use borrow.Author.Tests.{ltb-true, ltb-false, eq-eqb, ne-eqb}
-use Rattle.paper.specs.Bytes.{pick, same, every, among}
+use Rattle.paper.specs.Bytes.{same, every, among}
 use Rattle.paper.specs.Machine.{Act, take as takes, leave, refuse, Row, no-row, at-row, find-row}
 use Rattle.paper.specs.Grammar.{Gives, itself, for-strings, as-prefix, put, grammar, may-be-empty, look}
 use Rattle.paper.specs.Open.{all-Bytes, all-Machine, all-Grammar}
 use Rattle.laws.specs.Tests.{and-left, and-right, as-T, everyAt}
-use Rattle.grammar.specs.Stack.{stack, gives-of}
+use Rattle.grammar.specs.Stack.{gives-of}
+use Rattle.grammar.specs.Tables.{fits?, unpacked}
 use Rattle.pieces.specs.WellFormed.{same-is}
 
 -- ---- the test
@@ -27,24 +26,17 @@ gives? for-strings g = eqb g 1
 gives? as-prefix g = eqb g 2
 gives? (put k) g = leb 3 g && eqb g k
 
--- the frames from one place of a list to another, as a stack
-unfoldable pub frames-of : List ℕ → ℕ → ℕ → List ℕ
-frames-of w s e = stack (take (e - s) (drop s w)) (e - s)
-
--- the byte x of the table, by what acts give, where their frames start, and their frames, is this act; act number k is written as 48 + k
-unfoldable pub says? : List ℕ → List ℕ → List ℕ → ℕ → Act Gives → Bool
-says? g s w x (takes e ws) =
-    let k = x - 48 in
-    leb 48 x
-    && (gives? e (getD g k 0)
-    && (leb (getD s k 0) (getD s (k + 1) 0)
-    && (leb (getD s (k + 1) 0) (length w) && (leb (getD s (k + 1) 0 - getD s k 0) 9 && same (frames-of w (getD s k 0) (getD s (k + 1) 0)) ws))))
-says? g s w x leave = eqb x 45
-says? g s w x (refuse k) = not (eqb x 45) && (ltb x 48 && eqb k 4)
+-- the byte x of the table, by the words of the acts, is this act; act number k is written as 48 + k
+unfoldable pub says? : List ℕ → ℕ → Act Gives → Bool
+says? w x (takes e ws) =
+    let n = getD w (x - 48) 0 in
+    leb 48 x && (gives? e (n % 64) && (fits? 9 (n / 64) && same (unpacked 9 (n / 64) []) ws))
+says? w x leave = eqb x 45
+says? w x (refuse k) = not (eqb x 45) && (ltb x 48 && eqb k 4)
 
 -- the table has an act for each of 36 frames and 43 classes, and each says what the grammar says
-unfoldable pub right-table? : List ℕ → List ℕ → List ℕ → List ℕ → Bool
-right-table? a g s w = eqb (length a) 1548 && everyAt (λ i x. says? g s w x (look (i / 43) (i % 43))) 0 a
+unfoldable pub right-table? : List ℕ → List ℕ → Bool
+right-table? a w = eqb (length a) 1548 && everyAt (λ i x. says? w x (look (i / 43) (i % 43))) 0 a
 
 -- ---- from the test to the rule
 
@@ -88,54 +80,54 @@ look-high : (f c : ℕ) → 36 ≤ f → look f c ≡ refuse 4
 unfolding look no-row
 look-high f c h = rows-miss grammar f c h low-rows ∙ ap no-row (not-among f may-be-empty h low-empty)
 
-none-refuses : (g s w : List ℕ) → T (says? g s w 46 (refuse 4))
+none-refuses : (w : List ℕ) → T (says? w 46 (refuse 4))
 unfolding says?
-none-refuses g s w = tt
+none-refuses w = tt
 
 -- what the test says of one act
-pub says : (a g s w : List ℕ) → T (right-table? a g s w) → (f c : ℕ) → c < 43 → T (says? g s w (getD a (f * 43 + c) 46) (look f c))
+pub says : (a w : List ℕ) → T (right-table? a w) → (f c : ℕ) → c < 43 → T (says? w (getD a (f * 43 + c) 46) (look f c))
 unfolding right-table?
-says a g s w t f c h = go (ltb f 36) refl
+says a w t f c h = go (ltb f 36) refl
   where
     size : length a ≡ 1548
     size = eqb→eq (length a) 1548 (and-left (eqb (length a) 1548) _ t)
 
-    low : f < 36 → T (says? g s w (getD a (f * 43 + c) 46) (look f c))
+    low : f < 36 → T (says? w (getD a (f * 43 + c) 46) (look f c))
     low l =
         let i : ℕ = f * 43 + c in
         let k : i / 43 ≡ f = omega arith in
         let m : i % 43 ≡ c = omega arith in
         let z : 0 + i ≡ i = omega arith in
-        let r : T (says? g s w (getD a i 46) (look (i / 43) (i % 43))) =
-        subst (λ (n : ℕ). T (says? g s w (getD a i 46) (look (n / 43) (n % 43)))) z
-        (at-each (λ i x. says? g s w x (look (i / 43) (i % 43))) 46 0 a (and-right (eqb (length a) 1548) _ t) i (omega (arith, size))) in
-        subst (λ (n : ℕ). T (says? g s w (getD a i 46) (look f n))) m (subst (λ (n : ℕ). T (says? g s w (getD a i 46) (look n (i % 43)))) k r)
+        let r : T (says? w (getD a i 46) (look (i / 43) (i % 43))) =
+        subst (λ (n : ℕ). T (says? w (getD a i 46) (look (n / 43) (n % 43)))) z
+        (at-each (λ i x. says? w x (look (i / 43) (i % 43))) 46 0 a (and-right (eqb (length a) 1548) _ t) i (omega (arith, size))) in
+        subst (λ (n : ℕ). T (says? w (getD a i 46) (look f n))) m (subst (λ (n : ℕ). T (says? w (getD a i 46) (look n (i % 43)))) k r)
 
-    high : 36 ≤ f → T (says? g s w (getD a (f * 43 + c) 46) (look f c))
+    high : 36 ≤ f → T (says? w (getD a (f * 43 + c) 46) (look f c))
     high l =
         let o : length a ≤ f * 43 + c = omega (arith, size) in
         let z : getD a (f * 43 + c) 46 ≡ 46 = List·getD-eq-default a 46 o in
-        subst (λ (n : ℕ). T (says? g s w n (look f c))) (sym z) (subst (λ (r : Act Gives). T (says? g s w 46 r)) (sym (look-high f c l)) none)
+        subst (λ (n : ℕ). T (says? w n (look f c))) (sym z) (subst (λ (r : Act Gives). T (says? w 46 r)) (sym (look-high f c l)) none)
       where
-        none : T (says? g s w 46 (refuse 4))
-        none = none-refuses g s w
+        none : T (says? w 46 (refuse 4))
+        none = none-refuses w
 
-    go : (b : Bool) → ltb f 36 ≡ b → T (says? g s w (getD a (f * 43 + c) 46) (look f c))
+    go : (b : Bool) → ltb f 36 ≡ b → T (says? w (getD a (f * 43 + c) 46) (look f c))
     go true e = low (ltb-true f 36 e)
     go false e = high (ltb-false f 36 e)
 
 -- ---- the three kinds of acts
 
-module _ (g s w : List ℕ) (x : ℕ) where
+module _ (w : List ℕ) (x : ℕ) where
   -- 45 leaves
-  pub leaves-so : (l : Act Gives) → T (says? g s w x l) → x ≡ 45 → l ≡ leave
+  pub leaves-so : (l : Act Gives) → T (says? w x l) → x ≡ 45 → l ≡ leave
   unfolding says?
   leaves-so (takes e ws) t h = absurd (omega (arith, leb→le 48 x (and-left (leb 48 x) _ t)))
   leaves-so leave t h = refl
   leaves-so (refuse k) t h = absurd (T-not (eqb x 45) (and-left (not (eqb x 45)) _ t) (as-T (eqb x 45) (eq-eqb x 45 h)))
 
   -- any other below 48 refuses
-  pub refuses-so : (l : Act Gives) → T (says? g s w x l) → (x ≡ 45 → ⊥) → x < 48 → l ≡ refuse 4
+  pub refuses-so : (l : Act Gives) → T (says? w x l) → (x ≡ 45 → ⊥) → x < 48 → l ≡ refuse 4
   unfolding says?
   refuses-so (takes e ws) t n h = absurd (omega (arith, leb→le 48 x (and-left (leb 48 x) _ t)))
   refuses-so leave t n h = absurd (n (eqb→eq x 45 t))
@@ -151,63 +143,21 @@ module _ (g s w : List ℕ) (x : ℕ) where
       let e : n ≡ k = eqb→eq n k (and-right (leb 3 n) _ t) in
       rw (ne-eqb n 0 (λ z. omega arith), ne-eqb n 1 (λ z. omega arith), ne-eqb n 2 (λ z. omega arith)) (ap put e)
 
-  -- act number k: where its frames start and end, and what it is
-  pub record TakesSo (k : ℕ) (l : Act Gives) : Type 0 where
-    pub starts : getD s k 0 ≤ getD s (k + 1) 0
-    pub ends : getD s (k + 1) 0 ≤ length w
-    pub few : getD s (k + 1) 0 - getD s k 0 ≤ 9
-    pub acts : l ≡ takes (gives-of (getD g k 0)) (frames-of w (getD s k 0) (getD s (k + 1) 0))
+  -- the act of a word
+  pub record TakesSo (n : ℕ) (l : Act Gives) : Type 0 where
+    pub few : T (fits? 9 (n / 64))
+    pub acts : l ≡ takes (gives-of (n % 64)) (unpacked 9 (n / 64) [])
 
   -- 48 and above take
-  pub takes-so : (l : Act Gives) → T (says? g s w x l) → 48 ≤ x → TakesSo (x - 48) l
+  pub takes-so : (l : Act Gives) → T (says? w x l) → 48 ≤ x → TakesSo (getD w (x - 48) 0) l
   unfolding says?
   takes-so (takes e ws) t h =
-      let k : ℕ = x - 48 in
+      let n : ℕ = getD w (x - 48) 0 in
       let t1 = and-right (leb 48 x) _ t in
-      let t2 = and-right (gives? e (getD g k 0)) _ t1 in
-      let t3 = and-right (leb (getD s k 0) (getD s (k + 1) 0)) _ t2 in
-      let t4 = and-right (leb (getD s (k + 1) 0) (length w)) _ t3 in
-      let t5 = and-right (leb (getD s (k + 1) 0 - getD s k 0) 9) _ t4 in
+      let t2 = and-right (gives? e (n % 64)) _ t1 in
       record {
-        starts = leb→le (getD s k 0) (getD s (k + 1) 0) (and-left (leb (getD s k 0) (getD s (k + 1) 0)) _ t2);
-        ends = leb→le (getD s (k + 1) 0) (length w) (and-left (leb (getD s (k + 1) 0) (length w)) _ t3);
-        few = leb→le (getD s (k + 1) 0 - getD s k 0) 9 (and-left (leb (getD s (k + 1) 0 - getD s k 0) 9) _ t4);
-        acts = ap₂ takes (sym (given-so e (getD g k 0) (and-left (gives? e (getD g k 0)) _ t1))) (sym (same-is (frames-of w (getD s k 0) (getD s (k + 1) 0)) ws t5));
+        few = and-left (fits? 9 (n / 64)) _ t2;
+        acts = ap₂ takes (sym (given-so e (n % 64) (and-left (gives? e (n % 64)) _ t1))) (sym (same-is (unpacked 9 (n / 64) []) ws (and-right (fits? 9 (n / 64)) _ t2)));
       }
   takes-so leave t h = absurd (omega (arith, eqb→eq x 45 t))
   takes-so (refuse n) t h = absurd (omega (arith, ltb→lt x 48 (and-left (ltb x 48) _ (and-right (not (eqb x 45)) _ t))))
-
--- ---- frames put on a stack
-
-getD-below : (l : List ℕ) (at : ℕ) (v : List ℕ) (i : ℕ) → i < at → getD (sets l at v) i 0 ≡ getD l i 0
-getD-below l at [] i h = refl
-getD-below l at (x ∷ v) i h = getD-below (set l at x) (suc at) v i (omega arith) ∙ getD-set-other l at i x 0 (λ e. omega arith)
-
-getD-put : (l : List ℕ) (at : ℕ) (v : List ℕ) (k : ℕ) → k < length v → at + k < length l → getD (sets l at v) (at + k) 0 ≡ getD v k 0
-getD-put l at [] k h m = absurd (omega arith)
-getD-put l at (x ∷ v) zero h m =
-    let z : at + 0 ≡ at = omega arith in
-    ap (λ (i : ℕ). getD (sets (set l at x) (suc at) v) i 0) z ∙ getD-below (set l at x) (suc at) v at (omega arith) ∙ getD-set-same l at x 0 (omega arith)
-getD-put l at (x ∷ v) (suc k) h m =
-    let z : at + suc k ≡ suc at + k = omega arith in
-    ap (λ (i : ℕ). getD (sets (set l at x) (suc at) v) i 0) z ∙ getD-put (set l at x) (suc at) v k (omega arith) (omega (arith, length-set l at x))
-
-stack-below : (l : List ℕ) (at : ℕ) (v : List ℕ) (d : ℕ) → d ≤ at → stack (sets l at v) d ≡ stack l d
-unfolding stack
-stack-below l at v zero h = refl
-stack-below l at v (suc d) h = ap₂ (λ (x : ℕ) (xs : List ℕ). x ∷ xs) (getD-below l at v d (omega arith)) (stack-below l at v d (omega arith))
-
-stack-put : (l : List ℕ) (at : ℕ) (v : List ℕ) (k : ℕ) → k ≤ length v → at + length v ≤ length l → stack (sets l at v) (at + k) ≡ stack v k ++ stack l at
-unfolding stack
-stack-put l at v zero h m = let z : at + 0 ≡ at = omega arith in ap (stack (sets l at v)) z ∙ stack-below l at v at (omega arith)
-stack-put l at v (suc k) h m =
-    let z : at + suc k ≡ suc (at + k) = omega arith in
-    ap (stack (sets l at v)) z ∙ ap₂ (λ (x : ℕ) (xs : List ℕ). x ∷ xs) (getD-put l at v k (omega arith) (omega arith)) (stack-put l at v k (omega arith) m)
-
--- frames written from a place on stand on the stack of those below it
-pub stacked : (l : List ℕ) (at : ℕ) (w : List ℕ) (s e : ℕ) → s ≤ e → e ≤ length w → at + (e - s) ≤ length l
-    → stack (sets l at (take (e - s) (drop s w))) (at + (e - s)) ≡ frames-of w s e ++ stack l at
-unfolding frames-of
-stacked l at w s e h k m =
-    let n : length (take (e - s) (drop s w)) ≡ e - s = length-take-le (e - s) (drop s w) (omega (arith, length-drop s w)) in
-    stack-put l at (take (e - s) (drop s w)) (e - s) (omega arith) (omega arith)

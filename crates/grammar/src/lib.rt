@@ -1,11 +1,12 @@
 // The grammar as a table, and the stack of frames that reads items by it.
 ghost use mathlib.Core.Path.{_≡_};
-ghost use Prim.Native.Nat.{_+_, _*_, _≤_, _<_};
+ghost use Prim.Native.Nat.{_+_, _-_, _*_, _≤_, _<_};
+ghost use lib.Dec.{T};
 ghost use lib.ListN.{length, getD};
 ghost use Rattle.paper.specs.Bytes.{pick, among};
 ghost use Rattle.paper.specs.Grammar.{may-be-empty};
-ghost use Rattle.grammar.specs.Stack.{Acts, Steps};
-ghost use Rattle.grammar.specs.Tables.{acts};
+ghost use Rattle.grammar.specs.Stack.{stack, Acts, Steps};
+ghost use Rattle.grammar.specs.Tables.{acts, fits?, unpacked, words};
 
 // The act of a frame that leaves an item to the frame below.
 const LEAVES: u8 = b'-';
@@ -15,29 +16,6 @@ const REFUSES: u8 = b'.';
 
 // The first act that takes an item; one before it that does not leave it refuses it.
 const FIRST_ACT: u8 = b'0';
-
-// What each act gives for an item: 0 the item's own token, 1 the one for strings, 2 the prefix one, any other number that token.
-const GIVES: [u8; 66] = *b"\
-    \x00\x2D\x38\x39\x3A\x3B\x00\x00\x00\x02\x00\x01\x00\x00\x00\x00\x00\x00\x00\x00\x00\x02\x2D\x00\
-    \x01\x00\x00\x00\x00\x00\x00\x00\x00\x00\x00\x37\x00\x3C\x00\x00\x02\x00\x00\x00\x2E\x00\x00\x00\
-    \x00\x00\x00\x00\x00\x00\x00\x00\x00\x00\x00\x00\x00\x00\x00\x00\x00\x00";
-
-// Where the frames that an act wants stand among those of all acts: from its own entry to the next one's.
-const STARTS: [u8; 67] = *b"\
-    \x00\x00\x00\x00\x00\x00\x00\x01\x02\x03\x04\x05\x06\x07\x08\x09\x0A\x0B\x0C\x0D\x0F\x11\x13\x15\
-    \x17\x19\x1B\x1D\x1F\x21\x23\x25\x27\x29\x2B\x2E\x31\x34\x37\x3A\x3D\x40\x43\x46\x49\x4A\x4D\x51\
-    \x55\x59\x5D\x61\x66\x6B\x70\x75\x7A\x7F\x84\x8A\x90\x96\x9C\xA2\xA8\xAF\xB8";
-
-// The frames that acts want, each act's last one first.
-const WANTS: [u8; 184] = *b"\
-    \x00\x02\x05\x05\x06\x0B\x0C\x0D\x10\x19\x1D\x1E\x1F\x04\x03\x06\x05\x06\x05\x06\x05\x21\x06\x06\
-    \x0B\x0D\x0C\x06\x0D\x02\x0E\x02\x16\x02\x19\x02\x1D\x02\x1F\x21\x20\x02\x23\x02\x06\x05\x08\x06\
-    \x05\x09\x06\x05\x09\x06\x05\x18\x06\x05\x21\x06\x05\x21\x06\x05\x09\x0B\x0A\x06\x0D\x0C\x02\x0F\
-    \x0C\x0B\x21\x20\x0C\x06\x09\x06\x05\x01\x11\x06\x05\x08\x06\x05\x07\x09\x06\x05\x0A\x06\x09\x0B\
-    \x0A\x21\x06\x09\x06\x05\x06\x08\x06\x05\x07\x06\x09\x06\x05\x0A\x0D\x09\x06\x05\x0A\x21\x06\x09\
-    \x0B\x0A\x1C\x08\x06\x05\x1A\x1C\x09\x06\x05\x1B\x02\x06\x05\x22\x06\x05\x21\x06\x08\x06\x05\x07\
-    \x02\x0E\x08\x06\x05\x07\x21\x06\x09\x06\x05\x0A\x06\x0D\x09\x06\x05\x0A\x21\x20\x09\x06\x05\x0A\
-    \x02\x18\x06\x05\x17\x06\x05\x02\x15\x06\x05\x14\x06\x05\x13\x12";
 
 // What a frame does with the items that it does not take.
 fn otherwise(frame: u8) -> u8
@@ -183,6 +161,98 @@ fn act_of(frame: u8, class: u8) -> u8
     }
 }
 
+// The word of an act: a 1, then two octal digits for each frame that it wants, from the top of the stack down, then two for what it gives: 0 for the
+// item's own token, 1 for the one for strings, 2 for the prefix one, any other number for that token.
+fn word_of(act: u8) -> u64
+    requires { ⌜ 48 ≤ act ⌝ }
+    ensures { λ r. ⌜ r ≡ getD words (act - 48) 0 ⌝ }
+{
+    match act {
+        b'0' => 0o1_00,
+        b'1' => 0o1_55,
+        b'2' => 0o1_70,
+        b'3' => 0o1_71,
+        b'4' => 0o1_72,
+        b'5' => 0o1_73,
+        b'6' => 0o1_00_00,
+        b'7' => 0o1_02_00,
+        b'8' => 0o1_05_00,
+        b'9' => 0o1_05_02,
+        b':' => 0o1_06_00,
+        b';' => 0o1_13_01,
+        b'<' => 0o1_14_00,
+        b'=' => 0o1_15_00,
+        b'>' => 0o1_20_00,
+        b'?' => 0o1_31_00,
+        b'@' => 0o1_35_00,
+        b'A' => 0o1_36_00,
+        b'B' => 0o1_37_00,
+        b'C' => 0o1_03_04_00,
+        b'D' => 0o1_05_06_00,
+        b'E' => 0o1_05_06_02,
+        b'F' => 0o1_05_06_55,
+        b'G' => 0o1_06_41_00,
+        b'H' => 0o1_13_06_01,
+        b'I' => 0o1_14_15_00,
+        b'J' => 0o1_15_06_00,
+        b'K' => 0o1_16_02_00,
+        b'L' => 0o1_26_02_00,
+        b'M' => 0o1_31_02_00,
+        b'N' => 0o1_35_02_00,
+        b'O' => 0o1_37_02_00,
+        b'P' => 0o1_40_41_00,
+        b'Q' => 0o1_43_02_00,
+        b'R' => 0o1_05_06_02_00,
+        b'S' => 0o1_05_06_10_67,
+        b'T' => 0o1_05_06_11_00,
+        b'U' => 0o1_05_06_11_74,
+        b'V' => 0o1_05_06_30_00,
+        b'W' => 0o1_05_06_41_00,
+        b'X' => 0o1_05_06_41_02,
+        b'Y' => 0o1_12_13_11_00,
+        b'Z' => 0o1_14_15_06_00,
+        b'[' => 0o1_14_17_02_00,
+        b'\\' => 0o1_13_56,
+        b']' => 0o1_14_40_41_00,
+        b'^' => 0o1_05_06_11_06_00,
+        b'_' => 0o1_05_06_21_01_00,
+        b'`' => 0o1_07_05_06_10_00,
+        b'a' => 0o1_12_05_06_11_00,
+        b'b' => 0o1_12_13_11_06_00,
+        b'c' => 0o1_05_06_11_06_41_00,
+        b'd' => 0o1_07_05_06_10_06_00,
+        b'e' => 0o1_12_05_06_11_06_00,
+        b'f' => 0o1_12_05_06_11_15_00,
+        b'g' => 0o1_12_13_11_06_41_00,
+        b'h' => 0o1_32_05_06_10_34_00,
+        b'i' => 0o1_33_05_06_11_34_00,
+        b'j' => 0o1_05_06_42_05_06_02_00,
+        b'k' => 0o1_07_05_06_10_06_41_00,
+        b'l' => 0o1_07_05_06_10_16_02_00,
+        b'm' => 0o1_12_05_06_11_06_41_00,
+        b'n' => 0o1_12_05_06_11_15_06_00,
+        b'o' => 0o1_12_05_06_11_40_41_00,
+        b'p' => 0o1_05_06_27_05_06_30_02_00,
+        b'q' => 0o1_22_23_05_06_24_05_06_25_02_00,
+        _ => 0,
+    }
+}
+
+// Puts the frames of a word on the stack of the first frames of a buffer, and returns the new depth.
+fn put_frames(frames: &mut [u8], at: usize, word: u64) -> usize
+    requires { ⌜ (at + 9 ≤ length (now frames)) × T (fits? 9 word) ⌝ }
+    ensures { λ r. ⌜ (stack (now (frames .exit)) r ≡ unpacked 9 word (stack (now (frames .entry)) at)) × (r ≤ at + 9) ⌝ }
+{
+    let mut depth = at;
+    let mut rest = word;
+    while 1 < rest {
+        frames[depth] = (rest % 64) as u8;
+        depth += 1;
+        rest /= 64;
+    }
+    depth
+}
+
 // What a frame does with an item: takes it, with what it gives and the new depth of the stack; leaves it; refuses it.
 pub enum Act {
     Took(u8, usize),
@@ -195,18 +265,16 @@ fn act_at(frames: &mut [u8], at: usize, class: u8) -> Act
     requires { ⌜ (at + 9 ≤ length (now frames)) × (class < 43) ⌝ }
     ensures { λ r. ⌜ Acts (now (frames .entry)) at class r (now (frames .exit)) ⌝ }
 {
-    let number = act_of(frames[at], class);
-    if number == LEAVES {
+    let act = act_of(frames[at], class);
+    if act == LEAVES {
         return Act::Left;
     }
-    if number < FIRST_ACT {
+    if act < FIRST_ACT {
         return Act::Refused;
     }
-    let n = (number - FIRST_ACT) as usize;
-    let from = buffers::byte_at(&STARTS, n) as usize;
-    let end = buffers::byte_at(&STARTS, n + 1) as usize;
-    buffers::copy(frames, at, &WANTS[from..end]);
-    Act::Took(buffers::byte_at(&GIVES, n), at + (end - from))
+    let word = word_of(act);
+    let depth = put_frames(frames, at, word / 64);
+    Act::Took((word % 64) as u8, depth)
 }
 
 // What a stack does with an item: takes it, with what is given for it and the new depth; or does not.

@@ -1,4 +1,3 @@
-use native.Mathlib.Omega.{arith}
 use mathlib.Core.Path.{_∙_}
 use Rattle.paper.specs.Bytes.{bytes, joined}
 use Rattle.grammar.specs.Tables.{acts}
