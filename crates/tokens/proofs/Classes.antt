@@ -1,11 +1,10 @@
 -- Classes, and operators by their spelling: what the definitions say of each token that no arm names.
-use Prim.Native.Nat.{ℕ, zero, suc, _≤_, _<_}
+use Prim.Native.Nat.{ℕ, _≤_, _<_}
 use native.Mathlib.Omega.{arith}
-use mathlib.Core.Path.{_≡_, refl, sym, ap}
+use mathlib.Core.Path.{_≡_, sym, ap}
 use mathlib.Core.Bool.{true, false, _||_}
 use mathlib.Core.List.{List, [], _∷_}
 use lib.Dec.{T, eqb, leb}
-use lib.ListN.{length, getD}
 use borrow.Author.Tests.{le-leb, lt-leb, ne-eqb}
 use Rattle.paper.specs.Bytes.{bytes, same, among}
 use Rattle.paper.specs.Classes.{unfit}
@@ -14,12 +13,6 @@ use Rattle.paper.specs.Tokens.{operator-class, read-as, found-or}
 use Rattle.tokens.specs.Words.{past-statements, past-operators}
 use Rattle.tokens.specs.Spellings.{below, read-past}
 use Rattle.tokens.proofs.Keys.{Rest, otherwise}
-
--- inside a list the default does not matter
-pub getD-same : (l : List ℕ) (i d e : ℕ) → i < length l → getD l i d ≡ getD l i e
-getD-same [] i d e h = absurd (omega arith)
-getD-same (x ∷ l) zero d e h = refl
-getD-same (x ∷ l) (suc i) d e h = getD-same l i d e (omega arith)
 
 -- ---- statement words
 

@@ -472,7 +472,7 @@ fn find_statement(name: &[u8]) -> Statement
 pub fn statement_word(name: &[u8]) -> Statement
     ensures { λ r. ⌜ r ≡ statement-found (find-word statements (now (name .entry))) ⌝ }
 {
-    if tables::may_state(tables::entry(name, 0, 0), name.len()) {
+    if tables::may_state(tables::first_of(name), name.len()) {
         find_statement(name)
     } else {
         Statement::Nothing
@@ -505,7 +505,7 @@ fn find_reserved(name: &[u8]) -> Reserved
 pub fn reserved_word(name: &[u8]) -> Reserved
     ensures { λ r. ⌜ r ≡ reserved-found (find-word operators (now (name .entry))) ⌝ }
 {
-    if tables::may_reserve(tables::entry(name, 0, 0), name.len()) {
+    if tables::may_reserve(tables::first_of(name), name.len()) {
         find_reserved(name)
     } else {
         Reserved::Nothing

@@ -290,11 +290,11 @@ pub(crate) fn operator_start(i: u8) -> u8
     }
 }
 
-// The entry of a table at a place, or another number past its end.
-pub(crate) fn entry(table: &[u8], i: usize, other: u8) -> u8
-    ensures { λ r. ⌜ r ≡ getD (now (table .entry)) i other ⌝ }
+// The first byte of a name; 0 if it has none.
+pub(crate) fn first_of(name: &[u8]) -> u8
+    ensures { λ r. ⌜ r ≡ getD (now (name .entry)) 0 0 ⌝ }
 {
-    if i < table.len() { table[i] } else { other }
+    if name.len() == 0 { 0 } else { name[0] }
 }
 
 // Whether a number is one from `low` to `high`.

@@ -4,8 +4,8 @@ use Rattle.tokens.proofs.Guarded.{no-reserved}
 use Rattle.tokens.proofs.reserved_word.Statement.{statement}
 use Rattle.tokens.proofs.reserved_word.Tie as tie
 
-entry-requires : tie.Need-entry-requires
-entry-requires c κs = search needs
+first-of-requires : tie.Need-first-of-requires
+first-of-requires c κs = search needs
 
 may-reserve-requires : tie.Need-may-reserve-requires
 may-reserve-requires c κs = search needs
@@ -17,9 +17,9 @@ returns : tie.Need-returns
 returns c = search needs
 
 returns-2 : tie.Need-returns-2
-returns-2 c = no-reserved (c .before .before .before .before .args .name .now) (c .before .before .entry .ensures) (c .before .may-reserve .ensures) (c .if1 .left)
+returns-2 c = no-reserved (c .before .before .before .before .args .name .now) (c .before .before .first-of .ensures) (c .before .may-reserve .ensures) (c .if1 .left)
 
 pub reserved-word-spec : {M : Type 1} → statement M
 reserved-word-spec =
     tie.close
-    (tie.spec entry-requires may-reserve-requires find-reserved-requires returns returns-2)
+    (tie.spec first-of-requires may-reserve-requires find-reserved-requires returns returns-2)

@@ -4,8 +4,8 @@ use Rattle.tokens.proofs.Guarded.{no-statement}
 use Rattle.tokens.proofs.statement_word.Statement.{statement}
 use Rattle.tokens.proofs.statement_word.Tie as tie
 
-entry-requires : tie.Need-entry-requires
-entry-requires c κs = search needs
+first-of-requires : tie.Need-first-of-requires
+first-of-requires c κs = search needs
 
 may-state-requires : tie.Need-may-state-requires
 may-state-requires c κs = search needs
@@ -17,9 +17,9 @@ returns : tie.Need-returns
 returns c = search needs
 
 returns-2 : tie.Need-returns-2
-returns-2 c = no-statement (c .before .before .before .before .args .name .now) (c .before .before .entry .ensures) (c .before .may-state .ensures) (c .if1 .left)
+returns-2 c = no-statement (c .before .before .before .before .args .name .now) (c .before .before .first-of .ensures) (c .before .may-state .ensures) (c .if1 .left)
 
 pub statement-word-spec : {M : Type 1} → statement M
 statement-word-spec =
     tie.close
-    (tie.spec entry-requires may-state-requires find-statement-requires returns returns-2)
+    (tie.spec first-of-requires may-state-requires find-statement-requires returns returns-2)
