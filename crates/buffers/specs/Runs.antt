@@ -5,17 +5,12 @@ use native.Mathlib.Omega.{arith}
 use mathlib.Core.Path.{_≡_, refl}
 use mathlib.Core.Bool.{Bool, true, false}
 use mathlib.Core.List.{List, [], _∷_}
-use lib.Dec.{ltb}
 use lib.ListN.{length, drop, getD, drop-of-length-le}
 use lib.Seq.{drop-cons}
 use Rattle.paper.specs.Bytes.{pick, run, digit?, letter-or-digit?, blank?}
 use Rattle.paper.specs.Items.{string-byte?, raw-byte?}
 use Rattle.buffers.specs.declared.Run.{Run}
-use Rattle.buffers.specs.declared.Run.the-variants.{Blanks, Digits, NameBytes, StringBytes, RawBytes, LowBytes}
-
--- a byte with its top bit clear
-unfoldable pub low? : ℕ → Bool
-low? b = ltb b 128
+use Rattle.buffers.specs.declared.Run.the-variants.{Blanks, Digits, NameBytes, StringBytes, RawBytes}
 
 -- the test that each byte of a run passes
 abbrev pub test-of : Run → ℕ → Bool
@@ -24,7 +19,6 @@ test-of Digits = digit?
 test-of NameBytes = letter-or-digit?
 test-of StringBytes = string-byte?
 test-of RawBytes = raw-byte?
-test-of LowBytes = low?
 
 -- a byte that passes is one more of the run
 pub run-on : (q : ℕ → Bool) (s : List ℕ) (i : ℕ) → i < length s → q (getD s i 0) ≡ true → run q (drop i s) ≡ suc (run q (drop (i + 1) s))

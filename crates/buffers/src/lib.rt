@@ -86,7 +86,6 @@ pub enum Run {
     NameBytes,
     StringBytes,
     RawBytes,
-    LowBytes,
 }
 
 // Whether a byte may stand in a run.
@@ -99,7 +98,6 @@ fn passes(kind: Run, b: u8) -> bool
         Run::NameBytes => is_letter_or_digit(b),
         Run::StringBytes => is_string_byte(b),
         Run::RawBytes => b != 0x9B,
-        Run::LowBytes => b < 128,
     }
 }
 

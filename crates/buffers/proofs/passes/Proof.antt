@@ -1,7 +1,7 @@
 -- `buffers::passes` meets its contract.
 use mathlib.Core.Path.{sym, ap, _∙_}
 use borrow.Author.Needs.{needs}
-use Rattle.buffers.specs.Runs.{low?, test-of}
+use Rattle.buffers.specs.Runs.{test-of}
 use Rattle.buffers.specs.declared.Run.{Run}
 use Rattle.paper.specs.Bytes.{blank?}
 use Rattle.paper.specs.Items.{raw-byte?}
@@ -32,9 +32,6 @@ is-string-byte-requires c κs = search needs
 enum-told-5 : tie.Need-enum-told-5
 enum-told-5 c = search needs
 
-enum-told-6 : tie.Need-enum-told-6
-enum-told-6 c = search needs
-
 returns : tie.Need-returns
 unfolding blank?
 returns c = sym (ap (λ (w : Run). test-of w (c .before .before .args .b)) (c .enum-told .given .1))
@@ -52,10 +49,6 @@ returns-5 : tie.Need-returns-5
 unfolding raw-byte?
 returns-5 c = sym (ap (λ (w : Run). test-of w (c .before .before .args .b)) (c .enum-told5 .given .1))
 
-returns-6 : tie.Need-returns-6
-unfolding low?
-returns-6 c = sym (ap (λ (w : Run). test-of w (c .before .before .args .b)) (c .enum-told6 .given .1))
-
 pub passes-spec : {M : Type 1} → statement M
 passes-spec =
     tie.close
@@ -68,10 +61,8 @@ passes-spec =
     enum-told-4
     is-string-byte-requires
     enum-told-5
-    enum-told-6
     returns
     returns-2
     returns-3
     returns-4
-    returns-5
-    returns-6)
+    returns-5)
