@@ -3,17 +3,21 @@ use Prim.Native.Nat.{ℕ, suc, _+_, _-_, _≤_, _<_}
 use mathlib.Core.Path.{_≡_}
 use mathlib.Core.Bool.{Bool, true}
 use mathlib.Core.List.{List, [], _∷_, _++_}
+use lib.Dec.{ltb}
 use lib.ListN.{length, take, drop}
 use Rattle.paper.specs.Bytes.{every, run, blank?}
 use Rattle.paper.specs.Classes.{line-end}
 use Rattle.paper.specs.Tokens.{Token, by-kind, class}
-use Rattle.buffers.specs.Runs.{low?}
 use Rattle.numerals.specs.Numerals.{Written}
 use Rattle.items.specs.declared.Item.{Item}
 use Rattle.items.specs.declared.Kind.{Kind}
 use Rattle.items.specs.declared.Kind.the-variants.{Numeric, Text, Array, Number, Quoted, Operator, Function, Statement, End, Bad}
 use Rattle.items.specs.Token.{token-of}
 use Rattle.items.specs.Kinds.{class-of, item-seen}
+
+-- a byte with its top bit clear
+unfoldable pub low? : ℕ → Bool
+low? b = ltb b 128
 
 -- n bytes of name are the whole item: at least one, and all with their top bits clear
 pub record Named (s : List ℕ) (n size : ℕ) : Type 0 where

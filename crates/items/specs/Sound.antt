@@ -15,7 +15,7 @@ use Rattle.paper.specs.Tokens.{constant, out-of-range, by-kind, operator-class,
 use Rattle.paper.specs.Constants.{value, in-range, six, constant-of}
 use Rattle.paper.specs.Items.{sign-size, power-size, variable-at, string-byte?}
 use Rattle.laws.specs.Tests.{is-true}
-use Rattle.buffers.specs.Runs.{low?, run-on, run-within}
+use Rattle.buffers.specs.Runs.{run-on, run-within}
 use Rattle.tokens.specs.Same.{no-bool}
 use Rattle.tokens.specs.Words.{found-spelling, found-token}
 use Rattle.numerals.specs.declared.Numeral.{Numeral}
@@ -25,7 +25,7 @@ use Rattle.items.specs.declared.Kind.{Kind}
 use Rattle.items.specs.declared.Kind.the-variants.{Numeric, Text, Array, Quoted, Operator, Function, Statement, Bad}
 use Rattle.items.specs.Token.{token-of}
 use Rattle.items.specs.Kinds.{Shape, shape, name-size, variable-kind, statement-kind, reserved-kind, name-kind, name-shape, fraction-size, digits-size, no-power, power-at, number-with, number-shape, string-shape, symbol-kind, symbol-shape, shape-at, class-of}
-use Rattle.items.specs.Sees.{Holds}
+use Rattle.items.specs.Sees.{low?, Holds}
 
 -- the shape x is right at the front of the text s
 pub record Sound (first : Bool) (s : List ℕ) (x : Shape) : Type 0 where

@@ -13,12 +13,11 @@ use Rattle.paper.specs.Constants.{value, in-range, six, constant-of}
 use Rattle.paper.specs.Words.{word-of, statements}
 use Rattle.paper.specs.Items.{variable-at}
 use Rattle.laws.specs.Names.{plain-name, some-plain, every-append}
-use Rattle.buffers.specs.Runs.{low?}
 use Rattle.numerals.specs.Numerals.{Written, digits-in, numeral-token}
 use Rattle.numerals.specs.declared.Numeral.{Numeral}
 use Rattle.items.specs.Token.{token-of}
 use Rattle.items.specs.Kinds.{class-of}
-use Rattle.items.specs.Sees.{Holds, Named}
+use Rattle.items.specs.Sees.{low?, Holds, Named}
 use Rattle.items.specs.declared.Kind.{Kind}
 use Rattle.items.specs.declared.Kind.the-variants.{Numeric, Text, Array, Number, Quoted, Operator, Function, Statement, End, Bad}
 use Rattle.names.specs.Tables.{spelled}
