@@ -1,5 +1,6 @@
-// The program of the Source Book's examples: reads rows of a source reference, a tab and a line, and prints what became of each line. Rows that
-// follow each other with the same reference are one program; another reference begins one with everything empty, in the desk program's rooms.
+// The program of the Source Book's examples: reads rows of a source reference, a tab and a line that begins with its number, and prints what became
+// of each line. Rows that follow each other with the same reference are one program; another reference begins one with everything empty, in the
+// desk program's rooms.
 //
 // P       a source reference, where a program begins
 // E       a line that is entered, and its answer's number and place

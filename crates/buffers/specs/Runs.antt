@@ -1,5 +1,5 @@
 -- What the runs of bytes are made of, and laws of the run that begins at a place of a list.
-use Prim.Native.Nat.{ℕ, zero, suc, _+_, _≤_, _<_}
+use Prim.Native.Nat.{ℕ, suc, _+_, _≤_, _<_}
 use native.Mathlib.Numerals.{add-one}
 use native.Mathlib.Omega.{arith}
 use mathlib.Core.Path.{_≡_, refl}
@@ -34,18 +34,6 @@ run-off q s i h t = rw (drop-cons s i 0 h, t)
 pub run-past : (q : ℕ → Bool) (s : List ℕ) (i : ℕ) → length s ≤ i → run q (drop i s) ≡ 0
 unfolding run
 run-past q s i h = rw (drop-of-length-le s h)
-
-passes-go : (q : ℕ → Bool) (x : ℕ) (s : List ℕ) (i : ℕ) (b : Bool) → q x ≡ b → i < pick b (suc (run q s)) 0 → ((j : ℕ) → j < run q s → q (getD s j 0) ≡ true)
-    → q (getD (x ∷ s) i 0) ≡ true
-passes-go q x s zero true e h ih = e
-passes-go q x s (suc i) true e h ih = ih i (omega arith)
-passes-go q x s i false e h ih = absurd (omega arith)
-
--- each byte of a run passes
-pub run-passes : (q : ℕ → Bool) (s : List ℕ) (i : ℕ) → i < run q s → q (getD s i 0) ≡ true
-unfolding run
-run-passes q [] i h = absurd (omega arith)
-run-passes q (x ∷ s) i h = passes-go q x s i (q x) refl h (λ j k. run-passes q s j k)
 
 within-go : (q : ℕ → Bool) (n m : ℕ) (b : Bool) → n ≤ m → pick b (suc n) 0 ≤ suc m
 within-go q n m true h = omega arith

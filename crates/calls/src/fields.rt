@@ -8,7 +8,7 @@ ghost use Prim.Native.Nat.{_≤_};
 
 // A field as it was read: how many bytes it has, or its number, and where the next field begins. That is one past the line's end where no field
 // follows, and NOWHERE where none was read.
-pub struct Field {
+pub(crate) struct Field {
     pub n: usize,
     pub next: usize,
 }
@@ -79,7 +79,7 @@ fn read_bytes(digits: &[u8], next: usize, out: &mut [u8]) -> Field {
 }
 
 // The field of bytes at a place of a line, put into a buffer.
-pub fn bytes_field(line: &[u8], at: usize, out: &mut [u8]) -> Field {
+pub(crate) fn bytes_field(line: &[u8], at: usize, out: &mut [u8]) -> Field {
     if line.len() <= at {
         return missing();
     }
@@ -96,7 +96,7 @@ pub fn bytes_field(line: &[u8], at: usize, out: &mut [u8]) -> Field {
 }
 
 // The field with a number at a place of a line.
-pub fn number_field(line: &[u8], at: usize) -> Field {
+pub(crate) fn number_field(line: &[u8], at: usize) -> Field {
     if line.len() <= at {
         return missing();
     }
@@ -113,6 +113,6 @@ pub fn number_field(line: &[u8], at: usize) -> Field {
 }
 
 // Whether a field was read before a place, and none follows.
-pub fn ends(line: &[u8], next: usize) -> bool {
+pub(crate) fn ends(line: &[u8], next: usize) -> bool {
     next == after(line.len())
 }

@@ -7,7 +7,7 @@ use mathlib.Core.List.{List, [], _∷_, _++_, append-assoc, append-nil}
 use lib.Dec.{eqb, leb, ltb}
 use lib.ListN.{length, take, drop, getD, length-append, take-append-drop}
 use lib.Seq.{drop-append-seam}
-use borrow.Author.Tests.{ltb-true, ltb-false, lt-ltb, le-ltb, leb-true, leb-false, le-leb, lt-leb, eqb-true, eq-eqb}
+use borrow.Author.Tests.{ltb-true, ltb-false, lt-ltb, le-ltb, leb-true, le-leb, lt-leb, eqb-true, eq-eqb}
 use Rattle.paper.specs.Bytes.{pick, digit?, letter?, letter-or-digit?, run, same, every}
 use Rattle.paper.specs.Words.{reserved?}
 use Rattle.paper.specs.Names.{in-front, names-in, marked, name-bytes, name-end?, name?, less-open, number-of, known?, all-different, most-names, sound-names, sound-table, add-name, add-names}
@@ -56,16 +56,6 @@ number-most (m ∷ ms) n = go (same m n) (number-most ms n)
     go : (b : Bool) → number-of ms n ≤ length ms → pick b 0 (suc (number-of ms n)) ≤ suc (length ms)
     go true h = omega arith
     go false h = omega arith
-
--- the name that has a known name's number is that name
-pub number-name : (ns : List (List ℕ)) (n : List ℕ) → number-of ns n < length ns → getD ns (number-of ns n) [] ≡ n
-unfolding number-of
-number-name [] n h = absurd (omega arith)
-number-name (m ∷ ms) n h = go (same m n) refl h (λ k. number-name ms n k)
-  where
-    go : (b : Bool) → same m n ≡ b → pick b 0 (suc (number-of ms n)) < suc (length ms) → (number-of ms n < length ms → getD ms (number-of ms n) [] ≡ n) → getD (m ∷ ms) (pick b 0 (suc (number-of ms n))) [] ≡ n
-    go true e k f = same-eq m n e
-    go false e k f = f (omega arith)
 
 pub number-front : (ns more : List (List ℕ)) (n : List ℕ) → number-of ns n < length ns → number-of (ns ++ more) n ≡ number-of ns n
 unfolding number-of
@@ -187,13 +177,6 @@ number-added ns n = go (known? ns n) refl
         let w : length ns + number-of (n ∷ []) n ≡ number-of ns n = omega arith in
         rw (add-unknown ns n e) (number-unknown ns (n ∷ []) n e ∙ w)
 
--- what was known stays known, and keeps its number
-pub known-kept : (ns : List (List ℕ)) (n m : List ℕ) → known? ns m ≡ true → known? (add-name ns n) m ≡ true
-known-kept ns n m h = rw (add-append ns n) (known-front ns (name-added ns n) m h)
-
-pub number-kept : (ns : List (List ℕ)) (n m : List ℕ) → known? ns m ≡ true → number-of (add-name ns n) m ≡ number-of ns m
-number-kept ns n m h = rw (add-append ns n) (number-known ns (name-added ns n) m h)
-
 -- a test that the names and the added one pass is passed by all
 pub every-append : {A : Type 0} (p : A → Bool) (xs ys : List A) → every p xs ≡ true → every p ys ≡ true → every p (xs ++ ys) ≡ true
 unfolding every
@@ -203,48 +186,6 @@ every-append p (x ∷ xs) ys h k = go (p x) h (λ e. every-append p xs ys e k)
     go : (b : Bool) → b && every p xs ≡ true → (every p xs ≡ true → every p (xs ++ ys) ≡ true) → b && every p (xs ++ ys) ≡ true
     go true e f = f e
     go false e f = e
-
-pub every-added : (p : List ℕ → Bool) (ns : List (List ℕ)) (n : List ℕ) → every p ns ≡ true → p n ≡ true → every p (add-name ns n) ≡ true
-unfolding add-name every
-every-added p ns n h k = go (known? ns n)
-  where
-    go : (b : Bool) → every p (pick b ns (ns ++ n ∷ [])) ≡ true
-    go true = h
-    go false = every-append p ns (n ∷ []) h (rw (k))
-
--- no name twice: also with a name that is not there behind the others
-different-behind : (ns : List (List ℕ)) (n : List ℕ) → all-different ns ≡ true → known? ns n ≡ false → all-different (ns ++ n ∷ []) ≡ true
-unfolding all-different number-of known?
-different-behind [] n h k = refl
-different-behind (m ∷ ms) n h k = go (known? ms m) refl h (same m n) refl (λ e f. different-behind ms n e f)
-  where
-    go : (b : Bool) → known? ms m ≡ b → not b && all-different ms ≡ true → (d : Bool) → same m n ≡ d → (all-different ms ≡ true → known? ms n ≡ false → all-different (ms ++ n ∷ []) ≡ true)
-        → not (known? (ms ++ n ∷ []) m) && all-different (ms ++ n ∷ []) ≡ true
-    go true e a d x f = let z : _≡_ {A = ℕ} 0 1 = cc in absurd (omega arith)
-    go false e a true x f = absurd (first x)
-      where
-        first : same m n ≡ true → ⊥
-        first y =
-            let w : ltb (pick (same m n) 0 (suc (number-of ms n))) (suc (length ms)) ≡ false = k in
-            let v : ltb 0 (suc (length ms)) ≡ false = rw y at w in
-            omega (arith, ltb-false 0 (suc (length ms)) v)
-    go false e a false x f =
-        let other : same n m ≡ false = same-ne n m (λ q. let z : _≡_ {A = ℕ} 0 1 = bools (sym x ∙ ap (same m) q ∙ same-self m) in omega arith) in
-        let one : known? (n ∷ []) m ≡ false = rw (other) in
-        let w : ltb (pick (same m n) 0 (suc (number-of ms n))) (suc (length ms)) ≡ false = k in
-        let v : ltb (suc (number-of ms n)) (suc (length ms)) ≡ false = rw x at w in
-        let less : known? ms n ≡ false = le-ltb (number-of ms n) (length ms) (omega (arith, ltb-false (suc (number-of ms n)) (suc (length ms)) v)) in
-        rw (known-behind ms (n ∷ []) m e, one) (f a less)
-      where
-        bools : false ≡ true → _≡_ {A = ℕ} 0 1
-        bools e = cc
-
-pub different-added : (ns : List (List ℕ)) (n : List ℕ) → all-different ns ≡ true → all-different (add-name ns n) ≡ true
-different-added ns n h = go (known? ns n) refl
-  where
-    go : (b : Bool) → known? ns n ≡ b → all-different (add-name ns n) ≡ true
-    go true e = rw (add-known ns n e) h
-    go false e = rw (add-unknown ns n e) (different-behind ns n h e)
 
 -- ---- the names of tokens, added one after the other
 
@@ -368,48 +309,6 @@ adds-front ns ts =
     let e = adds-extend ns ts in
     let d : drop (length ns) (add-names ns ts) ≡ e .more = ap (drop (length ns)) (e .whole) ∙ drop-append-seam ns (e .more) in
     e .whole ∙ ap (λ (x : List (List ℕ)). ns ++ x) (sym d)
-
-pub adds-length : (ns : List (List ℕ)) (ts : List Token) → length (add-names ns ts) ≡ length ns + length (names-added ns ts)
-adds-length ns ts = ap length (adds-front ns ts) ∙ length-append ns (names-added ns ts)
-
--- what is known stays known and keeps its number
-pub adds-known : (ns : List (List ℕ)) (ts : List Token) (n : List ℕ) → known? ns n ≡ true → known? (add-names ns ts) n ≡ true
-adds-known ns ts n h = rw (adds-front ns ts) (known-front ns (names-added ns ts) n h)
-
-pub adds-number : (ns : List (List ℕ)) (ts : List Token) (n : List ℕ) → known? ns n ≡ true → number-of (add-names ns ts) n ≡ number-of ns n
-adds-number ns ts n h = rw (adds-front ns ts) (number-known ns (names-added ns ts) n h)
-
--- tokens whose names are all known add none
-pub adds-nothing : (ns : List (List ℕ)) (ts : List Token) → every (name-passes (known? ns)) ts ≡ true → add-names ns ts ≡ ns
-adds-nothing ns ts h =
-    adds-keep (known? ns) (λ ms. ms ≡ ns) (λ ms n k e. add-known ms n (ap (λ (x : List (List ℕ)). known? x n) e ∙ k) ∙ e) ns ts h refl
-
--- afterwards the names of all tokens are known
-pub adds-all : (ns : List (List ℕ)) (ts : List Token) → every (name-passes (known? (add-names ns ts))) ts ≡ true
-unfolding every name-passes add-token
-adds-all ns [] = refl
-adds-all ns (t ∷ ts) =
-    let here : name-passes (known? (add-names (add-token ns t) ts)) t ≡ true = go t in
-    rw (adds-step ns t ts, here) (adds-all (add-token ns t) ts)
-  where
-    go : (t : Token) → name-passes (known? (add-names (add-token ns t) ts)) t ≡ true
-    go (statement t) = refl
-    go (assigned n) = adds-known (add-name ns n) ts n (known-added ns n)
-    go (operator t) = refl
-    go (variable n) = adds-known (add-name ns n) ts n (known-added ns n)
-    go (constant b) = refl
-    go (string b) = refl
-    go (raw b) = refl
-    go out-of-range = refl
-    go unreadable = refl
-
--- names with none twice stay so
-pub adds-different : (ns : List (List ℕ)) (ts : List Token) → all-different ns ≡ true → all-different (add-names ns ts) ≡ true
-adds-different ns ts h = adds-keep-any (λ ms. all-different ms ≡ true) (λ ms n k. different-added ms n k) ns ts h
-
--- a test that the names pass and the names of the tokens
-pub adds-every : (p : List ℕ → Bool) (ns : List (List ℕ)) (ts : List Token) → every p ns ≡ true → every (name-passes p) ts ≡ true → every p (add-names ns ts) ≡ true
-adds-every p ns ts h k = adds-keep p (λ ms. every p ms ≡ true) (λ ms n e j. every-added p ms n j e) ns ts k h
 
 -- ---- bytes as names
 
@@ -568,31 +467,6 @@ same-bytes bs = go (closed? bs) refl
         bools : true ≡ false → _≡_ {A = ℕ} 0 1
         bools e = cc
 
--- a byte as the machine has them
-abbrev pub byte? : ℕ → Bool
-byte? b = ltb b 256
-
-plain-one : (x : ℕ) → x < 128 → plain-name (x ∷ []) ≡ true
-unfolding plain-name every
-plain-one x h = rw (lt-ltb x 128 h)
-
-plain-front : (x : ℕ) (r : List (List ℕ)) → x < 128 → every plain-name r ≡ true → every plain-name (in-front x r) ≡ true
-unfolding in-front every plain-name
-plain-front x [] h k = rw (lt-ltb x 128 h)
-plain-front x (n ∷ ns) h k =
-    rw (lt-ltb 0 (suc (length n)) (omega arith), lt-ltb x 128 h, plain-low n (every-first plain-name n ns k)) (every-rest plain-name n ns k)
-
--- the names in bytes have bytes, none with its top bit set
-pub plain-names-in : (bs : List ℕ) → every byte? bs ≡ true → every plain-name (names-in bs) ≡ true
-unfolding names-in every
-plain-names-in [] h = refl
-plain-names-in (b ∷ bs) h =
-    go (leb 128 b) refl (names-in bs) (plain-names-in bs (every-rest byte? b bs h))
-  where
-    go : (t : Bool) → leb 128 b ≡ t → (r : List (List ℕ)) → every plain-name r ≡ true → every plain-name (pick t (((b - 128) ∷ []) ∷ r) (in-front b r)) ≡ true
-    go true e r k = rw (plain-one (b - 128) (omega (arith, ltb-true b 256 (every-first byte? b bs h), leb-true 128 b e))) k
-    go false e r k = plain-front b r (leb-false 128 b e) k
-
 -- ---- names of a sound table
 
 -- a letter or digit has no top bit
@@ -702,14 +576,3 @@ number-early (n ∷ ns) (suc i) h = go (same n (getD ns i [])) (number-early ns 
 
 pub known-at : (ns : List (List ℕ)) (i : ℕ) → i < length ns → known? ns (getD ns i []) ≡ true
 known-at ns i h = less-known ns (getD ns i []) (omega (arith, number-early ns i h))
-
-pub unknown-empty : (ns : List (List ℕ)) → every plain-name ns ≡ true → known? ns [] ≡ false
-unfolding number-of
-unknown-empty ns h = most-unknown ns [] (go ns h)
-  where
-    go : (ms : List (List ℕ)) → every plain-name ms ≡ true → length ms ≤ number-of ms []
-    go [] k = omega arith
-    go (m ∷ ms) k =
-        let some = plain-some m (every-first plain-name m ms k) in
-        let other : same m [] ≡ false = same-ne m [] (λ e. let z : length m ≡ 0 = ap length e in omega arith) in
-        rw (other) (omega (arith, go ms (every-rest plain-name m ms k)))

@@ -34,7 +34,7 @@ fn number(part: &[u8], array: bool, fresh: &mut [u8], f: usize) -> usize
 }
 
 // Numbers A, B$, the array C and A again.
-pub fn number_names() {
+pub(crate) fn number_names() {
     let mut fresh = [0u8; 16];
     let a = number(b"A", false, &mut fresh, 0);
     let b = number(b"B$", false, &mut fresh, a);
@@ -43,7 +43,7 @@ pub fn number_names() {
 }
 
 // Prints the bytes of a name table, how many names it is to hold and how many bytes of values are there, and whether that is sound.
-pub fn show_table(bytes: &[u8], count: usize, value_room: usize) {
+pub(crate) fn show_table(bytes: &[u8], count: usize, value_room: usize) {
     print(b"table\t");
     print_hex(bytes);
     print(b"\t");
@@ -105,7 +105,7 @@ fn take(store: &mut [u8], used: usize, number: usize) -> usize {
 
 // Puts `20 END`, `10 CLR`, `10 REM X` and `30 END` into a store of 14 bytes, takes 20 out twice, and then names a count of used bytes
 // that is not the end of a line.
-pub fn fill_store() {
+pub(crate) fn fill_store() {
     let mut store = [0u8; 14];
     let a = put(&mut store, 0, b"\x14\x00\x06\x06\x15\x16");
     let b = put(&mut store, a, b"\x0A\x00\x06\x06\x12\x16");

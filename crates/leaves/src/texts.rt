@@ -13,7 +13,7 @@ use tokens::Statement;
 use tokens::class;
 
 // What is printed of the texts of a table.
-pub enum Part {
+pub(crate) enum Part {
     Numbers,
     Items,
     Words,
@@ -147,7 +147,7 @@ fn show(text: &[u8], part: Part) {
 }
 
 // Prints the lines of every text of a table, in which 9B stands after each.
-pub fn show_all(table: &[u8], part: Part) {
+pub(crate) fn show_all(table: &[u8], part: Part) {
     let mut at: usize = 0;
     while at < table.len() {
         let end = buffers::run_end(table, at, Run::RawBytes);
@@ -160,7 +160,7 @@ pub fn show_all(table: &[u8], part: Part) {
 }
 
 // Prints six bytes, and whether they are a constant.
-pub fn show_six(bytes: &[u8; 6]) {
+pub(crate) fn show_six(bytes: &[u8; 6]) {
     print(b"six\t");
     print_hex(bytes);
     print(b"\t");

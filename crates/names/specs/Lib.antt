@@ -4,4 +4,3 @@ pub mod Places
 pub mod Answers
 pub mod Uses
 pub mod Standing
-pub mod Texts

@@ -3,18 +3,16 @@ use Prim.Native.Nat.{ℕ, suc, _+_, _-_, _*_, _≤_}
 use native.Mathlib.Omega.{arith}
 use mathlib.Core.Path.{_≡_, refl, sym, ap, _∙_}
 use mathlib.Core.Bool.{Bool, true, false, _||_}
-use mathlib.Core.List.{List, [], _∷_, _++_, append-assoc}
+use mathlib.Core.List.{List, [], _∷_, _++_}
 use lib.Dec.{leb, ltb}
-use lib.ListN.{length, take, drop, length-append}
+use lib.ListN.{length, drop, length-append}
 use lib.Seq.{drop-append-seam}
 use borrow.Author.Tests.{ltb-true, ltb-false, lt-ltb, le-ltb}
-use Rattle.paper.specs.Bytes.{pick, every}
-use Rattle.paper.specs.Names.{in-front, names-in, name-bytes, marked, number-of, known?, add-name, most-names}
+use Rattle.paper.specs.Bytes.{pick}
+use Rattle.paper.specs.Names.{in-front, names-in, name-bytes, marked, most-names}
 use Rattle.paper.specs.Calls.{State, names-of, lacks-room}
-use Rattle.buffers.specs.Sets.{written}
-use Rattle.laws.specs.Names.{closed?, closed-append, closed-names, names-some, plain-name, names-of-more, name-added, add-append, number-added, length-marked}
-use Rattle.names.specs.declared.Numbered.{Numbered}
-use Rattle.names.specs.Answers.{Numbers, lacks, Room}
+use Rattle.laws.specs.Names.{closed?, names-some, length-marked}
+use Rattle.names.specs.Answers.{lacks, Room}
 
 -- the names in some bytes have as many bytes
 pub length-bytes : (bs : List ℕ) → length (name-bytes (names-in bs)) ≡ length bs
@@ -29,50 +27,6 @@ length-bytes (b ∷ bs) = go (leb 128 b) (names-in bs) (length-bytes bs)
         let a : length (marked (b ∷ n) ++ name-bytes ns) ≡ suc (length n) + length (name-bytes ns) = length-append (marked (b ∷ n)) (name-bytes ns) ∙ ap (λ (k : ℕ). k + length (name-bytes ns)) (length-marked (b ∷ n)) in
         let c : length (marked n ++ name-bytes ns) ≡ length n + length (name-bytes ns) = length-append (marked n) (name-bytes ns) ∙ ap (λ (k : ℕ). k + length (name-bytes ns)) (length-marked n) in
         omega arith
-
--- ---- a name's number
-
--- the new names grow by no more than the name
-pub numbers-short : {ns : List (List ℕ)} {n old new : List ℕ} {f : ℕ} {r : Numbered} → Numbers ns n old f r new → (f ≤ r .size) × (r .size ≤ f + length n)
-unfolding name-added name-bytes
-numbers-short {ns} {n} {old} {new} {f} {r} a = (omega (arith, a .size), omega (arith, a .size, go (known? ns n)))
-  where
-    go : (t : Bool) → length (name-bytes (pick t [] (n ∷ []))) ≤ length n
-    go true = omega arith
-    go false = omega (arith, length-append (marked n) [], length-marked n)
-
-plain-added : (ns : List (List ℕ)) (n : List ℕ) → plain-name n ≡ true → every plain-name (name-added ns n) ≡ true
-unfolding name-added every
-plain-added ns n h = go (known? ns n)
-  where
-    go : (t : Bool) → every plain-name (pick t [] (n ∷ [])) ≡ true
-    go true = refl
-    go false = rw (h)
-
--- Where the new names before were whole, the name has bytes with their top bits clear, and there was room: the new names after.
-module _ {ns : List (List ℕ)} {n old new : List ℕ} {f : ℕ} {r : Numbered} (a : Numbers ns n old f r new) (ends : closed? (take f old) ≡ true) (plain : plain-name n ≡ true) (room : r .size ≤ length old) where
-  added : take (r .size) new ≡ take f old ++ name-bytes (name-added ns n)
-  added =
-      ap (λ (k : ℕ). take k new) (a .size) ∙ ap (take (f + length (name-bytes (name-added ns n)))) (a .fresh)
-      ∙ written old f (name-bytes (name-added ns n)) (omega (arith, a .size))
-
-  -- they end with a name
-  pub numbers-closed : closed? (take (r .size) new) ≡ true
-  numbers-closed = ap closed? added ∙ closed-append (take f old) (name-bytes (name-added ns n)) ends (closed-names (name-added ns n))
-
-  -- they are those before, and the name if it is new
-  pub numbers-names : names-in (take (r .size) new) ≡ names-in (take f old) ++ name-added ns n
-  numbers-names = ap names-in added ∙ names-of-more (take f old) (name-added ns n) ends (plain-added ns n plain)
-
-  -- the names of a table, and the new ones: as the name is added to them
-  pub numbers-all : (old-names : List (List ℕ)) → ns ≡ old-names ++ names-in (take f old) → old-names ++ names-in (take (r .size) new) ≡ add-name ns n
-  numbers-all os e =
-      ap (λ (l : List (List ℕ)). os ++ l) numbers-names ∙ sym (append-assoc os (names-in (take f old)) (name-added ns n))
-      ∙ ap (λ (l : List (List ℕ)). l ++ name-added ns n) (sym e) ∙ sym (add-append ns n)
-
-  -- the name's number among them
-  pub numbers-number : r .number ≡ number-of (add-name ns n) n
-  numbers-number = a .number ∙ sym (number-added ns n)
 
 -- ---- the rooms
 

@@ -1,9 +1,9 @@
 -- What a token is, by its class.
-use Prim.Native.Nat.{ℕ, zero, suc, _+_, _≤_, _<_}
+use Prim.Native.Nat.{ℕ, _≤_, _<_}
 use native.Mathlib.Omega.{arith}
-use mathlib.Core.Path.{_≡_, refl, subst, sym, ap, _∙_}
-use mathlib.Core.Bool.{Bool, true, false, not, _&&_, _||_}
-use mathlib.Core.List.{List, [], _∷_, _++_}
+use mathlib.Core.Path.{_≡_, refl, sym}
+use mathlib.Core.Bool.{Bool, true, false, _&&_, _||_}
+use mathlib.Core.List.{List, [], _∷_}
 use lib.Dec.{eqb, leb, ltb}
 use borrow.Author.Tests.{eqb-true, ltb-true, leb-true}
 use Rattle.paper.specs.Bytes.{pick, every}
@@ -25,18 +25,6 @@ own-of (string b) = 0
 own-of (raw b) = 0
 own-of out-of-range = 0
 own-of unreadable = 0
-
--- the name of a variable
-unfoldable pub name-of : Token → List ℕ
-name-of (statement t) = []
-name-of (assigned n) = n
-name-of (operator t) = []
-name-of (variable n) = n
-name-of (constant b) = []
-name-of (string b) = []
-name-of (raw b) = []
-name-of out-of-range = []
-name-of unreadable = []
 
 -- ---- the classes in the tables
 
@@ -176,32 +164,6 @@ end-by-class (string b) h = absurd (omega (arith, h, class-string b))
 end-by-class (raw b) h = absurd (omega (arith, h, class-raw b))
 end-by-class out-of-range h = absurd (omega (arith, h, class-far))
 end-by-class unreadable h = absurd (omega (arith, h, class-unreadable))
-
--- 5 to 7: a variable
-pub variable-by-class : (t : Token) → 5 ≤ class t → class t ≤ 7 → t ≡ variable (name-of t)
-unfolding name-of
-variable-by-class (statement t) l h = absurd (no-statement (class (statement t)) (statement-classes t) (omega arith) (omega arith))
-variable-by-class (assigned n) l h = absurd (omega (arith, first-between n .0))
-variable-by-class (operator t) l h = absurd (no-symbol (class (operator t)) (operator-classes t) (omega arith) (omega arith))
-variable-by-class (variable n) l h = refl
-variable-by-class (constant b) l h = absurd (omega (arith, l, class-constant b))
-variable-by-class (string b) l h = absurd (omega (arith, l, class-string b))
-variable-by-class (raw b) l h = absurd (omega (arith, h, class-raw b))
-variable-by-class out-of-range l h = absurd (omega (arith, l, class-far))
-variable-by-class unreadable l h = absurd (omega (arith, l, class-unreadable))
-
--- 8 to 10: a variable in statement position
-pub assigned-by-class : (t : Token) → 8 ≤ class t → class t ≤ 10 → t ≡ assigned (name-of t)
-unfolding name-of
-assigned-by-class (statement t) l h = absurd (no-statement (class (statement t)) (statement-classes t) (omega arith) (omega arith))
-assigned-by-class (assigned n) l h = refl
-assigned-by-class (operator t) l h = absurd (no-symbol (class (operator t)) (operator-classes t) (omega arith) (omega arith))
-assigned-by-class (variable n) l h = absurd (omega (arith, variable-between n .1))
-assigned-by-class (constant b) l h = absurd (omega (arith, l, class-constant b))
-assigned-by-class (string b) l h = absurd (omega (arith, l, class-string b))
-assigned-by-class (raw b) l h = absurd (omega (arith, h, class-raw b))
-assigned-by-class out-of-range l h = absurd (omega (arith, l, class-far))
-assigned-by-class unreadable l h = absurd (omega (arith, l, class-unreadable))
 
 -- 30 and above: a statement word
 pub statement-by-class : (t : Token) → 30 ≤ class t → t ≡ statement (own-of t)

@@ -1,12 +1,11 @@
 -- A draft with its offsets put in is the line: statement by statement, and whole.
-use Prim.Native.Nat.{ℕ, zero, suc, _+_, _/_, _%_, _≤_, _<_}
+use Prim.Native.Nat.{ℕ, suc, _+_, _/_, _%_, _≤_, _<_}
 use native.Mathlib.Omega.{arith}
 use native.Mathlib.Nat.{add-zero, mod-eq-of-lt}
 use mathlib.Core.Path.{_≡_, refl, subst, sym, ap, _∙_}
 use mathlib.Core.Bool.{Bool, true, false, not, _&&_}
-use mathlib.Core.List.{List, [], _∷_, _++_, append-nil, append-assoc}
-use lib.ListN.{length, set, length-append}
-use lib.Seq.{sets}
+use mathlib.Core.List.{List, [], _∷_, _++_, append-assoc}
+use lib.ListN.{length, length-append}
 use Rattle.paper.specs.Bytes.{pick, every}
 use Rattle.paper.specs.Tokens.{Token, statement, assigned, operator, variable, constant, string, raw, out-of-range, unreadable}
 use Rattle.paper.specs.Names.{number-of, add-name, add-names}
@@ -31,11 +30,6 @@ draft-append ks (t ∷ ts) us =
     ap (λ (l : List ℕ). pick (begins? t) (0 ∷ written ks t ++ l) (written ks t ++ l)) (draft-append (after ks t) ts us)
     ∙ draft-go (begins? t) (written ks t) (draft (after ks t) ts) (draft (add-names (after ks t) ts) us)
     ∙ ap (λ (k : List (List ℕ)). pick (begins? t) (0 ∷ written ks t ++ draft (after ks t) ts) (written ks t ++ draft (after ks t) ts) ++ draft k us) (sym (add-one-by-one ks t ts))
-
--- a token that begins no statement, alone
-pub draft-one : (ks : List (List ℕ)) (t : Token) → begins? t ≡ false → draft ks (t ∷ []) ≡ written ks t
-unfolding draft
-draft-one ks t h = rw (h, append-nil)
 
 -- ---- where no statement begins
 

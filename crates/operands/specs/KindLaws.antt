@@ -1,14 +1,14 @@
 -- What a kind of item says of its token.
-use Prim.Native.Nat.{ℕ, zero, suc, _+_, _-_, _*_, _≤_, _<_}
+use Prim.Native.Nat.{ℕ, suc, _+_, _≤_, _<_}
 use native.Mathlib.Omega.{arith}
-use mathlib.Core.Path.{_≡_, refl, subst, sym, ap, _∙_}
-use mathlib.Core.Bool.{Bool, true, false, _&&_}
+use mathlib.Core.Path.{_≡_, refl, sym}
+use mathlib.Core.Bool.{Bool, true, false}
 use mathlib.Core.List.{List, [], _∷_, _++_}
 use lib.Dec.{ltb}
 use lib.ListN.{length, take, drop, length-append}
 use lib.Seq.{length-take-le}
 use Rattle.paper.specs.Bytes.{pick, every}
-use Rattle.paper.specs.Tokens.{Token, statement, assigned, operator, variable, constant, string, out-of-range, unreadable, operator-class, class}
+use Rattle.paper.specs.Tokens.{constant, string, out-of-range, operator-class, class}
 use Rattle.paper.specs.Constants.{value, in-range, six, constant-of}
 use Rattle.paper.specs.Words.{word-of, statements}
 use Rattle.paper.specs.Items.{variable-at}
@@ -21,7 +21,7 @@ use Rattle.items.specs.Sees.{low?, Holds, Named}
 use Rattle.items.specs.declared.Kind.{Kind}
 use Rattle.items.specs.declared.Kind.the-variants.{Numeric, Text, Array, Number, Quoted, Operator, Function, Statement, End, Bad}
 use Rattle.names.specs.Tables.{spelled}
-use Rattle.operands.specs.ClassLaws.{own-of, name-of, statement-classes, operator-classes, no-statement, no-symbol}
+use Rattle.operands.specs.ClassLaws.{own-of, statement-classes, operator-classes, no-statement, no-symbol}
 
 -- how many bytes of name an item has
 unfoldable pub name-length : Kind → ℕ

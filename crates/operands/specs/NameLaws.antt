@@ -1,7 +1,6 @@
 -- Names added by tokens, one token after another.
 use Prim.Native.Nat.{ℕ, _<_}
-use native.Mathlib.Omega.{arith}
-use mathlib.Core.Path.{_≡_, refl, subst, sym, ap, _∙_}
+use mathlib.Core.Path.{_≡_, subst, sym, ap, _∙_}
 use mathlib.Core.List.{List, [], _∷_, _++_, append-nil, append-assoc}
 use lib.ListN.{length, drop}
 use lib.Seq.{drop-append-seam}
@@ -31,10 +30,6 @@ new-none ks = new-is ks [] [] (adds-none ks ∙ sym (append-nil ks))
 -- a token that adds no name
 pub new-same : (ks : List (List ℕ)) (t : Token) → after ks t ≡ ks → names-added ks (t ∷ []) ≡ []
 new-same ks t e = new-is ks [] (t ∷ []) (e ∙ sym (append-nil ks))
-
--- a token that adds a name
-pub new-one : (ks : List (List ℕ)) (t : Token) (n : List ℕ) → after ks t ≡ ks ++ n ∷ [] → names-added ks (t ∷ []) ≡ n ∷ []
-new-one ks t n e = new-is ks (n ∷ []) (t ∷ []) e
 
 -- the number of a name of a line: over the names known before it, and over all of the line's
 pub number-at-end : (ks xs : List (List ℕ)) (n : List ℕ) → number-of (add-name ks n ++ xs) n ≡ number-of ks n

@@ -2,16 +2,16 @@
 use Prim.Native.Nat.{ℕ, zero, suc, _+_, _-_, _*_, _/_, _%_, _≤_, _<_}
 use native.Mathlib.Omega.{arith}
 use mathlib.Core.Path.{_≡_, refl, subst, sym, ap, ap₂, _∙_}
-use mathlib.Core.Bool.{Bool, true, false, not, _&&_}
+use mathlib.Core.Bool.{Bool, true, false}
 use mathlib.Core.List.{List, [], _∷_, _++_}
-use lib.Dec.{T, eqb, eqb→eq}
+use lib.Dec.{T, eqb}
 use lib.ListN.{length, take, drop, getD, length-drop}
 use borrow.Author.Tests.{eq-eqb, eqb-true}
 use Rattle.paper.specs.Bytes.{pick, same, every}
 use Rattle.paper.specs.Tokens.{Token, statement, assigned, operator, variable, constant, string, raw, class, as-read, read-as}
 use Rattle.paper.specs.Items.{Item, item}
-use Rattle.paper.specs.Machine.{Act, Step, took, over, refused, step-act, step, Taken, Run, left, done, bad, and-taken, go-on, read}
-use Rattle.paper.specs.Grammar.{Gives, itself, for-strings, as-prefix, put, moved, given, look, look-item, start}
+use Rattle.paper.specs.Machine.{Step, took, over, refused, step-act, step, Taken, Run, left, done, bad, and-taken, go-on, read}
+use Rattle.paper.specs.Grammar.{Gives, given, look, look-item, start}
 use Rattle.paper.specs.Line.{begins?, raw-statement?, to-next, token-bytes, line-bytes, line-number, lawful-number?, tokens-from, line-tokens}
 use Rattle.paper.specs.WellFormed.{tokens-of, right-token?, items-of, gives-back?, well-formed?}
 use Rattle.laws.specs.Tests.{and-left, and-right, and-both}
@@ -20,7 +20,6 @@ use Rattle.pieces.specs.declared.Piece.the-variants.{Word, Text, Target,
 use Rattle.pieces.specs.Pieces.{piece-at, tokens-of-piece, size-of, end-after}
 use Rattle.pieces.specs.Given.{given-operator}
 use Rattle.pieces.specs.Rest.{After, Takes, Written, Rest, Whole}
-use Rattle.pieces.specs.Written.{head-is, tail-is}
 use Rattle.pieces.specs.Decoded.{pieces}
 use Rattle.pieces.specs.GivenLaws.{step-given, Plain, a-statement-plain, an-assigned-plain, a-variable-plain, a-constant-plain, a-string-plain, a-raw-plain, operator-given}
 use Rattle.pieces.specs.PieceLaws.{Is, piece-is, Left, less-word, less-text, less-target, less-variable, less-constant, less-quoted, less-operator}
@@ -159,10 +158,6 @@ module _ (ns : List (List ℕ)) where
   pieces-back k p end b s l ih fs tk h w =
       subst (λ (ts : List Token). read look-item fs (items-of ts) ≡ left tk [] → Same ns fs tk ts) (sym (pieces ns p end b s))
       (λ r. piece k p end b s l ih (piece-at p end (b ∷ s)) fs tk (piece-is p end (b ∷ s)) r w) h
-
-  tokens-none : (p end : ℕ) → tokens-from ns 0 p end [] ≡ []
-  unfolding tokens-from
-  tokens-none p end = refl
 
   empty-back : (p end : ℕ) (fs : List ℕ) (tk : List (Taken Gives Item)) → read look-item fs (items-of (tokens-from ns 0 p end [])) ≡ left tk [] → Same ns fs tk (tokens-from ns 0 p end [])
   unfolding tokens-from items-of read

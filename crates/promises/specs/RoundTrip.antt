@@ -3,14 +3,14 @@ use Prim.Native.Nat.{ℕ, zero, suc, _+_, _*_, _/_, _%_, _^_, _≤_, _<_}
 use native.Mathlib.Nat.{pow-suc, div-lt-iff-lt-mul}
 use native.Mathlib.Omega.{arith}
 use mathlib.Core.Path.{_≡_, refl, subst, sym, ap, ap₂, _∙_}
-use mathlib.Core.Bool.{Bool, true, false, not}
+use mathlib.Core.Bool.{Bool, true, false}
 use mathlib.Core.List.{List, [], _∷_, _++_, map}
-use lib.Dec.{T, eqb, ltb, leb→le}
+use lib.Dec.{T, ltb, leb→le}
 use lib.ListN.{length, take, drop}
 use lib.Seq.{take-append-seam}
 use borrow.Author.Tests.{le-leb, lt-ltb, le-ltb, ltb-true, ltb-false}
 use Rattle.paper.specs.Bytes.{blank, digit?, run, every}
-use Rattle.paper.specs.Classes.{colon, remark, raw-text}
+use Rattle.paper.specs.Classes.{colon}
 use Rattle.paper.specs.Tokens.{Token, statement, assigned, operator, variable, constant, string, raw, out-of-range, unreadable, out-of-range?, class}
 use Rattle.paper.specs.Names.{known?, sound-names, add-name, add-names}
 use Rattle.paper.specs.Items.{Item, items, scan, opens}
@@ -82,9 +82,6 @@ known ns js es e r =
     }
 
 -- ---- read again
-
-start-quiet : T (not (eqb colon remark)) × T (not (eqb colon raw-text))
-start-quiet = (tt, tt)
 
 all-read : (is : List Item) → read-tokens is ≡ map token-of is
 unfolding read-tokens token-of
