@@ -5,6 +5,7 @@ use operands::compares;
 use operands::constant;
 use operands::expect;
 use operands::expect_as;
+use operands::prefix_operator;
 use operands::quoted;
 use operands::see;
 use operands::string_operator;
@@ -17,7 +18,6 @@ ghost use mathlib.Core.List.{[], _∷_};
 ghost use Rattle.paper.specs.Frames.{want-operand, want-more-terms, want-array-open, want-second, want-close, want-function-open, want-string, want-substring, want-string-comparison};
 ghost use Rattle.operands.specs.Says.{env, mem, Asks, Says};
 ghost use Rattle.operands.specs.Tests.{joins?};
-ghost use Rattle.operands.specs.TookLaws.{shifted};
 
 // Whether an item of a class joins terms.
 fn joins(class: u8) -> bool
@@ -31,13 +31,6 @@ fn joins(class: u8) -> bool
         class::OR_AND => true,
         _ => false,
     }
-}
-
-// The prefix operator of `+` or `-`.
-fn prefix_operator(t: u8) -> u8
-    ensures { λ r. ⌜ r ≡ shifted 0x10 t ⌝ }
-{
-    if t < 128 { t + 0x10 } else { t }
 }
 
 // An expression: a term, and what is joined to it.

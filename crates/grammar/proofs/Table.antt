@@ -12,10 +12,10 @@ use Rattle.paper.specs.Bytes.{same, every, among}
 use Rattle.paper.specs.Machine.{Act, take as takes, leave, refuse, Row, no-row, at-row, find-row}
 use Rattle.paper.specs.Grammar.{Gives, itself, for-strings, as-prefix, put, grammar, may-be-empty, look}
 use Rattle.paper.specs.Open.{all-Bytes, all-Machine, all-Grammar}
-use Rattle.laws.specs.Tests.{and-left, and-right, as-T, everyAt}
+use Rattle.laws.specs.Tests.{and-left, and-right, is-true, as-T, everyAt}
+use Rattle.laws.specs.Names.{same-eq}
 use Rattle.grammar.specs.Stack.{gives-of}
 use Rattle.grammar.specs.Tables.{fits?, unpacked}
-use Rattle.pieces.specs.WellFormed.{same-is}
 
 -- ---- the test
 
@@ -157,7 +157,7 @@ module _ (w : List ℕ) (x : ℕ) where
       let t2 = and-right (gives? e (n % 64)) _ t1 in
       record {
         few = and-left (fits? 9 (n / 64)) _ t2;
-        acts = ap₂ takes (sym (given-so e (n % 64) (and-left (gives? e (n % 64)) _ t1))) (sym (same-is (unpacked 9 (n / 64) []) ws (and-right (fits? 9 (n / 64)) _ t2)));
+        acts = ap₂ takes (sym (given-so e (n % 64) (and-left (gives? e (n % 64)) _ t1))) (sym (same-eq (unpacked 9 (n / 64) []) ws (is-true (same (unpacked 9 (n / 64) []) ws) (and-right (fits? 9 (n / 64)) _ t2))));
       }
   takes-so leave t h = absurd (omega (arith, eqb→eq x 45 t))
   takes-so (refuse n) t h = absurd (omega (arith, ltb→lt x 48 (and-left (ltb x 48) _ (and-right (not (eqb x 45)) _ t))))

@@ -1,4 +1,6 @@
 pub mod Tests
+pub mod RowTests
+pub mod Classes
 pub mod Runs
 pub mod Lines
 pub mod Names

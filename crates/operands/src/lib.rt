@@ -79,6 +79,13 @@ pub fn compares(class: u8) -> bool
     }
 }
 
+// The prefix operator of `+` or `-`.
+pub fn prefix_operator(t: u8) -> u8
+    ensures { λ r. ⌜ r ≡ shifted 0x10 t ⌝ }
+{
+    if t < 128 { t + 0x10 } else { t }
+}
+
 // The comparison of strings that a comparison stands for.
 pub fn string_operator(t: u8) -> u8
     ensures { λ r. ⌜ r ≡ shifted 0x12 t ⌝ }

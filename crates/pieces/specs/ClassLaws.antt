@@ -1,4 +1,4 @@
--- Classes of tokens: there are 43, and a variable's in statement position is the third after its own.
+-- A variable's class in statement position is the third after its own.
 use Prim.Native.Nat.{ℕ, _+_, _<_}
 use mathlib.Core.Path.{_≡_, refl, ap, sym, _∙_}
 use mathlib.Core.Bool.{Bool, true, false}
@@ -9,35 +9,7 @@ use Rattle.paper.specs.Classes.{unfit, raw-end, raw-text, numeric-variable, str
 use Rattle.paper.specs.Words.{Word, word, word-of, statements, operators}
 use Rattle.paper.specs.Tokens.{Token, operator, variable, assigned, raw, class, by-kind, operator-class, as-read, read-as}
 use Rattle.paper.specs.Open.{all-Bytes, all-Words}
-use Rattle.pieces.specs.GivenLaws.{word-passes, at-kind}
-
-unfoldable low-word? : Word → Bool
-low-word? w = ltb (w .class) 43
-
-low-unknown : (k : ℕ) → T (low-word? (word k "" unfit))
-unfolding low-word? word
-low-unknown k = tt
-
-low-statements : T (every low-word? statements)
-unfolding low-word? all-Bytes all-Words
-low-statements = tt
-
-low-operators : T (every low-word? operators)
-unfolding low-word? all-Bytes all-Words
-low-operators = tt
-
-pub statement-low : (k : ℕ) → (word-of statements k) .class < 43
-unfolding low-word?
-statement-low k = ltb→lt ((word-of statements k) .class) 43 (word-passes low-word? statements k low-statements (low-unknown k))
-
-operator-go : (x y : Bool) (c : ℕ) → T (ltb c 43) → T (ltb (pick x 0 (pick y 1 c)) 43)
-operator-go true y c h = tt
-operator-go false true c h = tt
-operator-go false false c h = h
-
-pub operator-low : (t : ℕ) → operator-class t < 43
-unfolding operator-class low-word?
-operator-low t = ltb→lt (operator-class t) 43 (operator-go (eqb t 0x16) (eqb t 0x9b) _ (word-passes low-word? operators t low-operators (low-unknown t)))
+use Rattle.laws.specs.Classes.{at-kind}
 
 pub variable-low : (n : List ℕ) → class (variable n) < 40
 unfolding class

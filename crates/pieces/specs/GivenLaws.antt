@@ -14,6 +14,7 @@ use Rattle.paper.specs.Machine.{Act, take, leave, refuse, Row, no-row, at-row, 
 use Rattle.paper.specs.Grammar.{Gives, itself, for-strings, as-prefix, put, moved, given, grammar, may-be-empty, look, look-item}
 use Rattle.paper.specs.Open.{all-Bytes, all-Words, all-Machine, all-Grammar}
 use Rattle.laws.specs.Tests.{and-left, and-right, as-T}
+use Rattle.laws.specs.Classes.{word-passes, at-kind}
 use Rattle.pieces.specs.Given.{given-operator}
 
 -- ---- rows that put another operator are for three classes of symbols
@@ -78,15 +79,6 @@ step-given (f ∷ fs) c e gs h = act-go f c fs (step look fs c) e gs (look f c) 
 
 -- ---- tokens that are no operators
 
-word-go : (q : Word → Bool) (w v : Word) (x : Bool) → T (q w) → T (q v) → T (q (pick x w v))
-word-go q w v true s t = s
-word-go q w v false s t = t
-
-pub word-passes : (q : Word → Bool) (ws : List Word) (k : ℕ) → T (every q ws) → T (q (word k "" unfit)) → T (q (word-of ws k))
-unfolding word-of every
-word-passes q [] k t d = d
-word-passes q (w ∷ ws) k t d = word-go q w (word-of ws k) (eqb (w .token) k) (and-left (q w) _ t) (word-passes q ws k (and-right (q w) _ t) d)
-
 unfoldable plain-word? : Word → Bool
 plain-word? w = not (replaced? (w .class))
 
@@ -101,18 +93,6 @@ plain-unknown k = tt
 pub plain-statement : (k : ℕ) → T (not (replaced? (class (statement k))))
 unfolding class plain-word?
 plain-statement k = word-passes plain-word? statements k plain-words (plain-unknown k)
-
-kind-go : (q : ℕ → Bool) (x y : Bool) (a b c : ℕ) → T (q a) → T (q b) → T (q c) → T (q (pick x b (pick y c a)))
-kind-go q true y a b c s t u = t
-kind-go q false true a b c s t u = u
-kind-go q false false a b c s t u = s
-
--- a name's class passes a test that the three classes pass
-pub at-kind : (q : ℕ → Bool) (n : List ℕ) (a b c : ℕ) → T (q a) → T (q b) → T (q c) → T (q (by-kind n a b c))
-unfolding by-kind
-at-kind q [] a b c s t u = s
-at-kind q (x ∷ []) a b c s t u = kind-go q (eqb x 36) (eqb x 40) a b c s t u
-at-kind q (x ∷ y ∷ ys) a b c s t u = at-kind q (y ∷ ys) a b c s t u
 
 -- no operator, and of a class that no row replaces
 pub record Plain (t : Token) : Type 0 where

@@ -9,7 +9,7 @@ use Rattle.paper.specs.Machine.{Act, take, leave, refuse, Step, took, over, ref
 use Rattle.paper.specs.Machine.{Row, find-row, at-row, no-row}
 use Rattle.paper.specs.Bytes.{every, among}
 use Rattle.laws.specs.Tests.{and-left, and-right, or-else}
-use Rattle.promises.specs.RowTests.{at-rows}
+use Rattle.laws.specs.RowTests.{at-rows}
 use Rattle.promises.specs.Viable.{every-member}
 use Rattle.promises.specs.Lists.{or-left, or-right}
 

@@ -13,7 +13,7 @@ use Rattle.paper.specs.Machine.{Act, take, leave, refuse, Row, find-row, at-row
 use Rattle.paper.specs.Grammar.{Gives, grammar, may-be-empty, look, look-item, start}
 use Rattle.paper.specs.Open.{all-Bytes, all-Grammar, all-Machine}
 use Rattle.laws.specs.Tests.{and-left, and-right, or-else}
-use Rattle.promises.specs.RowTests.{at-rows}
+use Rattle.laws.specs.RowTests.{at-rows}
 use Rattle.promises.specs.Viable.{Info, Good, StepGood, none, nil?, top-or, word, heads, under, step-good, every-member}
 use Rattle.promises.specs.ViableGrammar.{rows-good, start-good}
 use Rattle.promises.specs.FrameTables.{info, infos}

@@ -10,7 +10,7 @@ use Rattle.paper.specs.Tokens.{out-of-range?, class}
 use Rattle.paper.specs.Items.{Item}
 use Rattle.paper.specs.Machine.{Act, take, leave, refuse, Row, no-row, at-row, find-row, Step, took, over, refused, step-act, Taken, Run, left, done, bad, and-taken, step, go-on, read}
 use Rattle.paper.specs.Grammar.{Gives, grammar, may-be-empty, look, look-item, if-in-range, look-in-range}
-use Rattle.promises.specs.RowTests.{at-rows}
+use Rattle.laws.specs.RowTests.{at-rows}
 use Rattle.promises.specs.Place.{sources, Stop, more}
 
 -- an item that is out of range

@@ -1,6 +1,5 @@
 pub mod Terms
 pub mod Lists
-pub mod RowTests
 pub mod Viable
 pub mod Place
 pub mod Adjacent

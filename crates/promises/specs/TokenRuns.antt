@@ -7,7 +7,7 @@ use lib.Dec.{T, eqb, eqb→eq}
 use Rattle.paper.specs.Bytes.{every, among}
 use Rattle.paper.specs.Machine.{Act, take, leave, refuse, Row, find-row, at-row, no-row, Step, took, over, refused, step-act, Taken, Run, left, done, bad, and-taken, step, go-on, read}
 use Rattle.laws.specs.Tests.{and-left, and-right}
-use Rattle.promises.specs.RowTests.{at-rows}
+use Rattle.laws.specs.RowTests.{at-rows}
 use Rattle.promises.specs.Place.{by-class, step-class}
 
 -- ---- the same run over what h makes of the items

@@ -13,7 +13,7 @@ use Rattle.paper.specs.MachineLaws.{all-taken, seq, then, read-append, read-the
 use Rattle.paper.specs.Machine.{Row, find-row, at-row, no-row}
 use Rattle.paper.specs.Bytes.{every, among}
 use Rattle.laws.specs.Tests.{everyAt, and-left, and-right, or-else}
-use Rattle.promises.specs.RowTests.{at-rows}
+use Rattle.laws.specs.RowTests.{at-rows}
 
 -- a word that completes a frame, and the classes that may then come first
 pub record Info : Type 0 where

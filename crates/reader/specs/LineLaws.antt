@@ -23,14 +23,14 @@ use Rattle.operands.specs.NameLaws.{new-append}
 use Rattle.operands.specs.DraftLaws.{Starts, statement-offsets, statement-draft, offsets-append}
 use Rattle.operands.specs.Says.{Env, env, Mem, mem, spot, known, items-at, taken, item-of, Asks, Marks, Wrote}
 use Rattle.operands.specs.Laws.{out-then, count-then, tokens-append, wrote-then, taken-bad, read-take}
-use Rattle.endings.specs.Ends.{Goes, Closes, Halts, Reads}
-use Rattle.endings.specs.EndLaws.{taken-append, taken-left}
+use Rattle.rests.specs.Ends.{Goes, Closes, Halts, Reads}
+use Rattle.rests.specs.EndLaws.{taken-append, taken-left}
 use Rattle.reader.specs.Lines.{Lined, Began, Follows, Finishes, States, Tells}
 use Rattle.operands.specs.declared.Spot.{Spot}
 use Rattle.operands.specs.declared.Step.{Step}
 use Rattle.operands.specs.declared.Step.the-variants.{Done, Refused as Halted}
-use Rattle.endings.specs.declared.Ended.{Ended}
-use Rattle.endings.specs.declared.Ended.the-variants.{More, Last, Refused}
+use Rattle.rests.specs.declared.Ended.{Ended}
+use Rattle.rests.specs.declared.Ended.the-variants.{More, Last, Refused}
 
 -- ---- a byte put over the first of some written bytes
 

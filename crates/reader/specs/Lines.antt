@@ -18,12 +18,12 @@ use Rattle.laws.specs.Names.{names-added}
 use Rattle.operands.specs.Draft.{with-offsets}
 use Rattle.operands.specs.DraftLaws.{Starts}
 use Rattle.operands.specs.Says.{Env, Mem, Asks, Wrote, items-at, known}
-use Rattle.endings.specs.Ends.{Halts}
+use Rattle.rests.specs.Ends.{Halts}
 use Rattle.operands.specs.declared.Spot.{Spot}
 use Rattle.operands.specs.declared.Step.{Step}
 use Rattle.operands.specs.declared.Step.the-variants.{Done, Refused as Halted}
-use Rattle.endings.specs.declared.Ended.{Ended}
-use Rattle.endings.specs.declared.Ended.the-variants.{More, Last, Refused}
+use Rattle.rests.specs.declared.Ended.{Ended}
+use Rattle.rests.specs.declared.Ended.the-variants.{More, Last, Refused}
 
 -- whole statements were written, each with its offset
 pub record Lined (E : Env) (q : Spot) (m : Mem) (us : List Token) (q′ : Spot) (m′ : Mem) : Type 0 where

@@ -25,7 +25,7 @@ use Rattle.operands.specs.Draft.{low, with-offsets, written-line}
 use Rattle.operands.specs.DraftLaws.{line-size}
 use Rattle.operands.specs.Says.{env, Mem, mem, spot, known, items-at, Asks}
 use Rattle.operands.specs.declared.Spot.{Spot}
-use Rattle.endings.specs.Ends.{Halts}
+use Rattle.rests.specs.Ends.{Halts}
 use Rattle.reader.specs.Lines.{Finishes}
 use Rattle.reader.specs.LineLaws.{sets-set}
 use Rattle.reader.specs.Reading.{of-translated, of-head, reading, Accepted, Told, Capped}

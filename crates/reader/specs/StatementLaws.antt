@@ -39,14 +39,14 @@ use Rattle.operands.specs.TookLaws.{wrote-bytes, asks-after, one-byte, no-name,
 use Rattle.operands.specs.SeesLaws.{next-of}
 use Rattle.operands.specs.LeafLaws.{NameSeen, spelling, name-facts, wrote-name, asks-name, assigned-draft, assigned-after}
 use Rattle.operands.specs.declared.Spot.{Spot}
-use Rattle.endings.specs.Ends.{Goes, Closes, Halts, Reads, Ends}
-use Rattle.endings.specs.EndLaws.{reads-last, reads-stop, reads-same}
+use Rattle.rests.specs.Ends.{Goes, Closes, Halts, Reads, Ends}
+use Rattle.rests.specs.EndLaws.{reads-last, reads-stop, reads-same}
 use Rattle.reader.specs.Lines.{Began}
 use Rattle.reader.specs.LineLaws.{part-items, part-asks}
-use Rattle.endings.specs.StatementTests.{opens-statement?, statement-frames, rest-items}
-use Rattle.endings.specs.StatementRows.{statement-row, statement-else, opener, raw-text-row, raw-end-row, raw-end-unfit}
-use Rattle.endings.specs.declared.Ended.{Ended}
-use Rattle.endings.specs.declared.Ended.the-variants.{More, Last, Refused}
+use Rattle.rests.specs.StatementTests.{opens-statement?, statement-frames, rest-items}
+use Rattle.rests.specs.StatementRows.{statement-row, statement-else, opener, raw-text-row, raw-end-row, raw-end-unfit}
+use Rattle.rests.specs.declared.Ended.{Ended}
+use Rattle.rests.specs.declared.Ended.the-variants.{More, Last, Refused}
 
 -- ---- raw text
 

@@ -1,26 +1,11 @@
 // Statements, one after another: the first item of each, its rest, and its offset.
-use endings::Ended;
-use endings::condition;
-use endings::element_assigned;
-use endings::ending;
-use endings::last_expression;
-use endings::let_target;
-use endings::number_assigned;
-use endings::substring_assigned;
 use items::Item;
 use operands::Spot;
 use operands::Step;
 use operands::name_number;
 use operands::see;
 use operands::variable_token;
-use rests::dims;
-use rests::for_variable;
-use rests::next_variable;
-use rests::poke;
-use rests::print;
-use rests::restore;
-use rests::selection;
-use rests::variables;
+use rests::Ended;
 use tokens::OperatorToken;
 use tokens::StatementToken;
 use tokens::class;
@@ -36,9 +21,9 @@ ghost use Rattle.items.specs.Sees.{Sees, token-at};
 ghost use Rattle.operands.specs.Draft.{low};
 ghost use Rattle.operands.specs.ClassLaws.{own-of};
 ghost use Rattle.operands.specs.Says.{env, mem, Asks};
-ghost use Rattle.endings.specs.Ends.{Reads};
+ghost use Rattle.rests.specs.Ends.{Reads};
 ghost use Rattle.reader.specs.Lines.{Began, States, Tells};
-ghost use Rattle.endings.specs.StatementTests.{opens-statement?, statement-frames, rest-items};
+ghost use Rattle.rests.specs.StatementTests.{opens-statement?, statement-frames, rest-items};
 
 // The low byte of a number.
 pub fn low_byte(n: usize) -> u8
@@ -112,26 +97,13 @@ fn rest(
     names: &[u8],
     fresh: &mut [u8],
 ) -> Ended
-    requires { ⌜ Asks (env (now part) offset (now names)) q (mem (now line) (now fresh)) ⌝ }
+    requires { ⌜ (Asks (env (now part) offset (now names)) q (mem (now line) (now fresh))) × (opens-statement? found ≡ true) ⌝ }
     ensures { λ r. ⌜ Reads (statement-frames found) (rest-items (env (now (part .entry)) offset (now (names .entry))) found (q .at)) (env (now (part .entry)) offset (now (names .entry))) q (mem (now (line .entry)) (now (fresh .entry))) (mem (now (line .exit)) (now (fresh .exit))) r ⌝ }
 {
-    match found {
-        class::REMARK => raw(part, offset, q, line, names, fresh),
-        class::LET_WORD => let_target(part, offset, q, line, names, fresh),
-        class::FIRST_NUMERIC => number_assigned(part, offset, q, line, names, fresh),
-        class::FIRST_ARRAY => element_assigned(part, offset, q, line, names, fresh),
-        class::FIRST_STRING => substring_assigned(part, offset, q, line, names, fresh),
-        class::IF_WORD => condition(part, offset, q, line, names, fresh),
-        class::FOR_WORD => for_variable(part, offset, q, line, names, fresh),
-        class::NEXT_WORD => next_variable(part, offset, q, line, names, fresh),
-        class::ON_WORD => selection(part, offset, q, line, names, fresh),
-        class::DIM_WORD => dims(part, offset, q, line, names, fresh),
-        class::READ_INPUT => variables(part, offset, q, line, names, fresh),
-        class::PRINT_WORD => print(part, offset, q, line, names, fresh),
-        class::POKE_WORD => poke(part, offset, q, line, names, fresh),
-        class::JUMP => last_expression(part, offset, q, line, names, fresh),
-        class::RESTORE_WORD => restore(part, offset, q, line, names, fresh),
-        _ => ending(part, offset, q, line, names, fresh),
+    if found == class::REMARK {
+        raw(part, offset, q, line, names, fresh)
+    } else {
+        rests::rest(part, offset, found, q, line, names, fresh)
     }
 }
 

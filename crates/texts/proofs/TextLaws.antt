@@ -34,7 +34,7 @@ use Rattle.pieces.specs.declared.Piece.{Piece}
 use Rattle.pieces.specs.declared.Piece.the-variants as Piece′
 use Rattle.pieces.specs.Pieces.{tokens-of-piece}
 use Rattle.texts.specs.Texts.{piece-text, Writes, zeros}
-use Rattle.pieces.specs.GivenLaws.{word-passes}
+use Rattle.laws.specs.Classes.{word-passes}
 use Rattle.pieces.specs.WellFormed.{same-is}
 
 -- ---- bytes with their top bits cleared

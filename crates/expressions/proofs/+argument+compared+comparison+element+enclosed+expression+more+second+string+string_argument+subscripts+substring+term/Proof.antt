@@ -58,7 +58,7 @@ use Rattle.operands.proofs.constant.Reads as constant-reads
 use Rattle.operands.proofs.expect.Reads as expect-reads
 use Rattle.operands.proofs.expect_as.Reads as expect-as-reads
 use Rattle.expressions.proofs.joins.Reads as joins-reads
-use Rattle.expressions.proofs.prefix_operator.Reads as prefix-operator-reads
+use Rattle.operands.proofs.prefix_operator.Reads as prefix-operator-reads
 use Rattle.operands.proofs.quoted.Reads as quoted-reads
 use Rattle.operands.proofs.see.Reads as see-reads
 use Rattle.operands.proofs.string_operator.Reads as string-operator-reads

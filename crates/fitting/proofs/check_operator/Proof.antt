@@ -1,5 +1,5 @@
 use native.Mathlib.Omega.{arith}
-use Rattle.pieces.specs.ClassLaws.{operator-low}
+use Rattle.laws.specs.Classes.{operator-low}
 use Rattle.fitting.proofs.Checking.{At, pass-operator, fail-given, fail-operator}
 use borrow.Author.Needs.{needs}
 use Rattle.fitting.proofs.check_operator.Statement.{statement}

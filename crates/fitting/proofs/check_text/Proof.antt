@@ -4,7 +4,7 @@ use lib.ListN.{length-drop}
 use Rattle.fitting.proofs.Checking.{At, fail, fail-short, fail-holds, pass-one, fail-one}
 use Rattle.pieces.specs.Pieces.{tokens-of-piece, size-of}
 use Rattle.paper.specs.Tokens.{statement as the-word, assigned, variable, constant, string, class, as-read, operator-class, read-as}
-use Rattle.pieces.specs.ClassLaws.{statement-low}
+use Rattle.laws.specs.Classes.{statement-low}
 use Rattle.fitting.proofs.Checking.{pass-text, fail-text}
 use borrow.Author.Needs.{needs}
 use Rattle.fitting.proofs.check_text.Statement.{statement}

@@ -5,7 +5,7 @@ use Rattle.fitting.proofs.Checking.{At, fail, fail-short, fail-holds, p
 use Rattle.pieces.specs.Pieces.{tokens-of-piece, size-of}
 use Rattle.paper.specs.Tokens.{statement as the-word, assigned, variable, constant, string, class, as-read, operator-class, read-as}
 use Rattle.pieces.specs.GivenLaws.{a-statement-plain}
-use Rattle.pieces.specs.ClassLaws.{statement-low}
+use Rattle.laws.specs.Classes.{statement-low}
 use borrow.Author.Needs.{needs}
 use Rattle.fitting.proofs.check_word.Statement.{statement}
 use Rattle.fitting.proofs.check_word.Tie as tie

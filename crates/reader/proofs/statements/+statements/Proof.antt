@@ -11,10 +11,10 @@ use Rattle.items.specs.ScanLaws.{raw-within}
 use Rattle.operands.specs.Draft.{low}
 use Rattle.operands.specs.Says.{mem, item-of, env}
 use Rattle.operands.specs.Laws.{row-take, row-refuse}
-use Rattle.endings.specs.EndLaws.{ends-refuse}
+use Rattle.rests.specs.EndLaws.{ends-refuse}
 use Rattle.reader.specs.LineLaws.{states-more, states-last, states-halt, says-more, says-last, says-halt, tells-more, tells-done, tells-stop}
-use Rattle.endings.specs.StatementTests.{opens-statement?, statement-frames, rest-items}
-use Rattle.endings.specs.StatementRows.{opener, statement-row, statement-else}
+use Rattle.rests.specs.StatementTests.{opens-statement?, statement-frames, rest-items}
+use Rattle.rests.specs.StatementRows.{opener, statement-row, statement-else}
 use Rattle.reader.specs.StatementLaws.{raw-last, raw-stop, began-word, began-name, after-first, rest-is, rest-else, rest-part, rest-of, rest-asks}
 use borrow.Author.Needs.{needs}
 use Prim.Native.Nat.{ℕ, _<_}
