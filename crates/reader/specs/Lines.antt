@@ -3,11 +3,14 @@ use Prim.Native.Nat.{ℕ, _+_, _*_, _≤_, _<_}
 use mathlib.Core.Path.{_≡_}
 use mathlib.Core.Bool.{Bool, true, false}
 use mathlib.Core.List.{List, [], _∷_, _++_}
-use lib.ListN.{length}
+use lib.Dec.{eqb}
+use lib.ListN.{length, drop}
 use lib.Seq.{sets}
 use Rattle.paper.specs.Tokens.{Token}
 use Rattle.paper.specs.Names.{name-bytes, add-names}
-use Rattle.paper.specs.Items.{Item}
+use Rattle.paper.specs.Bytes.{pick}
+use Rattle.paper.specs.Classes.{remark}
+use Rattle.paper.specs.Items.{Item, raw-at}
 use Rattle.paper.specs.Machine.{Taken, Run, left, done, bad, read}
 use Rattle.paper.specs.MachineLaws.{all-taken}
 use Rattle.paper.specs.Frames.{want-statement}
@@ -68,3 +71,7 @@ pub record States (E : Env) (q : Spot) (m m′ : Mem) (r : Ended) : Type 0 where
 pub record Tells (E : Env) (q : Spot) (m m′ : Mem) (r : Step) : Type 0 where
   pub done : (q′ : Spot) → r ≡ Done q′ → Finishes E q m q′ m′
   pub stop : (k p : ℕ) → r ≡ Halted k p → Halts (want-statement ∷ []) (items-at E true (q .at)) k p
+
+-- the items after the first one of a statement, from a place on: raw text after REM and DATA
+unfoldable pub rest-items : Env → ℕ → ℕ → List Item
+rest-items E c at = pick (eqb c remark) (raw-at (E .from + at) (drop at (E .text))) (items-at E false at)

@@ -7,16 +7,16 @@ use mathlib.Core.Bool.{Bool, true, false, not}
 use mathlib.Core.List.{List, [], _∷_, _++_, append-nil, append-assoc}
 use lib.Dec.{eqb}
 use borrow.Author.Tests.{ne-eqb, eq-eqb, eqb-true, eqb-false}
-use lib.ListN.{length, take, drop, set, length-append, length-drop}
+use lib.ListN.{length, take, drop, getD, set, length-append, length-drop}
 use lib.Seq.{sets, take-all, length-take-le}
 use Rattle.paper.specs.Bytes.{pick}
 use Rattle.paper.specs.Classes.{line-end, raw-end, raw-text, unfit, remark}
 use Rattle.paper.specs.Tokens.{Token, statement, assigned, operator, raw, unreadable, class}
 use Rattle.paper.specs.Names.{names-in, name-bytes, number-of, add-name, add-names}
 use Rattle.paper.specs.Items.{Item, item, opens, raw-at, variable-at}
-use Rattle.paper.specs.Machine.{Act, leave, refuse, step-act, Taken, Run, left, done, bad, and-taken, step, go-on, read}
+use Rattle.paper.specs.Machine.{leave, refuse, took, refused, step-act, Taken, Run, left, done, bad, and-taken, step, go-on, read}
 use Rattle.paper.specs.Machine.{take as takes-item}
-use Rattle.paper.specs.Frames.{want-statement, want-raw-text, want-raw-end, want-end}
+use Rattle.paper.specs.Frames.{want-statement, want-raw-text, want-raw-end}
 use Rattle.paper.specs.Grammar.{Gives, itself, given, look, look-in-range}
 use Rattle.paper.specs.Line.{begins?}
 use Rattle.paper.specs.WellFormed.{tokens-of}
@@ -40,11 +40,14 @@ use Rattle.operands.specs.SeesLaws.{next-of}
 use Rattle.operands.specs.LeafLaws.{NameSeen, spelling, name-facts, wrote-name, asks-name, assigned-draft, assigned-after}
 use Rattle.operands.specs.declared.Spot.{Spot}
 use Rattle.rests.specs.Ends.{Goes, Closes, Halts, Reads, Ends}
-use Rattle.rests.specs.EndLaws.{reads-last, reads-stop, reads-same}
-use Rattle.reader.specs.Lines.{Began}
+use Rattle.rests.specs.EndLaws.{reads-last, reads-stop, ends-refuse}
+use Rattle.rests.specs.Stacks.{Begins, begins-with, begins-not, step-refused}
+use Rattle.grammar.specs.Stack.{stack, gives-of, Steps}
+use Rattle.grammar.specs.declared.Step.{Step as Act}
+use Rattle.grammar.specs.declared.Step.the-variants.{Took, Refused as Unfit}
+use Rattle.reader.specs.Lines.{Began, rest-items}
 use Rattle.reader.specs.LineLaws.{part-items, part-asks}
-use Rattle.rests.specs.StatementTests.{opens-statement?, statement-frames, rest-items}
-use Rattle.rests.specs.StatementRows.{statement-row, statement-else, opener, raw-text-row, raw-end-row, raw-end-unfit}
+use Rattle.rests.specs.Rows.{raw-text-row, raw-end-row, raw-end-unfit}
 use Rattle.rests.specs.declared.Ended.{Ended}
 use Rattle.rests.specs.declared.Ended.the-variants.{More, Last, Refused}
 
@@ -222,6 +225,28 @@ began-name {s} {names} {o} {q} {m} {it} {r} {b} {l₁} {l₂} {new} {fresh} g v 
       stands = refl;
     }
 
+-- what the stack of a statement alone says of its first item
+pub begun : {old new : List ℕ} {c g d : ℕ} {r : Act} → getD old 0 0 ≡ want-statement → Steps old 1 c r new → r ≡ Took g d → (look want-statement c ≡ takes-item itself (stack new d)) × Begins c itself (stack new d)
+unfolding stack
+begun {old} {new} {c} {g} {d} z h e =
+    let x = begins-with c (gives-of g) (stack new d) (ap (λ (f : ℕ). step look (f ∷ []) c) (sym z) ∙ h .takes g d e .0) in
+    (x .0 ∙ ap (λ (w : Gives). takes-item w (stack new d)) (x .1 .own), record { own = refl; starts = x .1 .starts; raw = x .1 .raw; good = x .1 .good })
+
+pub begun-row : {c : ℕ} {ws : List ℕ} (i : Item) → (look want-statement c ≡ takes-item itself ws) × Begins c itself ws → class (i .token) ≡ c → look-in-range want-statement i ≡ takes-item itself ws
+begun-row {c} {ws} i b h = row-take want-statement c itself ws i h (b .0) (ne-eqb c 3 (λ y. omega (arith, b .1 .starts (omega (arith, y)) .0, y)))
+
+pub begun-moves : {E : Env} {at : ℕ} {t : Token} {a e c : ℕ} → Next E true at t a e → class t ≡ c → (c < 30 → (8 ≤ c) × (c ≤ 10)) → at < e
+begun-moves s h k = omega (arith, s .after, s .moves (λ z. omega (arith, k (omega (arith, h, z)) .0, h, z)))
+
+-- an item that begins no statement
+pub not-begun : {old new : List ℕ} {c : ℕ} {r : Act} {E : Env} {at : ℕ} {t : Token} {a e p : ℕ} → getD old 0 0 ≡ want-statement → Steps old 1 c r new → r ≡ Unfit → Next E true at t a e → class t ≡ c → p ≡ E .from + a
+    → Halts (want-statement ∷ []) (items-at E true at) 4 p
+unfolding stack
+not-begun {old} {new} {c} {r} {E} {at} {t} {a} {e} {p} z n y s h w =
+    let m : Mem = mem [] [] in
+    let u : step look (want-statement ∷ []) c ≡ refused 4 = begins-not c (λ g gs x. n .refuses y g gs (ap (λ (f : ℕ). step look (f ∷ []) c) z ∙ x)) in
+    (ends-refuse {q = spot at 0 0} (want-statement ∷ []) m m s (step-refused (want-statement ∷ []) (item-of E t a e) 4 (ap (step look (want-statement ∷ [])) h ∙ u)) w) .stop 4 p refl
+
 -- ---- the items that follow it
 
 after-go : (E : Env) (t : Token) (a e c : ℕ) (rest : List Item) (b : Bool) → eqb c remark ≡ b → (b ≡ true → rest ≡ raw-at (E .from + e) (drop e (E .text))) → (b ≡ false → rest ≡ items-at E false e)
@@ -234,26 +259,30 @@ unfolding opens
 calm-opens E c e p q = rw (p, q)
 
 -- after the first item of a statement comes its rest
-pub after-first : {E : Env} {at : ℕ} {t : Token} {a e : ℕ} (c : ℕ) → Next E true at t a e → class t ≡ c → opens-statement? c ≡ true → items-at E true at ≡ item-of E t a e ∷ rest-items E c e
+pub after-first : {E : Env} {at : ℕ} {t : Token} {a e : ℕ} (c : ℕ) → Next E true at t a e → class t ≡ c → (c < 30 → (8 ≤ c) × (c ≤ 10)) → items-at E true at ≡ item-of E t a e ∷ rest-items E c e
 unfolding rest-items
 after-first {E} {at} {t} {a} {e} c s h k =
-    let o = opener c k in
     s .here
     ∙ ap (λ (r : List Item). item-of E t a e ∷ r)
     (after-go E t a e c (s .rest) (eqb c remark) refl
     (λ z. s .text (h ∙ eqb-true c remark z))
-    (λ z. s .on (λ y. o .no-end (sym h ∙ y)) (λ y. eqb-false c remark z (sym h ∙ y)) ∙ ap (λ (x : ℕ). items-at E (opens x) e) h ∙ calm-opens E c e (o .no-colon) (o .no-then)))
+    (λ z.
+    s .on (λ y. absurd (omega (arith, k (omega (arith, h, y)) .0, h, y))) (λ y. eqb-false c remark z (sym h ∙ y)) ∙ ap (λ (x : ℕ). items-at E (opens x) e) h
+    ∙ calm-opens E c e (ne-eqb c 14 (λ y. omega (arith, k (omega (arith, y)) .1, y))) (ne-eqb c 25 (λ y. omega (arith, k (omega (arith, y)) .1, y)))))
 
 -- ---- the rest by the class of the first item
 
--- for a class that is known
-pub rest-is : {E : Env} {q : Spot} {m m′ : Mem} {r : Ended} (c d : ℕ) → c ≡ d → Reads (statement-frames d) (rest-items E d (q .at)) E q m m′ r → Reads (statement-frames c) (rest-items E c (q .at)) E q m m′ r
-rest-is {E} {q} {m} {m′} {r} c d e a = subst (λ (x : ℕ). Reads (statement-frames x) (rest-items E x (q .at)) E q m m′ r) (sym e) a
+-- raw text
+pub rest-raw : {E : Env} {q : Spot} {m m′ : Mem} {r : Ended} {fs : List ℕ} (c : ℕ) → c ≡ remark → fs ≡ want-raw-text ∷ want-raw-end ∷ []
+    → Reads (want-raw-text ∷ want-raw-end ∷ []) (raw-at (E .from + q .at) (drop (q .at) (E .text))) E q m m′ r → Reads fs (rest-items E c (q .at)) E q m m′ r
+unfolding rest-items
+rest-raw {E} {q} {m} {m′} {r} c h e a =
+    rw (eq-eqb c remark h) (subst (λ (l : List ℕ). Reads l (raw-at (E .from + q .at) (drop (q .at) (E .text))) E q m m′ r) (sym e) a)
 
--- for any other: the statement ends
-pub rest-else : {E : Env} {q : Spot} {m m′ : Mem} {r : Ended} (c : ℕ) → (c ≡ 30 → ⊥) → (c ≡ 32 → ⊥) → (c ≡ 8 → ⊥) → (c ≡ 10 → ⊥) → (c ≡ 9 → ⊥) → (c ≡ 33 → ⊥) → (c ≡ 34 → ⊥) → (c ≡ 35 → ⊥) → (c ≡ 39 → ⊥) → (c ≡ 38 → ⊥) → (c ≡ 31 → ⊥) → (c ≡ 41 → ⊥) → (c ≡ 40 → ⊥) → (c ≡ 36 → ⊥) → (c ≡ 42 → ⊥) → Ends (want-end ∷ []) E q m m′ r → Reads (statement-frames c) (rest-items E c (q .at)) E q m m′ r
-unfolding statement-frames rest-items
-rest-else c h0 h1 h2 h3 h4 h5 h6 h7 h8 h9 h10 h11 h12 h13 h14 a = rw (ne-eqb c 30 h0, ne-eqb c 32 h1, ne-eqb c 8 h2, ne-eqb c 10 h3, ne-eqb c 9 h4, ne-eqb c 33 h5, ne-eqb c 34 h6, ne-eqb c 35 h7, ne-eqb c 39 h8, ne-eqb c 38 h9, ne-eqb c 31 h10, ne-eqb c 41 h11, ne-eqb c 40 h12, ne-eqb c 36 h13, ne-eqb c 42 h14) a
+-- any other
+pub rest-other : {E : Env} {q : Spot} {m m′ : Mem} {r : Ended} {fs : List ℕ} (c : ℕ) → (c ≡ remark → ⊥) → Ends fs E q m m′ r → Reads fs (rest-items E c (q .at)) E q m m′ r
+unfolding rest-items
+rest-other c h a = rw (ne-eqb c remark h) a
 
 -- ---- a whole statement
 

@@ -1,10 +1,12 @@
 // Statements, one after another: the first item of each, its rest, and its offset.
+use grammar::Step as Act;
 use items::Item;
 use operands::Spot;
 use operands::Step;
 use operands::name_number;
 use operands::see;
 use operands::variable_token;
+use rests::DEEPEST;
 use rests::Ended;
 use tokens::OperatorToken;
 use tokens::StatementToken;
@@ -17,44 +19,21 @@ ghost use lib.ListN.{length, drop};
 ghost use Rattle.paper.specs.Tokens.{class};
 ghost use Rattle.paper.specs.Items.{raw-at};
 ghost use Rattle.paper.specs.Frames.{want-raw-text, want-raw-end};
+ghost use Rattle.paper.specs.Grammar.{itself};
+ghost use Rattle.grammar.specs.Stack.{stack};
 ghost use Rattle.items.specs.Sees.{Sees, token-at};
 ghost use Rattle.operands.specs.Draft.{low};
 ghost use Rattle.operands.specs.ClassLaws.{own-of};
 ghost use Rattle.operands.specs.Says.{env, mem, Asks};
 ghost use Rattle.rests.specs.Ends.{Reads};
-ghost use Rattle.reader.specs.Lines.{Began, States, Tells};
-ghost use Rattle.rests.specs.StatementTests.{opens-statement?, statement-frames, rest-items};
+ghost use Rattle.reader.specs.Lines.{Began, States, Tells, rest-items};
+ghost use Rattle.rests.specs.Stacks.{Begins};
 
 // The low byte of a number.
 pub fn low_byte(n: usize) -> u8
     ensures { λ r. ⌜ r ≡ low n ⌝ }
 {
     (n % 256) as u8
-}
-
-// Whether an item of a class begins a statement.
-fn opens_statement(found: u8) -> bool
-    ensures { λ r. ⌜ r ≡ opens-statement? found ⌝ }
-{
-    match found {
-        class::REMARK => true,
-        class::LET_WORD => true,
-        class::FIRST_NUMERIC => true,
-        class::FIRST_ARRAY => true,
-        class::FIRST_STRING => true,
-        class::IF_WORD => true,
-        class::FOR_WORD => true,
-        class::NEXT_WORD => true,
-        class::ON_WORD => true,
-        class::DIM_WORD => true,
-        class::READ_INPUT => true,
-        class::PRINT_WORD => true,
-        class::POKE_WORD => true,
-        class::JUMP => true,
-        class::RESTORE_WORD => true,
-        class::ALONE => true,
-        _ => false,
-    }
 }
 
 // REM and DATA: the text that follows, or refusal 4 at a 9B in it.
@@ -87,7 +66,7 @@ fn raw(
     })
 }
 
-// What follows the first item of a statement, by its class.
+// What follows the first item of a statement: raw text after REM and DATA, what a stack of frames reads after all others.
 fn rest(
     part: &[u8],
     offset: usize,
@@ -96,14 +75,16 @@ fn rest(
     line: &mut [u8],
     names: &[u8],
     fresh: &mut [u8],
+    frames: &mut [u8],
+    depth: usize,
 ) -> Ended
-    requires { ⌜ (Asks (env (now part) offset (now names)) q (mem (now line) (now fresh))) × (opens-statement? found ≡ true) ⌝ }
-    ensures { λ r. ⌜ Reads (statement-frames found) (rest-items (env (now (part .entry)) offset (now (names .entry))) found (q .at)) (env (now (part .entry)) offset (now (names .entry))) q (mem (now (line .entry)) (now (fresh .entry))) (mem (now (line .exit)) (now (fresh .exit))) r ⌝ }
+    requires { ⌜ (Asks (env (now part) offset (now names)) q (mem (now line) (now fresh))) × (Begins found itself (stack (now frames) depth)) × (depth ≤ 9) × (1104 ≤ length (now frames)) ⌝ }
+    ensures { λ r. ⌜ Reads (stack (now (frames .entry)) depth) (rest-items (env (now (part .entry)) offset (now (names .entry))) found (q .at)) (env (now (part .entry)) offset (now (names .entry))) q (mem (now (line .entry)) (now (fresh .entry))) (mem (now (line .exit)) (now (fresh .exit))) r ⌝ }
 {
     if found == class::REMARK {
         raw(part, offset, q, line, names, fresh)
     } else {
-        rests::rest(part, offset, found, q, line, names, fresh)
+        rests::follow(part, offset, q, line, names, fresh, frames, depth)
     }
 }
 
@@ -118,7 +99,7 @@ fn begin(
     names: &[u8],
     fresh: &mut [u8],
 ) -> Spot
-    requires { ⌜ (Asks (env (now text) 0 (now names)) q (mem (now line) (now fresh))) × (Sees (now text) (q .at) true it) × (found ≡ class (token-at (now text) true it)) × (own ≡ own-of (token-at (now text) true it)) × (opens-statement? found ≡ true) ⌝ }
+    requires { ⌜ (Asks (env (now text) 0 (now names)) q (mem (now line) (now fresh))) × (Sees (now text) (q .at) true it) × (found ≡ class (token-at (now text) true it)) × (own ≡ own-of (token-at (now text) true it)) × (found < 30 → (8 ≤ found) × (found ≤ 10)) ⌝ }
     ensures { λ r. ⌜ Began (env (now (text .entry)) 0 (now (names .entry))) q (mem (now (line .entry)) (now (fresh .entry))) (token-at (now (text .entry)) true it) (it .end) r (mem (now (line .exit)) (now (fresh .exit))) ⌝ }
 {
     let end = it.end;
@@ -155,34 +136,46 @@ fn statement(text: &[u8], q: Spot, line: &mut [u8], names: &[u8], fresh: &mut [u
     let end = it.end;
     let place = it.at;
     let found = seen.class;
-    if opens_statement(found) {
-        let p = begin(text, it, found, seen.own, q, line, names, fresh);
-        let start = Spot {
-            at: 0,
-            written: p.written,
-            named: p.named,
-        };
-        match rest(&text[end..], end, found, start, line, names, fresh) {
-            Ended::More(next) => {
-                buffers::put(line, written, low_byte(next.written));
-                Ended::More(Spot {
-                    at: end + next.at,
-                    written: next.written,
-                    named: next.named,
-                })
+    let mut frames = [0u8; DEEPEST];
+    match grammar::take_item(&mut frames, 1, found) {
+        Act::Took(_, depth) => {
+            let p = begin(text, it, found, seen.own, q, line, names, fresh);
+            let start = Spot {
+                at: 0,
+                written: p.written,
+                named: p.named,
+            };
+            match rest(
+                &text[end..],
+                end,
+                found,
+                start,
+                line,
+                names,
+                fresh,
+                &mut frames,
+                depth,
+            ) {
+                Ended::More(next) => {
+                    buffers::put(line, written, low_byte(next.written));
+                    Ended::More(Spot {
+                        at: end + next.at,
+                        written: next.written,
+                        named: next.named,
+                    })
+                }
+                Ended::Last(r) => {
+                    buffers::put(line, written, low_byte(r.written));
+                    Ended::Last(Spot {
+                        at: end,
+                        written: r.written,
+                        named: r.named,
+                    })
+                }
+                Ended::Refused(k, z) => Ended::Refused(k, z),
             }
-            Ended::Last(r) => {
-                buffers::put(line, written, low_byte(r.written));
-                Ended::Last(Spot {
-                    at: end,
-                    written: r.written,
-                    named: r.named,
-                })
-            }
-            Ended::Refused(k, z) => Ended::Refused(k, z),
         }
-    } else {
-        Ended::Refused(4, place)
+        Act::Refused => Ended::Refused(4, place),
     }
 }
 

@@ -1,6 +1,5 @@
 pub mod Ends
 pub mod EndLaws
 pub mod Stacks
-pub mod StatementTests
-pub mod StatementRows
+pub mod Rows
 pub mod Moves

@@ -29,8 +29,8 @@ use Rattle.operands.specs.declared.Step.{Step}
 use Rattle.operands.specs.declared.Step.the-variants.{Done, Refused as Halted}
 use Rattle.rests.specs.Ends.{Reads, Ends}
 use Rattle.rests.specs.EndLaws.{reads-same, ends-then, ends-first, ends-step, ends-refuse, ends-last, reads-none, took-opener, then-statement}
-use Rattle.rests.specs.Stacks.{inner?, final?, good?, fine?, stepped?, stepped, not-taken, begun, at-colon, at-end, at-then, at-other, fine-own, fine-sign, good-below, step-near, step-far, step-refused}
-use Rattle.rests.specs.StatementRows.{after-then-number, after-then-same}
+use Rattle.rests.specs.Stacks.{inner?, final?, good?, fine?, stepped?, stepped, not-taken, at-colon, at-end, at-then, at-other, fine-own, fine-sign, good-below, step-near, step-far, step-refused}
+use Rattle.rests.specs.Rows.{after-then-number, after-then-same}
 use Rattle.rests.specs.declared.Ended.{Ended}
 use Rattle.rests.specs.declared.Ended.the-variants.{More, Last, Refused}
 use Rattle.rests.specs.declared.Moved.{Moved}
@@ -311,18 +311,6 @@ pub moves-no-term : {E : Env} {q : Spot} {m m′ : Mem} {r : Step} {k p : ℕ} (
     → Moves (stack l d) false d E q m m′ l (moved.Refused k p)
 moves-no-term {E} {q} {m} {m′} {r} {k} {p} l d g h x y =
     moves-stop l (subst (λ (fs : List ℕ). Ends fs E q m m′ (Refused k p)) (sym (term-stack l d g h)) (ends-first (stack l (d - 1)) m′ x y))
-
--- ---- the frames after a statement's first item
-
-pub first-frames : (l new : List ℕ) (c g d : ℕ) (ws : List ℕ) → getD l 0 0 ≡ want-statement → look want-statement c ≡ take itself ws → step look (stack l 1) c ≡ took (gives-of g) (stack new d) → stack new d ≡ ws
-unfolding stack
-first-frames l new c g d ws z h k =
-    let x : took itself ws ≡ took (gives-of g) (stack new d) = sym (one-step want-statement c itself ws h) ∙ ap (λ (f : ℕ). step look (f ∷ []) c) (sym z) ∙ k in
-    let y : ws ≡ stack new d = cc in sym y
-
-pub first-taken : (l : List ℕ) (c : ℕ) (ws : List ℕ) → getD l 0 0 ≡ want-statement → look want-statement c ≡ take itself ws → step look (stack l 1) c ≡ took itself ws
-unfolding stack
-first-taken l c ws z h = ap (λ (f : ℕ). step look (f ∷ []) c) z ∙ one-step want-statement c itself ws h
 
 -- ---- all steps of a statement
 

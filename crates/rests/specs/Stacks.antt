@@ -4,8 +4,8 @@ use native.Mathlib.Omega.{arith}
 use mathlib.Core.Path.{_≡_, refl, subst, sym, ap, _∙_}
 use mathlib.Core.Bool.{Bool, true, false, not, _&&_, _||_}
 use mathlib.Core.List.{List, [], _∷_, _++_, append-nil}
-use lib.Dec.{T, eqb, leb, eqb→eq}
-use borrow.Author.Tests.{ne-eqb, leb-true, le-leb, lt-leb}
+use lib.Dec.{T, eqb, leb, ltb, eqb→eq}
+use borrow.Author.Tests.{eq-eqb, ne-eqb, leb-true, le-leb, lt-leb, lt-ltb}
 use Rattle.paper.specs.Bytes.{pick, same, every, among}
 use Rattle.paper.specs.Classes.{line-end, colon, then-word, remark}
 use Rattle.paper.specs.Frames.{want-statement, want-after-then, want-end, want-raw-text, want-raw-end, want-let-target, want-then}
@@ -58,15 +58,19 @@ stepped? c e gs =
 unfoldable within? : ℕ → Gives → List ℕ → Bool
 within? c e ws = not (eqb c colon) && (not (eqb c line-end) && (not (eqb c then-word) && (fine? c e && every inner? ws)))
 
--- what follows a statement's first item, other than REM and DATA, is a good stack
-unfoldable begun? : ℕ → ℕ → List ℕ → Bool
-begun? f c ws = pick (eqb f want-statement) (pick (eqb c remark) true (good? ws)) true
+-- a class that begins a statement: a variable's in statement position, or a statement word's
+unfoldable starts? : ℕ → Bool
+starts? c = pick (ltb c 30) (leb 8 c && leb c 10) true
+
+-- a statement's first item, and what follows it: raw text after REM and DATA, a good stack after all others
+unfoldable begins? : ℕ → Gives → List ℕ → Bool
+begins? c e ws = own? e && (starts? c && pick (eqb c remark) (same ws (want-raw-text ∷ want-raw-end ∷ [])) (good? ws))
 
 unfoldable fits? : ℕ → ℕ → Gives → List ℕ → Bool
-fits? f c e ws = pick (inner? f) (within? c e ws) (pick (final? f) (stepped? c e ws) (pick (eqb f want-then) (stepped? c e (ws ++ want-after-then ∷ [])) (begun? f c ws)))
+fits? f c e ws = pick (inner? f) (within? c e ws) (pick (final? f) (stepped? c e ws) (pick (eqb f want-then) (stepped? c e (ws ++ want-after-then ∷ [])) (pick (eqb f want-statement) (begins? c e ws) true)))
 
 all-fit : T (every (λ r. fits? (r .frame) (r .class) (r .gives) (r .wants)) grammar)
-unfolding all-Bytes all-Machine all-Grammar fits? begun? within? stepped? fine? own? good? final? inner?
+unfolding all-Bytes all-Machine all-Grammar fits? begins? starts? within? stepped? fine? own? good? final? inner?
 all-fit = tt
 
 all-inner : T (every inner? may-be-empty)
@@ -130,7 +134,7 @@ top-takes : (f c : ℕ) (e : Gives) (ws fs : List ℕ) → T (fits? f c e ws) �
 unfolding fits? good?
 top-takes f c e ws fs = go (inner? f) (final? f) (eqb f want-then)
   where
-    go : (i z w : Bool) → T (pick i (within? c e ws) (pick z (stepped? c e ws) (pick w (stepped? c e (ws ++ want-after-then ∷ [])) (begun? f c ws))))
+    go : (i z w : Bool) → T (pick i (within? c e ws) (pick z (stepped? c e ws) (pick w (stepped? c e (ws ++ want-after-then ∷ [])) (pick (eqb f want-statement) (begins? c e ws) true))))
         → T (pick i (good? fs) (pick z (same fs []) (w && same fs (want-after-then ∷ [])))) → T (stepped? c e (ws ++ fs))
     go true z w p g = within-stepped c e ws fs p g
     go false true w p g =
@@ -164,11 +168,6 @@ not-taken (f ∷ fs) c g h = go (look f c) (does f c) h (λ x k. not-taken fs c 
     go (take d ws) p k below = absurd (k d (ws ++ fs) refl)
     go leave p k below = below (good-below f fs p g) k
     go (refuse n) p k below = ap refused p
-
--- what follows the first item of a statement
-pub begun : (c : ℕ) (e : Gives) (ws : List ℕ) → look want-statement c ≡ take e ws → eqb c remark ≡ false → T (good? ws)
-unfolding Does fits? begun? inner? final? among
-begun c e ws h k = let t : T (begun? want-statement c ws) = subst (Does want-statement c) h (does want-statement c) in subst (λ (b : Bool). T (pick b true (good? ws))) k t
 
 -- ---- what the tests say
 
@@ -211,6 +210,56 @@ fine-own c e t h = go (leb 3 c) refl t
 pub fine-sign : (c : ℕ) (e : Gives) → T (fine? c e) → 7 < c → sign? c ≡ true
 unfolding fine?
 fine-sign c e t h = is-true (sign? c) (rw (le-leb 3 c (omega arith), lt-leb c 7 h) at t)
+
+-- ---- a statement's first item
+
+pub record Begins (c : ℕ) (e : Gives) (ws : List ℕ) : Type 0 where
+  pub own : e ≡ itself
+  pub starts : c < 30 → (8 ≤ c) × (c ≤ 10)
+  pub raw : c ≡ remark → ws ≡ want-raw-text ∷ want-raw-end ∷ []
+  pub good : (c ≡ remark → ⊥) → T (good? ws)
+
+begins-so : (c : ℕ) (e : Gives) (ws : List ℕ) → T (begins? c e ws) → Begins c e ws
+unfolding begins? starts?
+begins-so c e ws t =
+    let rest : Bool = pick (eqb c remark) (same ws (want-raw-text ∷ want-raw-end ∷ [])) (good? ws) in
+    let k : T (starts? c && rest) = and-right (own? e) (starts? c && rest) t in
+    let r : T rest = and-right (starts? c) rest k in
+    record {
+      own = own e (and-left (own? e) (starts? c && rest) t);
+      starts = λ h.
+          let n : T (leb 8 c && leb c 10) = rw (lt-ltb c 30 h) at (and-left (starts? c) rest k) in
+          (leb-true 8 c (is-true (leb 8 c) (and-left (leb 8 c) (leb c 10) n)), leb-true c 10 (is-true (leb c 10) (and-right (leb 8 c) (leb c 10) n)));
+      raw = λ h. same-eq ws (want-raw-text ∷ want-raw-end ∷ []) (is-true (same ws (want-raw-text ∷ want-raw-end ∷ [])) (rw (eq-eqb c remark h) at r));
+      good = λ h. rw (ne-eqb c remark h) at r;
+    }
+
+no-step : {A : Type 0} {e : Gives} {gs : List ℕ} → over ≡ took e gs → A
+no-step h = let z : _≡_ {A = ℕ} 0 1 = cc in absurd (omega arith)
+
+-- one that begins a statement
+pub begins-with : (c : ℕ) (e : Gives) (gs : List ℕ) → step look (want-statement ∷ []) c ≡ took e gs → (look want-statement c ≡ take e gs) × Begins c e gs
+unfolding step step-act Does fits? inner? final? among
+begins-with c e gs h = go (look want-statement c) (does want-statement c) h
+  where
+    go : (a : Act Gives) → Does want-statement c a → step-act a [] over ≡ took e gs → (a ≡ take e gs) × Begins c e gs
+    go (take d ws) p k =
+        let x : d ≡ e = cc in
+        let y : ws ++ [] ≡ gs = cc in
+        let z : ws ≡ gs = sym (append-nil ws) ∙ y in
+        (ap (λ (w : Gives). take w ws) x ∙ ap (take e) z, begins-so c e gs (subst (λ (l : List ℕ). T (begins? c e l)) z (subst (λ (w : Gives). T (begins? c w ws)) x p)))
+    go leave p k = no-step k
+    go (refuse n) p k = let z : _≡_ {A = ℕ} 0 1 = cc in absurd (omega arith)
+
+-- one that does not
+pub begins-not : (c : ℕ) → ((e : Gives) (gs : List ℕ) → step look (want-statement ∷ []) c ≡ took e gs → ⊥) → step look (want-statement ∷ []) c ≡ refused 4
+unfolding step step-act Does inner? among
+begins-not c h = go (look want-statement c) (does want-statement c) h
+  where
+    go : (a : Act Gives) → Does want-statement c a → ((e : Gives) (gs : List ℕ) → step-act a [] over ≡ took e gs → ⊥) → step-act a [] over ≡ refused 4
+    go (take d ws) p k = absurd (k d (ws ++ []) refl)
+    go leave p k = absurd p
+    go (refuse n) p k = ap refused p
 
 -- ---- from classes to items
 

@@ -18,7 +18,6 @@ ghost use mathlib.Core.List.{List, [], _∷_};
 ghost use Prim.Native.Nat.{ℕ, _+_, _*_, _≤_};
 ghost use lib.Dec.{T};
 ghost use lib.ListN.{length};
-ghost use Rattle.paper.specs.Classes.{remark};
 ghost use Rattle.paper.specs.Frames.{want-after-then};
 ghost use Rattle.paper.specs.Machine.{took, step};
 ghost use Rattle.paper.specs.Grammar.{look};
@@ -28,7 +27,6 @@ ghost use Rattle.operands.specs.Sees.{Shows};
 ghost use Rattle.rests.specs.Ends.{Ends};
 ghost use Rattle.rests.specs.Stacks.{good?, fine?};
 ghost use Rattle.rests.specs.Moves.{given-byte, Passes, Moves};
-ghost use Rattle.rests.specs.StatementTests.{opens-statement?, statement-frames};
 
 // What a reader of a statement's rest answers: where the next statement begins, where the line's bytes end, or a refusal's number and place.
 pub enum Ended {
@@ -52,7 +50,7 @@ const WANT_OPERAND: u8 = 5;
 const WANT_END: u8 = 2;
 
 // As long as the deepest stack of frames that a text of 120 bytes can need: no item needs more than nine frames for each of its bytes.
-const DEEPEST: usize = 1104;
+pub const DEEPEST: usize = 1104;
 
 // The byte that is given for an operator's own, by the number of what is given.
 fn given_byte(gives: u8, own: u8) -> u8
@@ -186,15 +184,13 @@ fn advance(
     let it = seen.item;
     let place = offset + it.at;
     match grammar::take_item(frames, depth, seen.class) {
-        Act::Took(gives, d) => taken(
-            part, offset, seen, gives, q, line, names, fresh, frames, d,
-        ),
+        Act::Took(gives, d) => taken(part, offset, seen, gives, q, line, names, fresh, frames, d),
         Act::Refused => Moved::Refused(4, place),
     }
 }
 
 // Reads on with a stack of frames until the statement ends.
-fn follow(
+pub fn follow(
     part: &[u8],
     offset: usize,
     start: Spot,
@@ -219,34 +215,5 @@ fn follow(
             Moved::Last(p) => return Ended::Last(p),
             Moved::Refused(k, p) => return Ended::Refused(k, p),
         }
-    }
-}
-
-// What follows the first item of a statement other than REM and DATA, by the class of that item.
-pub fn rest(
-    part: &[u8],
-    offset: usize,
-    found: u8,
-    q: Spot,
-    line: &mut [u8],
-    names: &[u8],
-    fresh: &mut [u8],
-) -> Ended
-    requires { ⌜ (Asks (env (now part) offset (now names)) q (mem (now line) (now fresh))) × (opens-statement? found ≡ true) × (found ≡ remark → ⊥) ⌝ }
-    ensures { λ r. ⌜ Ends (statement-frames found) (env (now (part .entry)) offset (now (names .entry))) q (mem (now (line .entry)) (now (fresh .entry))) (mem (now (line .exit)) (now (fresh .exit))) r ⌝ }
-{
-    let mut frames = [0u8; DEEPEST];
-    match grammar::take_item(&mut frames, 1, found) {
-        Act::Took(_, depth) => follow(
-            part,
-            offset,
-            q,
-            line,
-            names,
-            fresh,
-            &mut frames,
-            depth,
-        ),
-        Act::Refused => Ended::Refused(4, offset),
     }
 }

@@ -1,21 +1,6 @@
 use native.Mathlib.Omega.{arith}
-use Prim.Native.Nat.{ℕ, _+_, _-_}
-use mathlib.Core.Path.{_≡_, refl, sym, ap, _∙_}
-use mathlib.Core.Bool.{true, false}
-use mathlib.Core.List.{[], _∷_}
-use lib.ListN.{length, take, drop, length-drop}
-use borrow.Author.Tests.{ne-eqb}
-use Rattle.paper.specs.Frames.{want-statement}
-use Rattle.paper.specs.Grammar.{look, itself}
-use Rattle.items.specs.ScanLaws.{raw-within}
-use Rattle.operands.specs.Draft.{low}
-use Rattle.operands.specs.Says.{mem, item-of, env}
-use Rattle.operands.specs.Laws.{row-take, row-refuse}
-use Rattle.rests.specs.EndLaws.{ends-refuse}
-use Rattle.reader.specs.LineLaws.{states-more, states-last, states-halt, says-more, says-last, says-halt, tells-more, tells-done, tells-stop}
-use Rattle.rests.specs.StatementTests.{opens-statement?, statement-frames, rest-items}
-use Rattle.rests.specs.StatementRows.{opener, statement-row, statement-else}
-use Rattle.reader.specs.StatementLaws.{raw-last, raw-stop, began-word, began-name, after-first, rest-is, rest-else, rest-part, rest-of, rest-asks}
+use mathlib.Core.Bool.{true}
+use Rattle.reader.specs.StatementLaws.{began-word, began-name}
 use borrow.Author.Needs.{needs}
 use Rattle.reader.proofs.statements.begin.Statement.{statement}
 use Rattle.reader.proofs.statements.begin.Tie as tie
@@ -24,7 +9,7 @@ put-requires : tie.Need-put-requires
 put-requires c κs = search needs
 
 name-number-requires : tie.Need-name-number-requires
-name-number-requires c κs = (record { at = c .before .before .before .before .before .before .before .before .before .before .args .q .at; first = true; sees = c .before .before .before .before .before .before .before .before .before .before .pre .1; least = omega (arith, ((opener (c .before .before .before .before .before .before .before .before .before .before .args .found) (c .before .before .before .before .before .before .before .before .before .before .pre .4)) .name (c .before .if1 .taken)) .0, c .before .before .before .before .before .before .before .before .before .before .pre .2); most = (omega (arith, ((opener (c .before .before .before .before .before .before .before .before .before .before .args .found) (c .before .before .before .before .before .before .before .before .before .before .pre .4)) .name (c .before .if1 .taken)) .1, c .before .before .before .before .before .before .before .before .before .before .pre .2)) }, omega (arith, c .before .before .before .before .before .before .before .before .before .before .pre .0 .added, c .before .before .before .before .before .before .before .before .before .before .pre .0 .room, c .before .before .before .before .before .before .before .before .before .before .pre .0 .short, c .before .before .before .before .before .before .before .before .before .before .pre .0 .within))
+name-number-requires c κs = (record { at = c .before .before .before .before .before .before .before .before .before .before .args .q .at; first = true; sees = c .before .before .before .before .before .before .before .before .before .before .pre .1; least = omega (arith, (c .before .before .before .before .before .before .before .before .before .before .pre .4 (c .before .if1 .taken)) .0, c .before .before .before .before .before .before .before .before .before .before .pre .2); most = (omega (arith, (c .before .before .before .before .before .before .before .before .before .before .pre .4 (c .before .if1 .taken)) .1, c .before .before .before .before .before .before .before .before .before .before .pre .2)) }, omega (arith, c .before .before .before .before .before .before .before .before .before .before .pre .0 .added, c .before .before .before .before .before .before .before .before .before .before .pre .0 .room, c .before .before .before .before .before .before .before .before .before .before .pre .0 .short, c .before .before .before .before .before .before .before .before .before .before .pre .0 .within))
 
 add-put : tie.Need-add-put
 add-put c = search needs
@@ -60,7 +45,7 @@ same-length-2 : tie.Need-same-length-2
 same-length-2 c = search needs
 
 returns : tie.Need-returns
-returns c = began-name (c .before .before .before .before .before .before .before .before .before .before .before .before .before .before .before .before .before .before .before .before .before .before .pre .0) (c .before .before .before .before .before .before .before .before .before .before .before .before .before .before .before .before .before .before .before .before .before .before .pre .1) (omega (arith, ((opener (c .before .before .before .before .before .before .before .before .before .before .before .before .before .before .before .before .before .before .before .before .before .before .args .found) (c .before .before .before .before .before .before .before .before .before .before .before .before .before .before .before .before .before .before .before .before .before .before .pre .4)) .name (c .before .before .before .before .before .before .before .before .before .before .before .before .before .if1 .taken)) .0, c .before .before .before .before .before .before .before .before .before .before .before .before .before .before .before .before .before .before .before .before .before .before .pre .2)) (omega (arith, ((opener (c .before .before .before .before .before .before .before .before .before .before .before .before .before .before .before .before .before .before .before .before .before .before .args .found) (c .before .before .before .before .before .before .before .before .before .before .before .before .before .before .before .before .before .before .before .before .before .before .pre .4)) .name (c .before .before .before .before .before .before .before .before .before .before .before .before .before .if1 .taken)) .1, c .before .before .before .before .before .before .before .before .before .before .before .before .before .before .before .before .before .before .before .before .before .before .pre .2)) (c .before .before .before .before .before .before .before .before .before .before .before .name-number .ensures) (c .before .before .before .variable-token .ensures) (c .before .before .before .before .before .before .before .before .before .before .before .before .before .before .before .before .put .ensures) (c .before .before .before .before .before .before .before .put2 .ensures) (c .before .before .put3 .ensures)
+returns c = began-name (c .before .before .before .before .before .before .before .before .before .before .before .before .before .before .before .before .before .before .before .before .before .before .pre .0) (c .before .before .before .before .before .before .before .before .before .before .before .before .before .before .before .before .before .before .before .before .before .before .pre .1) (omega (arith, (c .before .before .before .before .before .before .before .before .before .before .before .before .before .before .before .before .before .before .before .before .before .before .pre .4 (c .before .before .before .before .before .before .before .before .before .before .before .before .before .if1 .taken)) .0, c .before .before .before .before .before .before .before .before .before .before .before .before .before .before .before .before .before .before .before .before .before .before .pre .2)) (omega (arith, (c .before .before .before .before .before .before .before .before .before .before .before .before .before .before .before .before .before .before .before .before .before .before .pre .4 (c .before .before .before .before .before .before .before .before .before .before .before .before .before .if1 .taken)) .1, c .before .before .before .before .before .before .before .before .before .before .before .before .before .before .before .before .before .before .before .before .before .before .pre .2)) (c .before .before .before .before .before .before .before .before .before .before .before .name-number .ensures) (c .before .before .before .variable-token .ensures) (c .before .before .before .before .before .before .before .before .before .before .before .before .before .before .before .before .put .ensures) (c .before .before .before .before .before .before .before .put2 .ensures) (c .before .before .put3 .ensures)
 
 same-length-3 : tie.Need-same-length-3
 same-length-3 c = search needs
