@@ -42,7 +42,7 @@ abbrev pub Rest : List ℕ → ℕ → Type 0
 Rest [] x = Unit {0}
 Rest (k ∷ ks) x = Rest ks x × (x ≡ k → ⊥)
 
-no-keys : (x : ℕ) (ks : List ℕ) → Rest ks x → among x ks ≡ false
+pub no-keys : (x : ℕ) (ks : List ℕ) → Rest ks x → among x ks ≡ false
 unfolding among
 no-keys x [] r = refl
 no-keys x (k ∷ ks) r = rw (ne-eqb x k (r .1)) (no-keys x ks (r .0))

@@ -458,46 +458,22 @@ pub fn read_as(token: u8) -> u8
     }
 }
 
-// The statement word that is the whole of a name, looked for in the table.
-fn find_statement(name: &[u8]) -> Statement
-    ensures { λ r. ⌜ r ≡ statement-found (find-word statements (now (name .entry))) ⌝ }
-{
-    match tables::find(&WORDS, 0, &tables::STATEMENT_LENGTHS, 0, name) {
-        Found::Token(t) => Statement::Word(StatementToken(t)),
-        Found::Nothing => Statement::Nothing,
-    }
-}
-
 // The statement word that is the whole of a name.
 pub fn statement_word(name: &[u8]) -> Statement
     ensures { λ r. ⌜ r ≡ statement-found (find-word statements (now (name .entry))) ⌝ }
 {
-    if tables::may_state(tables::first_of(name), name.len()) {
-        find_statement(name)
-    } else {
-        Statement::Nothing
-    }
-}
-
-// The word operator or function that is the whole of a name, looked for in the table.
-fn find_reserved(name: &[u8]) -> Reserved
-    ensures { λ r. ⌜ r ≡ reserved-found (find-word operators (now (name .entry))) ⌝ }
-{
-    match tables::find(
-        &WORDS,
-        tables::STATEMENT_BYTES,
-        &tables::OPERATOR_LENGTHS,
-        tables::FIRST_OPERATOR,
-        name,
-    ) {
-        Found::Token(t) => {
-            if t < FunctionToken::STR.0 {
-                Reserved::Operator(OperatorToken(t))
-            } else {
-                Reserved::Function(FunctionToken(t))
-            }
-        }
-        Found::Nothing => Reserved::Nothing,
+    match tables::first_statement(tables::first_of(name), name.len()) {
+        Found::Token(first) => match tables::find(
+            &WORDS,
+            tables::statement_start(first) as usize,
+            &tables::STATEMENT_LENGTHS[first as usize..],
+            first,
+            name,
+        ) {
+            Found::Token(t) => Statement::Word(StatementToken(t)),
+            Found::Nothing => Statement::Nothing,
+        },
+        Found::Nothing => Statement::Nothing,
     }
 }
 
@@ -505,10 +481,27 @@ fn find_reserved(name: &[u8]) -> Reserved
 pub fn reserved_word(name: &[u8]) -> Reserved
     ensures { λ r. ⌜ r ≡ reserved-found (find-word operators (now (name .entry))) ⌝ }
 {
-    if tables::may_reserve(tables::first_of(name), name.len()) {
-        find_reserved(name)
-    } else {
-        Reserved::Nothing
+    match tables::first_reserved(tables::first_of(name), name.len()) {
+        Found::Token(first) => {
+            let i = first - tables::FIRST_OPERATOR;
+            match tables::find(
+                &WORDS,
+                tables::STATEMENT_BYTES + tables::operator_start(i) as usize,
+                &tables::OPERATOR_LENGTHS[i as usize..],
+                first,
+                name,
+            ) {
+                Found::Token(t) => {
+                    if t < FunctionToken::STR.0 {
+                        Reserved::Operator(OperatorToken(t))
+                    } else {
+                        Reserved::Function(FunctionToken(t))
+                    }
+                }
+                Found::Nothing => Reserved::Nothing,
+            }
+        }
+        Found::Nothing => Reserved::Nothing,
     }
 }
 

@@ -1,14 +1,17 @@
-// The tables: what each token's word is, how long and where; what a word may begin with; and the one search of words.
+// The tables: what each token's word is, how long and where; the first with a first byte and a length; and the one search of words.
 ghost use mathlib.Core.Path.{_≡_};
 ghost use mathlib.Core.Bool.{_&&_, not};
 ghost use Prim.Native.Nat.{_+_, _≤_};
 ghost use lib.Dec.{eqb};
 ghost use lib.ListN.{length, getD, take, drop};
-ghost use Rattle.paper.specs.Bytes.{same, letter?};
-ghost use Rattle.paper.specs.Words.{find-word};
-ghost use Rattle.tokens.specs.Tables.{total, statement-lengths, operator-lengths, words-of, token-found};
-ghost use Rattle.tokens.specs.Guards.{within, may-state, may-reserve};
+ghost use Rattle.paper.specs.Bytes.{same};
+ghost use Rattle.paper.specs.Words.{find-word, statements};
+ghost use Rattle.tokens.specs.Tables.{total, read-words, statement-lengths, operator-lengths, words-of, first-word, token-found};
 use crate::Found;
+use crate::FunctionToken;
+use crate::OperatorToken;
+use crate::StatementToken;
+use crate::sign;
 
 // How many tokens from 0 on the table of statement words has.
 pub(crate) const STATEMENTS: u8 = 0x36;
@@ -297,46 +300,123 @@ pub(crate) fn first_of(name: &[u8]) -> u8
     if name.len() == 0 { 0 } else { name[0] }
 }
 
-// Whether a number is one from `low` to `high`.
-fn within(low: usize, high: usize, n: usize) -> bool
-    ensures { λ r. ⌜ r ≡ within low high n ⌝ }
+// The first statement word that begins with a byte and has a length: the search for such a name begins there.
+pub(crate) fn first_statement(first: u8, size: usize) -> Found
+    ensures { λ r. ⌜ r ≡ token-found (first-word statements first size) ⌝ }
 {
-    if n < low { false } else { n <= high }
-}
-
-// Whether a byte is no letter.
-fn no_letter(b: u8) -> bool
-    ensures { λ r. ⌜ r ≡ not (letter? b) ⌝ }
-{
-    if b < b'A' { true } else { b'Z' < b }
-}
-
-// Whether a statement word may begin with a byte and have a length; no word does where it may not.
-pub(crate) fn may_state(first: u8, size: usize) -> bool
-    ensures { λ r. ⌜ r ≡ may-state first size ⌝ }
-{
-    match first {
-        b'B' | b'F' | b'X' => size == 3,
-        b'T' => size == 4,
-        b'I' | b'O' => within(2, 5, size),
-        b'C' | b'E' | b'N' => within(3, 5, size),
-        b'D' | b'L' | b'R' => within(3, 7, size),
-        b'G' | b'P' | b'S' => within(3, 8, size),
-        _ => no_letter(first),
+    match size {
+        1 => match first {
+            b'?' => Found::Token(StatementToken::QUESTION.0),
+            _ => Found::Nothing,
+        },
+        2 => match first {
+            b'I' => Found::Token(StatementToken::IF.0),
+            b'O' => Found::Token(StatementToken::ON.0),
+            _ => Found::Nothing,
+        },
+        3 => match first {
+            b'R' => Found::Token(StatementToken::REM.0),
+            b'L' => Found::Token(StatementToken::LET.0),
+            b'F' => Found::Token(StatementToken::FOR.0),
+            b'B' => Found::Token(StatementToken::BYE.0),
+            b'C' => Found::Token(StatementToken::COM.0),
+            b'D' => Found::Token(StatementToken::DEG.0),
+            b'E' => Found::Token(StatementToken::END.0),
+            b'N' => Found::Token(StatementToken::NEW.0),
+            b'X' => Found::Token(StatementToken::XIO.0),
+            b'P' => Found::Token(StatementToken::POP.0),
+            b'G' => Found::Token(StatementToken::GET.0),
+            _ => Found::Nothing,
+        },
+        4 => match first {
+            b'D' => Found::Token(StatementToken::DATA.0),
+            b'L' => Found::Token(StatementToken::LIST.0),
+            b'N' => Found::Token(StatementToken::NEXT.0),
+            b'G' => Found::Token(StatementToken::GOTO.0),
+            b'T' => Found::Token(StatementToken::TRAP.0),
+            b'C' => Found::Token(StatementToken::CONT.0),
+            b'O' => Found::Token(StatementToken::OPEN.0),
+            b'S' => Found::Token(StatementToken::SAVE.0),
+            b'P' => Found::Token(StatementToken::POKE.0),
+            b'R' => Found::Token(StatementToken::READ.0),
+            _ => Found::Nothing,
+        },
+        5 => match first {
+            b'I' => Found::Token(StatementToken::INPUT.0),
+            b'C' => Found::Token(StatementToken::COLOR.0),
+            b'E' => Found::Token(StatementToken::ENTER.0),
+            b'G' => Found::Token(StatementToken::GOSUB.0),
+            b'P' => Found::Token(StatementToken::POINT.0),
+            b'S' => Found::Token(StatementToken::SOUND.0),
+            _ => Found::Nothing,
+        },
+        6 => match first {
+            b'S' => Found::Token(StatementToken::STATUS.0),
+            b'R' => Found::Token(StatementToken::RETURN.0),
+            b'D' => Found::Token(StatementToken::DRAWTO.0),
+            b'L' => Found::Token(StatementToken::LOCATE.0),
+            _ => Found::Nothing,
+        },
+        7 => match first {
+            b'R' => Found::Token(StatementToken::RESTORE.0),
+            _ => Found::Nothing,
+        },
+        8 => match first {
+            b'G' => Found::Token(StatementToken::GRAPHICS.0),
+            b'P' => Found::Token(StatementToken::POSITION.0),
+            b'S' => Found::Token(StatementToken::SETCOLOR.0),
+            _ => Found::Nothing,
+        },
+        _ => Found::Nothing,
     }
 }
 
-// Whether the word of an operator or function may begin with a byte and have a length; no word does where it may not.
-pub(crate) fn may_reserve(first: u8, size: usize) -> bool
-    ensures { λ r. ⌜ r ≡ may-reserve first size ⌝ }
+// The first word of an operator or function that begins with a byte and has a length: the search for such a name begins there.
+pub(crate) fn first_reserved(first: u8, size: usize) -> Found
+    ensures { λ r. ⌜ r ≡ token-found (first-word read-words first size) ⌝ }
 {
-    match first {
-        b'A' | b'E' | b'I' | b'L' | b'N' | b'R' | b'U' => size == 3,
-        b'C' | b'F' | b'V' => within(3, 4, size),
-        b'G' | b'P' => within(4, 6, size),
-        b'O' | b'T' => within(2, 4, size),
-        b'S' => within(3, 5, size),
-        _ => no_letter(first),
+    match size {
+        1 => sign(first),
+        2 => match first {
+            b'T' => Found::Token(OperatorToken::TO.0),
+            b'<' => Found::Token(OperatorToken::LESS_OR_EQUAL.0),
+            b'>' => Found::Token(OperatorToken::GREATER_OR_EQUAL.0),
+            b'O' => Found::Token(OperatorToken::OR.0),
+            _ => Found::Nothing,
+        },
+        3 => match first {
+            b'N' => Found::Token(OperatorToken::NOT.0),
+            b'A' => Found::Token(OperatorToken::AND.0),
+            b'U' => Found::Token(FunctionToken::USR.0),
+            b'V' => Found::Token(FunctionToken::VAL.0),
+            b'L' => Found::Token(FunctionToken::LEN.0),
+            b'C' => Found::Token(FunctionToken::COS.0),
+            b'S' => Found::Token(FunctionToken::SIN.0),
+            b'R' => Found::Token(FunctionToken::RND.0),
+            b'F' => Found::Token(FunctionToken::FRE.0),
+            b'E' => Found::Token(FunctionToken::EXP.0),
+            b'I' => Found::Token(FunctionToken::INT.0),
+            _ => Found::Nothing,
+        },
+        4 => match first {
+            b'G' => Found::Token(OperatorToken::GOTO.0),
+            b'S' => Found::Token(OperatorToken::STEP.0),
+            b'T' => Found::Token(OperatorToken::THEN.0),
+            b'C' => Found::Token(FunctionToken::CHR.0),
+            b'P' => Found::Token(FunctionToken::PEEK.0),
+            _ => Found::Nothing,
+        },
+        5 => match first {
+            b'G' => Found::Token(OperatorToken::GOSUB.0),
+            b'S' => Found::Token(FunctionToken::STICK.0),
+            b'P' => Found::Token(FunctionToken::PTRIG.0),
+            _ => Found::Nothing,
+        },
+        6 => match first {
+            b'P' => Found::Token(FunctionToken::PADDLE.0),
+            _ => Found::Nothing,
+        },
+        _ => Found::Nothing,
     }
 }
 
