@@ -11,27 +11,30 @@ use borrow.Author.Tests.{eq-eqb, ne-eqb, eqb-true, leb-true}
 use Rattle.paper.specs.Bytes.{pick, bytes, same, among, every}
 use Rattle.paper.specs.Classes.{unfit}
 use Rattle.paper.specs.Words.{Word, word, Found, found, nowhere, find-word, statements, operators, read-operators, functions}
+use Rattle.paper.specs.Tokens.{found-or}
 use Rattle.laws.specs.Tests.{and-left, and-right, is-true}
-use Rattle.tokens.specs.declared.Found.{Found as Answer}
-use Rattle.tokens.specs.declared.Found.the-variants.{Token, Nothing}
 use Rattle.tokens.specs.declared.Statement.the-variants.{Nothing as NoStatement}
 use Rattle.tokens.specs.declared.Reserved.the-variants.{Nothing as NotReserved}
-use Rattle.tokens.specs.Tables.{tabulated, total, read-words, fixed-words, statement-lengths, operator-lengths, words-of, begins, first-word, token-found, statement-found, reserved-found}
+use Rattle.tokens.specs.Tables.{tabulated, total, read-words, fixed-words, statement-lengths, operator-lengths, words-of, begins, first-word, statement-found, reserved-found}
 use Rattle.tokens.specs.Same.{no-bool, not-same}
 use Rattle.tokens.specs.Words.{find-read, token-within}
 use Rattle.tokens.proofs.Keys.{Rest, no-keys}
 use Rattle.tokens.proofs.Cuts.{statement-bytes, operator-bytes}
-use Rattle.tokens.proofs.Search.{and-false, find-statement, find-operator, first-statement, first-operator}
+use Rattle.tokens.proofs.Search.{find-statement, find-operator, first-statement, first-operator}
 
 -- ---- the arms of the two matches
 
-pub first-at : (ws : List Word) (n k : ℕ) {b m : ℕ} → m ≡ n → b ≡ k → token-found (first-word ws k n) ≡ token-found (first-word ws b m)
-first-at ws n k {b} {m} e f = sym (ap (λ (x : ℕ). token-found (first-word ws x m)) f ∙ ap (λ (x : ℕ). token-found (first-word ws k x)) e)
+-- the token of the first word with a first byte and a length, or that of none
+abbrev pub token-at : List Word → ℕ → ℕ → ℕ
+token-at ws b n = found-or (first-word ws b n) 0xff
+
+pub first-at : (ws : List Word) (n k : ℕ) {b m : ℕ} → m ≡ n → b ≡ k → token-at ws k n ≡ token-at ws b m
+first-at ws n k {b} {m} e f = sym (ap (λ (x : ℕ). token-at ws x m) f ∙ ap (token-at ws k) e)
 
 -- a first byte and a length that fail a test, where each word's pass it, are no word's
-no-first : (ws : List Word) (p : ℕ → ℕ → Bool) (b n : ℕ) → T (every (λ w. p (getD (w .spelling) 0 0) (length (w .spelling))) ws) → p b n ≡ false → Nothing ≡ token-found (first-word ws b n)
-unfolding token-found every first-word begins
-no-first ws p b n a h = sym (ap token-found (go ws a))
+no-first : (ws : List Word) (p : ℕ → ℕ → Bool) (b n : ℕ) → T (every (λ w. p (getD (w .spelling) 0 0) (length (w .spelling))) ws) → p b n ≡ false → 0xff ≡ token-at ws b n
+unfolding found-or every first-word begins
+no-first ws p b n a h = sym (ap (λ (f : Found). found-or f 0xff) (go ws a))
   where
     one : (w : Word) (f : Found) → T (p (getD (w .spelling) 0 0) (length (w .spelling))) → f ≡ nowhere
         → (x y : Bool) → eqb (getD (w .spelling) 0 0) b ≡ x → eqb (length (w .spelling)) n ≡ y → pick (x && y) (found (w .token)) f ≡ nowhere
@@ -49,37 +52,12 @@ no-first ws p b n a h = sym (ap token-found (go ws a))
         one w (first-word vs b n) t (go vs r) (eqb (getD (w .spelling) 0 0) b) (eqb (length (w .spelling)) n) refl refl
 
 -- all words of n bytes begin with one of some bytes, and this is none of them
-pub no-byte : (ws : List Word) (n : ℕ) (ks : List ℕ) → T (every (λ w. among (getD (w .spelling) 0 0) ks || not (eqb (length (w .spelling)) n)) ws) → (b : ℕ) {m : ℕ} → m ≡ n → Rest ks b → Nothing ≡ token-found (first-word ws b m)
+pub no-byte : (ws : List Word) (n : ℕ) (ks : List ℕ) → T (every (λ w. among (getD (w .spelling) 0 0) ks || not (eqb (length (w .spelling)) n)) ws) → (b : ℕ) {m : ℕ} → m ≡ n → Rest ks b → 0xff ≡ token-at ws b m
 no-byte ws n ks a b {m} e r = no-first ws (λ x y. among x ks || not (eqb y n)) b m a (rw (no-keys b ks r, eq-eqb m n e))
 
 -- all words have one of some lengths, and this is none of them
-pub no-length : (ws : List Word) (ks : List ℕ) → T (every (λ w. among (length (w .spelling)) ks) ws) → (b n : ℕ) → Rest ks n → Nothing ≡ token-found (first-word ws b n)
+pub no-length : (ws : List Word) (ks : List ℕ) → T (every (λ w. among (length (w .spelling)) ks) ws) → (b n : ℕ) → Rest ks n → 0xff ≡ token-at ws b n
 no-length ws ks a b n r = no-first ws (λ x y. among y ks) b n a (no-keys n ks r)
-
--- a word of one byte is that byte
-alone : (s : List ℕ) (b : ℕ) → same s (b ∷ []) ≡ begins b 1 s
-unfolding same begins
-alone [] b = sym (and-false (eqb 0 b))
-alone (a ∷ []) b = go (eqb a b)
-  where
-    go : (x : Bool) → pick x true false ≡ (x && true)
-    go true = refl
-    go false = refl
-alone (a ∷ c ∷ s) b = rw (ne-eqb (suc (suc (length s))) 1 (λ e. absurd (omega (arith, e)))) (go (eqb a b))
-  where
-    go : (x : Bool) → pick x false false ≡ (x && false)
-    go true = refl
-    go false = refl
-
-first-alone : (ws : List Word) (b : ℕ) → find-word ws (b ∷ []) ≡ first-word ws b 1
-unfolding find-word first-word
-first-alone [] b = refl
-first-alone (w ∷ ws) b =
-    ap (λ (x : Bool). pick x (found (w .token)) (find-word ws (b ∷ []))) (alone (w .spelling) b)
-    ∙ ap (pick (begins b 1 (w .spelling)) (found (w .token))) (first-alone ws b)
-
-pub sign-first : (b : ℕ) {m : ℕ} → m ≡ 1 → token-found (find-word operators (b ∷ [])) ≡ token-found (first-word read-words b m)
-sign-first b e = ap token-found (find-read (b ∷ []) ∙ first-alone read-words b ∙ sym (ap (first-word read-words b) e))
 
 -- ---- the search from there on
 
@@ -160,17 +138,25 @@ first-bounds low high ws b n a t h =
     let w = first-token ws b n (token-within low high) a t h in
     (leb-true low t (is-true (leb low t) (and-left (leb low t) (leb t high) w)), leb-true t high (is-true (leb t high) (and-right (leb low t) (leb t high) w)))
 
--- ---- the answers of the two matches
+-- a token that is not that of none is the first one's
+pub first-found : {r b : ℕ} (ws : List Word) (s : List ℕ) → b ≡ getD s 0 0 → r ≡ token-at ws b (length s) → (r ≡ 0xff → ⊥) → first-like s ws ≡ found r
+unfolding found-or
+first-found {r} {b} ws s e p n = go (first-like s ws) refl (p ∙ ap (λ (x : ℕ). token-at ws x (length s)) e)
+  where
+    go : (f : Found) → first-like s ws ≡ f → r ≡ found-or f 0xff → first-like s ws ≡ found r
+    go (found t) h q = h ∙ ap found (sym q)
+    go nowhere h q = absurd (n q)
 
-token-is : (f : Found) {a : Answer} {t : ℕ} → a ≡ token-found f → a ≡ Token t → f ≡ found t
-unfolding token-found
-token-is (found u) {a} {t} p q = let e : Token u ≡ Token t = sym p ∙ q in let i : u ≡ t = cc in ap found i
-token-is nowhere p q = let z : _≡_ {A = ℕ} 0 1 = cc in absurd (omega arith)
+-- where it is that of none, the name is no word
+none-found : {r b : ℕ} (ws : List Word) (s : List ℕ) → T (every (λ w. token-within 0 0x54 (w .token)) ws) → b ≡ getD s 0 0 → r ≡ token-at ws b (length s) → r ≡ 0xff → find-word ws s ≡ nowhere
+unfolding found-or
+none-found {r} {b} ws s a e p n = no-word ws s (go (first-like s ws) refl (sym n ∙ p ∙ ap (λ (x : ℕ). token-at ws x (length s)) e))
+  where
+    go : (f : Found) → first-like s ws ≡ f → 0xff ≡ found-or f 0xff → first-like s ws ≡ nowhere
+    go (found t) h q = absurd (omega (arith, q, first-bounds 0 0x54 ws (getD s 0 0) (length s) a t h .1))
+    go nowhere h q = h
 
-token-none : (f : Found) {a : Answer} → a ≡ token-found f → a ≡ Nothing → f ≡ nowhere
-unfolding token-found
-token-none (found u) p q = let z : _≡_ {A = ℕ} 0 1 = cc in absurd (omega arith)
-token-none nowhere p q = refl
+-- ---- the two searches
 
 -- the lengths of words before a place and from there on
 total-parts : (i : ℕ) (ls : List ℕ) → total (take i ls) + total (drop i ls) ≡ total ls
@@ -188,67 +174,58 @@ fits n ls i e h = rw (rest-all n ls i e) (omega (arith, total-parts i ls), omega
 
 -- ---- statements
 
-statement-tokens : T (every (λ w. token-within 0 0x35 (w .token)) statements)
-unfolding every token-within statements word
-statement-tokens = tt
+pub statement-nowhere : {r b : ℕ} (s : List ℕ) → b ≡ getD s 0 0 → r ≡ token-at statements b (length s) → r ≡ 0xff → NoStatement ≡ statement-found (find-word statements s)
+unfolding statement-found every token-within statements word
+statement-nowhere s e p n = sym (ap statement-found (none-found statements s tt e p n))
 
-module _ {b : ℕ} {a : Answer} (s : List ℕ) (e : b ≡ getD s 0 0) (p : a ≡ token-found (first-word statements b (length s))) where
-  pub statement-nowhere : a ≡ Nothing → NoStatement ≡ statement-found (find-word statements s)
-  unfolding statement-found
-  statement-nowhere q = sym (ap statement-found (no-word statements s (ap (λ (x : ℕ). first-word statements x (length s)) (sym e) ∙ token-none (first-word statements b (length s)) p q)))
+module _ {t : ℕ} (s : List ℕ) (f : first-like s statements ≡ found t) where
+  pub statement-bound : t ≤ 0x35
+  unfolding every token-within statements word
+  statement-bound = first-bounds 0 0x35 statements (getD s 0 0) (length s) tt t f .1
 
-  pub statement-bound : {t : ℕ} → a ≡ Token t → t ≤ 0x35
-  statement-bound {t} q = first-bounds 0 0x35 statements b (length s) statement-tokens t (token-is (first-word statements b (length s)) p q) .1
+  module _ {start : ℕ} (r : start ≡ total (take t statement-lengths)) where
+    pub statement-fits : (start + total (take (0x36 - t) (drop t statement-lengths)) ≤ 355) × (t + length (take (0x36 - t) (drop t statement-lengths)) ≤ 255)
+    unfolding statement-lengths tabulated
+    statement-fits =
+        let g = fits 0x36 statement-lengths t refl (omega (arith, statement-bound)) in
+        (omega (arith, g .0, statement-bytes), omega (arith, g .1))
 
-  pub statement-from : {t start : ℕ} → a ≡ Token t → start ≡ total (take t statement-lengths)
-      → find-word (words-of t (take (0x36 - t) (drop t statement-lengths)) (drop start fixed-words)) s ≡ find-word statements s
-  unfolding statement-lengths tabulated
-  statement-from {t} {start} q r =
-      let z : t ≡ 0 + t = omega arith in
-      let f : first-like s statements ≡ found t = ap (λ (x : ℕ). first-word statements x (length s)) (sym e) ∙ token-is (first-word statements b (length s)) p q in
-      ap (λ (ls : List ℕ). find-word (words-of t ls (drop start fixed-words)) s) (rest-all 0x36 statement-lengths t refl)
-      ∙ ap (λ (x : ℕ). find-word (words-of t (drop t statement-lengths) (drop x fixed-words)) s) r
-      ∙ ap (λ (x : ℕ). find-word (words-of x (drop t statement-lengths) (drop (total (take t statement-lengths)) fixed-words)) s) z
-      ∙ sym (from-first 0 statement-lengths (drop 0 fixed-words) s t (first-statement (getD s 0 0) (length s) ∙ f ∙ ap found z))
-      ∙ find-statement s
-
-pub statement-fits : {t start : ℕ} → t ≤ 0x35 → start ≡ total (take t statement-lengths)
-    → (start + total (take (0x36 - t) (drop t statement-lengths)) ≤ 355) × (t + length (take (0x36 - t) (drop t statement-lengths)) ≤ 255)
-unfolding statement-lengths tabulated
-statement-fits {t} h r =
-    let f = fits 0x36 statement-lengths t refl (omega arith) in
-    (omega (arith, f .0, statement-bytes), omega (arith, f .1))
+    pub statement-from : find-word (words-of t (take (0x36 - t) (drop t statement-lengths)) (drop start fixed-words)) s ≡ find-word statements s
+    unfolding statement-lengths tabulated
+    statement-from =
+        let z : t ≡ 0 + t = omega arith in
+        ap (λ (ls : List ℕ). find-word (words-of t ls (drop start fixed-words)) s) (rest-all 0x36 statement-lengths t refl)
+        ∙ ap (λ (x : ℕ). find-word (words-of t (drop t statement-lengths) (drop x fixed-words)) s) r
+        ∙ ap (λ (x : ℕ). find-word (words-of x (drop t statement-lengths) (drop (total (take t statement-lengths)) fixed-words)) s) z
+        ∙ sym (from-first 0 statement-lengths (drop 0 fixed-words) s t (first-statement (getD s 0 0) (length s) ∙ f ∙ ap found z))
+        ∙ find-statement s
 
 -- ---- operators and functions
 
-operator-tokens : T (every (λ w. token-within 0x12 0x54 (w .token)) read-words)
-unfolding every token-within read-words read-operators functions word
-operator-tokens = tt
+pub reserved-nowhere : {r b : ℕ} (s : List ℕ) → b ≡ getD s 0 0 → r ≡ token-at read-words b (length s) → r ≡ 0xff → NotReserved ≡ reserved-found (find-word operators s)
+unfolding reserved-found every token-within read-words read-operators functions word
+reserved-nowhere s e p n = sym (ap reserved-found (find-read s ∙ none-found read-words s tt e p n))
 
-module _ {b : ℕ} {a : Answer} (s : List ℕ) (e : b ≡ getD s 0 0) (p : a ≡ token-found (first-word read-words b (length s))) where
-  pub reserved-nowhere : a ≡ Nothing → NotReserved ≡ reserved-found (find-word operators s)
-  unfolding reserved-found
-  reserved-nowhere q = sym (ap reserved-found (find-read s ∙ no-word read-words s (ap (λ (x : ℕ). first-word read-words x (length s)) (sym e) ∙ token-none (first-word read-words b (length s)) p q)))
+module _ {t : ℕ} (s : List ℕ) (f : first-like s read-words ≡ found t) where
+  pub reserved-bounds : (0x12 ≤ t) × (t ≤ 0x54)
+  unfolding every token-within read-words read-operators functions word
+  reserved-bounds = first-bounds 0x12 0x54 read-words (getD s 0 0) (length s) tt t f
 
-  pub reserved-bounds : {t : ℕ} → a ≡ Token t → (0x12 ≤ t) × (t ≤ 0x54)
-  reserved-bounds {t} q = first-bounds 0x12 0x54 read-words b (length s) operator-tokens t (token-is (first-word read-words b (length s)) p q)
+  module _ {start : ℕ} (r : start ≡ total (take (t - 0x12) operator-lengths)) where
+    pub reserved-fits : (223 + start + total (take (0x43 - (t - 0x12)) (drop (t - 0x12) operator-lengths)) ≤ 355) × (t + length (take (0x43 - (t - 0x12)) (drop (t - 0x12) operator-lengths)) ≤ 255)
+    unfolding operator-lengths tabulated
+    reserved-fits =
+        let h = reserved-bounds in
+        let g = fits 0x43 operator-lengths (t - 0x12) refl (omega (arith, h .0, h .1)) in
+        (omega (arith, g .0, operator-bytes), omega (arith, g .1, h .0, h .1))
 
-  pub reserved-from : {t start : ℕ} → a ≡ Token t → start ≡ total (take (t - 0x12) operator-lengths)
-      → find-word (words-of t (take (0x43 - (t - 0x12)) (drop (t - 0x12) operator-lengths)) (drop (223 + start) fixed-words)) s ≡ find-word operators s
-  unfolding operator-lengths tabulated
-  reserved-from {t} {start} q r =
-      let z : t ≡ 0x12 + (t - 0x12) = omega (arith, reserved-bounds q .0) in
-      let f : first-like s read-words ≡ found t = ap (λ (x : ℕ). first-word read-words x (length s)) (sym e) ∙ token-is (first-word read-words b (length s)) p q in
-      ap (λ (ls : List ℕ). find-word (words-of t ls (drop (223 + start) fixed-words)) s) (rest-all 0x43 operator-lengths (t - 0x12) refl)
-      ∙ ap (λ (x : ℕ). find-word (words-of t (drop (t - 0x12) operator-lengths) (drop (223 + x) fixed-words)) s) r
-      ∙ ap (λ (bs : List ℕ). find-word (words-of t (drop (t - 0x12) operator-lengths) bs) s) (sym (drop-drop (total (take (t - 0x12) operator-lengths)) 223 fixed-words))
-      ∙ ap (λ (x : ℕ). find-word (words-of x (drop (t - 0x12) operator-lengths) (drop (total (take (t - 0x12) operator-lengths)) (drop 223 fixed-words))) s) z
-      ∙ sym (from-first 0x12 operator-lengths (drop 223 fixed-words) s (t - 0x12) (first-operator (getD s 0 0) (length s) ∙ f ∙ ap found z))
-      ∙ find-operator s
-
-pub reserved-fits : {t start : ℕ} → (0x12 ≤ t) × (t ≤ 0x54) → start ≡ total (take (t - 0x12) operator-lengths)
-    → (223 + start + total (take (0x43 - (t - 0x12)) (drop (t - 0x12) operator-lengths)) ≤ 355) × (t + length (take (0x43 - (t - 0x12)) (drop (t - 0x12) operator-lengths)) ≤ 255)
-unfolding operator-lengths tabulated
-reserved-fits {t} h r =
-    let f = fits 0x43 operator-lengths (t - 0x12) refl (omega (arith, h .0, h .1)) in
-    (omega (arith, f .0, operator-bytes), omega (arith, f .1, h .0, h .1))
+    pub reserved-from : find-word (words-of t (take (0x43 - (t - 0x12)) (drop (t - 0x12) operator-lengths)) (drop (223 + start) fixed-words)) s ≡ find-word operators s
+    unfolding operator-lengths tabulated
+    reserved-from =
+        let z : t ≡ 0x12 + (t - 0x12) = omega (arith, reserved-bounds .0) in
+        ap (λ (ls : List ℕ). find-word (words-of t ls (drop (223 + start) fixed-words)) s) (rest-all 0x43 operator-lengths (t - 0x12) refl)
+        ∙ ap (λ (x : ℕ). find-word (words-of t (drop (t - 0x12) operator-lengths) (drop (223 + x) fixed-words)) s) r
+        ∙ ap (λ (bs : List ℕ). find-word (words-of t (drop (t - 0x12) operator-lengths) bs) s) (sym (drop-drop (total (take (t - 0x12) operator-lengths)) 223 fixed-words))
+        ∙ ap (λ (x : ℕ). find-word (words-of x (drop (t - 0x12) operator-lengths) (drop (total (take (t - 0x12) operator-lengths)) (drop 223 fixed-words))) s) z
+        ∙ sym (from-first 0x12 operator-lengths (drop 223 fixed-words) s (t - 0x12) (first-operator (getD s 0 0) (length s) ∙ f ∙ ap found z))
+        ∙ find-operator s

@@ -26,7 +26,7 @@ use Rattle.tokens.specs.Words.{find-read}
 abbrev pub stands : List ℕ → ℕ → ℕ → List ℕ → Bool
 stands bs from size s = not (eqb size 0) && same (take size (drop from bs)) s
 
-pub and-false : (a : Bool) → (a && false) ≡ false
+and-false : (a : Bool) → (a && false) ≡ false
 and-false true = refl
 and-false false = refl
 

@@ -7,12 +7,12 @@ ghost use mathlib.Core.Path.{_≡_};
 ghost use mathlib.Core.List.{[], _∷_};
 ghost use Prim.Native.Nat.{_-_};
 ghost use lib.Dec.{leb};
-ghost use lib.ListN.{take, drop};
+ghost use lib.ListN.{length, getD, take, drop};
 ghost use Rattle.paper.specs.Bytes.{pick};
-ghost use Rattle.paper.specs.Words.{find-word, word-of, statements, operators, word-operator?};
+ghost use Rattle.paper.specs.Words.{found, find-word, word-of, statements, operators, word-operator?};
 ghost use Rattle.paper.specs.Tokens.{operator-class, read-as};
 ghost use Rattle.paper.specs.Line.{raw-statement?};
-ghost use Rattle.tokens.specs.Tables.{token-found, statement-found, reserved-found, pair-found, symbol-found};
+ghost use Rattle.tokens.specs.Tables.{read-words, first-word, token-found, statement-found, reserved-found, pair-found, symbol-found};
 ghost use Rattle.tokens.specs.Parts.{statement-part, operator-part, bytes-at};
 
 // A token that begins a statement.
@@ -458,22 +458,56 @@ pub fn read_as(token: u8) -> u8
     }
 }
 
+// The statement word that is the whole of a name, looked for from the first one on that has the name's first byte and length.
+fn find_statement(first: u8, name: &[u8]) -> Statement
+    requires { ⌜ first-word statements (getD (now name) 0 0) (length (now name)) ≡ found first ⌝ }
+    ensures { λ r. ⌜ r ≡ statement-found (find-word statements (now (name .entry))) ⌝ }
+{
+    match tables::find(
+        &WORDS,
+        tables::statement_start(first) as usize,
+        &tables::STATEMENT_LENGTHS[first as usize..],
+        first,
+        name,
+    ) {
+        Found::Token(t) => Statement::Word(StatementToken(t)),
+        Found::Nothing => Statement::Nothing,
+    }
+}
+
 // The statement word that is the whole of a name.
 pub fn statement_word(name: &[u8]) -> Statement
     ensures { λ r. ⌜ r ≡ statement-found (find-word statements (now (name .entry))) ⌝ }
 {
-    match tables::first_statement(tables::first_of(name), name.len()) {
-        Found::Token(first) => match tables::find(
-            &WORDS,
-            tables::statement_start(first) as usize,
-            &tables::STATEMENT_LENGTHS[first as usize..],
-            first,
-            name,
-        ) {
-            Found::Token(t) => Statement::Word(StatementToken(t)),
-            Found::Nothing => Statement::Nothing,
-        },
-        Found::Nothing => Statement::Nothing,
+    let first = tables::first_statement(tables::first_of(name), name.len());
+    if first == tables::NO_WORD {
+        Statement::Nothing
+    } else {
+        find_statement(first, name)
+    }
+}
+
+// The word operator or function that is the whole of a name, looked for from the first one on that has the name's first byte and length.
+fn find_reserved(first: u8, name: &[u8]) -> Reserved
+    requires { ⌜ first-word read-words (getD (now name) 0 0) (length (now name)) ≡ found first ⌝ }
+    ensures { λ r. ⌜ r ≡ reserved-found (find-word operators (now (name .entry))) ⌝ }
+{
+    let i = first - tables::FIRST_OPERATOR;
+    match tables::find(
+        &WORDS,
+        tables::STATEMENT_BYTES + tables::operator_start(i) as usize,
+        &tables::OPERATOR_LENGTHS[i as usize..],
+        first,
+        name,
+    ) {
+        Found::Token(t) => {
+            if t < FunctionToken::STR.0 {
+                Reserved::Operator(OperatorToken(t))
+            } else {
+                Reserved::Function(FunctionToken(t))
+            }
+        }
+        Found::Nothing => Reserved::Nothing,
     }
 }
 
@@ -481,27 +515,11 @@ pub fn statement_word(name: &[u8]) -> Statement
 pub fn reserved_word(name: &[u8]) -> Reserved
     ensures { λ r. ⌜ r ≡ reserved-found (find-word operators (now (name .entry))) ⌝ }
 {
-    match tables::first_reserved(tables::first_of(name), name.len()) {
-        Found::Token(first) => {
-            let i = first - tables::FIRST_OPERATOR;
-            match tables::find(
-                &WORDS,
-                tables::STATEMENT_BYTES + tables::operator_start(i) as usize,
-                &tables::OPERATOR_LENGTHS[i as usize..],
-                first,
-                name,
-            ) {
-                Found::Token(t) => {
-                    if t < FunctionToken::STR.0 {
-                        Reserved::Operator(OperatorToken(t))
-                    } else {
-                        Reserved::Function(FunctionToken(t))
-                    }
-                }
-                Found::Nothing => Reserved::Nothing,
-            }
-        }
-        Found::Nothing => Reserved::Nothing,
+    let first = tables::first_reserved(tables::first_of(name), name.len());
+    if first == tables::NO_WORD {
+        Reserved::Nothing
+    } else {
+        find_reserved(first, name)
     }
 }
 

@@ -6,6 +6,7 @@ ghost use lib.Dec.{eqb};
 ghost use lib.ListN.{length, getD, take, drop};
 ghost use Rattle.paper.specs.Bytes.{same};
 ghost use Rattle.paper.specs.Words.{find-word, statements};
+ghost use Rattle.paper.specs.Tokens.{found-or};
 ghost use Rattle.tokens.specs.Tables.{total, read-words, statement-lengths, operator-lengths, words-of, first-word, token-found};
 use crate::Found;
 use crate::FunctionToken;
@@ -15,6 +16,9 @@ use crate::sign;
 
 // How many tokens from 0 on the table of statement words has.
 pub(crate) const STATEMENTS: u8 = 0x36;
+
+// No word's token.
+pub(crate) const NO_WORD: u8 = 0xFF;
 
 // How many bytes of the fixed words are statement words.
 pub(crate) const STATEMENT_BYTES: usize = 223;
@@ -300,123 +304,139 @@ pub(crate) fn first_of(name: &[u8]) -> u8
     if name.len() == 0 { 0 } else { name[0] }
 }
 
-// The first statement word that begins with a byte and has a length: the search for such a name begins there.
-pub(crate) fn first_statement(first: u8, size: usize) -> Found
-    ensures { λ r. ⌜ r ≡ token-found (first-word statements first size) ⌝ }
+// The token of the first statement word that begins with a byte and has a length; `NO_WORD` if none does.
+pub(crate) fn first_statement(first: u8, size: usize) -> u8
+    ensures { λ r. ⌜ r ≡ found-or (first-word statements first size) 0xff ⌝ }
 {
     match size {
         1 => match first {
-            b'?' => Found::Token(StatementToken::QUESTION.0),
-            _ => Found::Nothing,
+            b'?' => StatementToken::QUESTION.0,
+            _ => NO_WORD,
         },
         2 => match first {
-            b'I' => Found::Token(StatementToken::IF.0),
-            b'O' => Found::Token(StatementToken::ON.0),
-            _ => Found::Nothing,
+            b'I' => StatementToken::IF.0,
+            b'O' => StatementToken::ON.0,
+            _ => NO_WORD,
         },
         3 => match first {
-            b'R' => Found::Token(StatementToken::REM.0),
-            b'L' => Found::Token(StatementToken::LET.0),
-            b'F' => Found::Token(StatementToken::FOR.0),
-            b'B' => Found::Token(StatementToken::BYE.0),
-            b'C' => Found::Token(StatementToken::COM.0),
-            b'D' => Found::Token(StatementToken::DEG.0),
-            b'E' => Found::Token(StatementToken::END.0),
-            b'N' => Found::Token(StatementToken::NEW.0),
-            b'X' => Found::Token(StatementToken::XIO.0),
-            b'P' => Found::Token(StatementToken::POP.0),
-            b'G' => Found::Token(StatementToken::GET.0),
-            _ => Found::Nothing,
+            b'R' => StatementToken::REM.0,
+            b'L' => StatementToken::LET.0,
+            b'F' => StatementToken::FOR.0,
+            b'B' => StatementToken::BYE.0,
+            b'C' => StatementToken::COM.0,
+            b'D' => StatementToken::DEG.0,
+            b'E' => StatementToken::END.0,
+            b'N' => StatementToken::NEW.0,
+            b'X' => StatementToken::XIO.0,
+            b'P' => StatementToken::POP.0,
+            b'G' => StatementToken::GET.0,
+            _ => NO_WORD,
         },
         4 => match first {
-            b'D' => Found::Token(StatementToken::DATA.0),
-            b'L' => Found::Token(StatementToken::LIST.0),
-            b'N' => Found::Token(StatementToken::NEXT.0),
-            b'G' => Found::Token(StatementToken::GOTO.0),
-            b'T' => Found::Token(StatementToken::TRAP.0),
-            b'C' => Found::Token(StatementToken::CONT.0),
-            b'O' => Found::Token(StatementToken::OPEN.0),
-            b'S' => Found::Token(StatementToken::SAVE.0),
-            b'P' => Found::Token(StatementToken::POKE.0),
-            b'R' => Found::Token(StatementToken::READ.0),
-            _ => Found::Nothing,
+            b'D' => StatementToken::DATA.0,
+            b'L' => StatementToken::LIST.0,
+            b'N' => StatementToken::NEXT.0,
+            b'G' => StatementToken::GOTO.0,
+            b'T' => StatementToken::TRAP.0,
+            b'C' => StatementToken::CONT.0,
+            b'O' => StatementToken::OPEN.0,
+            b'S' => StatementToken::SAVE.0,
+            b'P' => StatementToken::POKE.0,
+            b'R' => StatementToken::READ.0,
+            _ => NO_WORD,
         },
         5 => match first {
-            b'I' => Found::Token(StatementToken::INPUT.0),
-            b'C' => Found::Token(StatementToken::COLOR.0),
-            b'E' => Found::Token(StatementToken::ENTER.0),
-            b'G' => Found::Token(StatementToken::GOSUB.0),
-            b'P' => Found::Token(StatementToken::POINT.0),
-            b'S' => Found::Token(StatementToken::SOUND.0),
-            _ => Found::Nothing,
+            b'I' => StatementToken::INPUT.0,
+            b'C' => StatementToken::COLOR.0,
+            b'E' => StatementToken::ENTER.0,
+            b'G' => StatementToken::GOSUB.0,
+            b'P' => StatementToken::POINT.0,
+            b'S' => StatementToken::SOUND.0,
+            _ => NO_WORD,
         },
         6 => match first {
-            b'S' => Found::Token(StatementToken::STATUS.0),
-            b'R' => Found::Token(StatementToken::RETURN.0),
-            b'D' => Found::Token(StatementToken::DRAWTO.0),
-            b'L' => Found::Token(StatementToken::LOCATE.0),
-            _ => Found::Nothing,
+            b'S' => StatementToken::STATUS.0,
+            b'R' => StatementToken::RETURN.0,
+            b'D' => StatementToken::DRAWTO.0,
+            b'L' => StatementToken::LOCATE.0,
+            _ => NO_WORD,
         },
         7 => match first {
-            b'R' => Found::Token(StatementToken::RESTORE.0),
-            _ => Found::Nothing,
+            b'R' => StatementToken::RESTORE.0,
+            _ => NO_WORD,
         },
         8 => match first {
-            b'G' => Found::Token(StatementToken::GRAPHICS.0),
-            b'P' => Found::Token(StatementToken::POSITION.0),
-            b'S' => Found::Token(StatementToken::SETCOLOR.0),
-            _ => Found::Nothing,
+            b'G' => StatementToken::GRAPHICS.0,
+            b'P' => StatementToken::POSITION.0,
+            b'S' => StatementToken::SETCOLOR.0,
+            _ => NO_WORD,
         },
-        _ => Found::Nothing,
+        _ => NO_WORD,
     }
 }
 
-// The first word of an operator or function that begins with a byte and has a length: the search for such a name begins there.
-pub(crate) fn first_reserved(first: u8, size: usize) -> Found
-    ensures { λ r. ⌜ r ≡ token-found (first-word read-words first size) ⌝ }
+// The token of the first word of an operator or function that begins with a byte and has a length; `NO_WORD` if none does.
+pub(crate) fn first_reserved(first: u8, size: usize) -> u8
+    ensures { λ r. ⌜ r ≡ found-or (first-word read-words first size) 0xff ⌝ }
 {
     match size {
-        1 => sign(first),
+        1 => match first {
+            b',' => OperatorToken::COMMA.0,
+            b':' => OperatorToken::COLON.0,
+            b';' => OperatorToken::SEMICOLON.0,
+            b'#' => OperatorToken::NUMBER_SIGN.0,
+            b'<' => OperatorToken::LESS.0,
+            b'>' => OperatorToken::GREATER.0,
+            b'=' => OperatorToken::EQUAL.0,
+            b'^' => OperatorToken::POWER.0,
+            b'*' => OperatorToken::TIMES.0,
+            b'+' => OperatorToken::PLUS.0,
+            b'-' => OperatorToken::MINUS.0,
+            b'/' => OperatorToken::DIVIDED_BY.0,
+            b'(' => OperatorToken::OPEN.0,
+            b')' => OperatorToken::CLOSE.0,
+            _ => NO_WORD,
+        },
         2 => match first {
-            b'T' => Found::Token(OperatorToken::TO.0),
-            b'<' => Found::Token(OperatorToken::LESS_OR_EQUAL.0),
-            b'>' => Found::Token(OperatorToken::GREATER_OR_EQUAL.0),
-            b'O' => Found::Token(OperatorToken::OR.0),
-            _ => Found::Nothing,
+            b'T' => OperatorToken::TO.0,
+            b'<' => OperatorToken::LESS_OR_EQUAL.0,
+            b'>' => OperatorToken::GREATER_OR_EQUAL.0,
+            b'O' => OperatorToken::OR.0,
+            _ => NO_WORD,
         },
         3 => match first {
-            b'N' => Found::Token(OperatorToken::NOT.0),
-            b'A' => Found::Token(OperatorToken::AND.0),
-            b'U' => Found::Token(FunctionToken::USR.0),
-            b'V' => Found::Token(FunctionToken::VAL.0),
-            b'L' => Found::Token(FunctionToken::LEN.0),
-            b'C' => Found::Token(FunctionToken::COS.0),
-            b'S' => Found::Token(FunctionToken::SIN.0),
-            b'R' => Found::Token(FunctionToken::RND.0),
-            b'F' => Found::Token(FunctionToken::FRE.0),
-            b'E' => Found::Token(FunctionToken::EXP.0),
-            b'I' => Found::Token(FunctionToken::INT.0),
-            _ => Found::Nothing,
+            b'N' => OperatorToken::NOT.0,
+            b'A' => OperatorToken::AND.0,
+            b'U' => FunctionToken::USR.0,
+            b'V' => FunctionToken::VAL.0,
+            b'L' => FunctionToken::LEN.0,
+            b'C' => FunctionToken::COS.0,
+            b'S' => FunctionToken::SIN.0,
+            b'R' => FunctionToken::RND.0,
+            b'F' => FunctionToken::FRE.0,
+            b'E' => FunctionToken::EXP.0,
+            b'I' => FunctionToken::INT.0,
+            _ => NO_WORD,
         },
         4 => match first {
-            b'G' => Found::Token(OperatorToken::GOTO.0),
-            b'S' => Found::Token(OperatorToken::STEP.0),
-            b'T' => Found::Token(OperatorToken::THEN.0),
-            b'C' => Found::Token(FunctionToken::CHR.0),
-            b'P' => Found::Token(FunctionToken::PEEK.0),
-            _ => Found::Nothing,
+            b'G' => OperatorToken::GOTO.0,
+            b'S' => OperatorToken::STEP.0,
+            b'T' => OperatorToken::THEN.0,
+            b'C' => FunctionToken::CHR.0,
+            b'P' => FunctionToken::PEEK.0,
+            _ => NO_WORD,
         },
         5 => match first {
-            b'G' => Found::Token(OperatorToken::GOSUB.0),
-            b'S' => Found::Token(FunctionToken::STICK.0),
-            b'P' => Found::Token(FunctionToken::PTRIG.0),
-            _ => Found::Nothing,
+            b'G' => OperatorToken::GOSUB.0,
+            b'S' => FunctionToken::STICK.0,
+            b'P' => FunctionToken::PTRIG.0,
+            _ => NO_WORD,
         },
         6 => match first {
-            b'P' => Found::Token(FunctionToken::PADDLE.0),
-            _ => Found::Nothing,
+            b'P' => FunctionToken::PADDLE.0,
+            _ => NO_WORD,
         },
-        _ => Found::Nothing,
+        _ => NO_WORD,
     }
 }
 

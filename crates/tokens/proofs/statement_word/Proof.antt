@@ -1,11 +1,7 @@
 -- `tokens::statement_word` meets its contract.
-use native.Mathlib.Omega.{arith}
 use borrow.Author.Needs.{needs}
-use Rattle.paper.specs.Bytes.{bytes}
-use Rattle.paper.specs.Words.{word, statements, read-operators, functions, word-of}
-use Rattle.tokens.specs.Tables.{tabulated, total, end-to-end, read-words, fixed-words, word-size, statement-lengths, operator-lengths}
-use Rattle.tokens.proofs.Search.{statement-answer, statement-none}
-use Rattle.tokens.proofs.First.{statement-nowhere, statement-bound, statement-from, statement-fits}
+use Rattle.paper.specs.Words.{statements}
+use Rattle.tokens.proofs.First.{first-found, statement-nowhere}
 use Rattle.tokens.proofs.statement_word.Statement.{statement}
 use Rattle.tokens.proofs.statement_word.Tie as tie
 
@@ -15,72 +11,16 @@ first-of-requires c κs = search needs
 first-statement-requires : tie.Need-first-statement-requires
 first-statement-requires c κs = search needs
 
-enum-known-first : tie.Need-enum-known-first
-enum-known-first c = search needs
-
-slice-aggregate-find : tie.Need-slice-aggregate-find
-slice-aggregate-find c = search needs
-
-statement-start-requires : tie.Need-statement-start-requires
-statement-start-requires c κs = search needs
-
-cast-find : tie.Need-cast-find
-cast-find c = search needs
-
-cast-find-2 : tie.Need-cast-find-2
-cast-find-2 c = search needs
-
-sub-find : tie.Need-sub-find
-sub-find c = omega (arith, (statement-bound (c .before .before .before .before .before .before .before .before .args .name .now) (c .before .before .before .before .before .before .first-of .ensures) (c .before .before .before .before .before .first-statement .ensures) (c .before .before .before .first .given .1)))
-
-part-find-start : tie.Need-part-find-start
-part-find-start c = omega (arith, (statement-bound (c .before .before .before .before .before .before .before .before .before .args .name .now) (c .before .before .before .before .before .before .before .first-of .ensures) (c .before .before .before .before .before .before .first-statement .ensures) (c .before .before .before .before .first .given .1)))
-
-part-find-end : tie.Need-part-find-end
-part-find-end c = search needs
-
-find-requires : tie.Need-find-requires
-unfolding statement-lengths operator-lengths tabulated total word-size word-of fixed-words end-to-end read-words statements read-operators functions word bytes
-find-requires c κs = statement-fits (statement-bound (c .before .before .before .before .before .before .before .before .before .before .args .name .now) (c .before .before .before .before .before .before .before .before .first-of .ensures) (c .before .before .before .before .before .before .before .first-statement .ensures) (c .before .before .before .before .before .first .given .1)) (c .before .before .statement-start .ensures)
-
-enum-known-t : tie.Need-enum-known-t
-enum-known-t c = search needs
-
-enum-told : tie.Need-enum-told
-enum-told c = search needs
-
-enum-told-2 : tie.Need-enum-told-2
-enum-told-2 c = search needs
+find-statement-requires : tie.Need-find-statement-requires
+find-statement-requires c κs = first-found statements (c .before .before .before .before .args .name .now) (c .before .before .first-of .ensures) (c .before .first-statement .ensures) (c .if1 .left)
 
 returns : tie.Need-returns
-unfolding statement-lengths operator-lengths tabulated total word-size word-of fixed-words end-to-end read-words statements read-operators functions word bytes
-returns c = statement-answer _ _ (c .before .before .before .find .ensures) (statement-from (c .before .before .before .before .before .before .before .before .before .before .before .before .before .before .args .name .now) (c .before .before .before .before .before .before .before .before .before .before .before .before .first-of .ensures) (c .before .before .before .before .before .before .before .before .before .before .before .first-statement .ensures) (c .before .before .before .before .before .before .before .before .before .first .given .1) (c .before .before .before .before .before .before .statement-start .ensures)) (c .before .t .given .1)
+returns c = statement-nowhere (c .before .before .before .before .args .name .now) (c .before .before .first-of .ensures) (c .before .first-statement .ensures) (c .if1 .taken)
 
 returns-2 : tie.Need-returns-2
-unfolding statement-lengths operator-lengths tabulated total word-size word-of fixed-words end-to-end read-words statements read-operators functions word bytes
-returns-2 c = statement-none _ _ (c .before .before .find .ensures) (statement-from (c .before .before .before .before .before .before .before .before .before .before .before .before .before .args .name .now) (c .before .before .before .before .before .before .before .before .before .before .before .first-of .ensures) (c .before .before .before .before .before .before .before .before .before .before .first-statement .ensures) (c .before .before .before .before .before .before .before .before .first .given .1) (c .before .before .before .before .before .statement-start .ensures)) (c .enum-told .given .1)
-
-returns-3 : tie.Need-returns-3
-returns-3 c = statement-nowhere (c .before .before .before .before .before .args .name .now) (c .before .before .before .first-of .ensures) (c .before .before .first-statement .ensures) (c .enum-told2 .given .1)
+returns-2 c = search needs
 
 pub statement-word-spec : {M : Type 1} → statement M
 statement-word-spec =
     tie.close
-    (tie.spec
-    first-of-requires
-    first-statement-requires
-    enum-known-first
-    slice-aggregate-find
-    statement-start-requires
-    cast-find
-    cast-find-2
-    sub-find
-    part-find-start
-    part-find-end
-    find-requires
-    enum-known-t
-    enum-told
-    enum-told-2
-    returns
-    returns-2
-    returns-3)
+    (tie.spec first-of-requires first-statement-requires find-statement-requires returns returns-2)
