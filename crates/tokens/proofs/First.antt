@@ -7,7 +7,7 @@ use mathlib.Core.List.{List, [], _∷_}
 use lib.Dec.{T, eqb, leb}
 use lib.ListN.{length, take, drop, getD, length-drop}
 use lib.Seq.{drop-drop, take-all}
-use borrow.Author.Tests.{eq-eqb, ne-eqb, eqb-true, leb-true}
+use borrow.Author.Tests.{eq-eqb, eqb-true, leb-true}
 use Rattle.paper.specs.Bytes.{pick, bytes, same, among, every}
 use Rattle.paper.specs.Classes.{unfit}
 use Rattle.paper.specs.Words.{Word, word, Found, found, nowhere, find-word, statements, operators, read-operators, functions}
@@ -28,34 +28,37 @@ use Rattle.tokens.proofs.Search.{find-statement, find-operator, first-s
 abbrev pub token-at : List Word → ℕ → ℕ → ℕ
 token-at ws b n = found-or (first-word ws b n) 0xff
 
+-- an arm's token
 pub first-at : (ws : List Word) (n k : ℕ) {b m : ℕ} → m ≡ n → b ≡ k → token-at ws k n ≡ token-at ws b m
 first-at ws n k {b} {m} e f = sym (ap (λ (x : ℕ). token-at ws x m) f ∙ ap (token-at ws k) e)
 
--- a first byte and a length that fail a test, where each word's pass it, are no word's
-no-first : (ws : List Word) (p : ℕ → ℕ → Bool) (b n : ℕ) → T (every (λ w. p (getD (w .spelling) 0 0) (length (w .spelling))) ws) → p b n ≡ false → 0xff ≡ token-at ws b n
+-- a test of a word's first byte and length
+abbrev tested : (ℕ → ℕ → Bool) → Word → Bool
+tested p w = p (getD (w .spelling) 0 0) (length (w .spelling))
+
+-- a first byte and a length that fail a test, where each word passes it, are no word's
+no-first : (ws : List Word) (p : ℕ → ℕ → Bool) (b n : ℕ) → T (every (λ w. tested p w) ws) → p b n ≡ false → 0xff ≡ token-at ws b n
 unfolding found-or every first-word begins
 no-first ws p b n a h = sym (ap (λ (f : Found). found-or f 0xff) (go ws a))
   where
-    one : (w : Word) (f : Found) → T (p (getD (w .spelling) 0 0) (length (w .spelling))) → f ≡ nowhere
-        → (x y : Bool) → eqb (getD (w .spelling) 0 0) b ≡ x → eqb (length (w .spelling)) n ≡ y → pick (x && y) (found (w .token)) f ≡ nowhere
+    one : (w : Word) (f : Found) → T (tested p w) → f ≡ nowhere → (x y : Bool) → eqb (getD (w .spelling) 0 0) b ≡ x → eqb (length (w .spelling)) n ≡ y → pick (x && y) (found (w .token)) f ≡ nowhere
     one w f t i true true d e =
-        let q : p (getD (w .spelling) 0 0) (length (w .spelling)) ≡ p b n = ap (λ (x : ℕ). p x (length (w .spelling))) (eqb-true (getD (w .spelling) 0 0) b d) ∙ ap (p b) (eqb-true (length (w .spelling)) n e) in
-        no-bool (sym h ∙ sym q ∙ is-true (p (getD (w .spelling) 0 0) (length (w .spelling))) t)
+        let q : tested p w ≡ p b n = ap (λ (x : ℕ). p x (length (w .spelling))) (eqb-true (getD (w .spelling) 0 0) b d) ∙ ap (p b) (eqb-true (length (w .spelling)) n e) in
+        no-bool (sym h ∙ sym q ∙ is-true (tested p w) t)
     one w f t i true false d e = i
     one w f t i false y d e = i
 
-    go : (vs : List Word) → T (every (λ w. p (getD (w .spelling) 0 0) (length (w .spelling))) vs) → first-word vs b n ≡ nowhere
+    go : (vs : List Word) → T (every (λ w. tested p w) vs) → first-word vs b n ≡ nowhere
     go [] a = refl
     go (w ∷ vs) a =
-        let t = and-left (p (getD (w .spelling) 0 0) (length (w .spelling))) (every (λ v. p (getD (v .spelling) 0 0) (length (v .spelling))) vs) a in
-        let r = and-right (p (getD (w .spelling) 0 0) (length (w .spelling))) (every (λ v. p (getD (v .spelling) 0 0) (length (v .spelling))) vs) a in
-        one w (first-word vs b n) t (go vs r) (eqb (getD (w .spelling) 0 0) b) (eqb (length (w .spelling)) n) refl refl
+        one w (first-word vs b n) (and-left (tested p w) (every (λ v. tested p v) vs) a) (go vs (and-right (tested p w) (every (λ v. tested p v) vs) a))
+        (eqb (getD (w .spelling) 0 0) b) (eqb (length (w .spelling)) n) refl refl
 
--- all words of n bytes begin with one of some bytes, and this is none of them
+-- a last arm within a length: all words of n bytes begin with one of some bytes, and this is none of them
 pub no-byte : (ws : List Word) (n : ℕ) (ks : List ℕ) → T (every (λ w. among (getD (w .spelling) 0 0) ks || not (eqb (length (w .spelling)) n)) ws) → (b : ℕ) {m : ℕ} → m ≡ n → Rest ks b → 0xff ≡ token-at ws b m
 no-byte ws n ks a b {m} e r = no-first ws (λ x y. among x ks || not (eqb y n)) b m a (rw (no-keys b ks r, eq-eqb m n e))
 
--- all words have one of some lengths, and this is none of them
+-- the last arm: all words have one of some lengths, and this is none of them
 pub no-length : (ws : List Word) (ks : List ℕ) → T (every (λ w. among (length (w .spelling)) ks) ws) → (b n : ℕ) → Rest ks n → 0xff ≡ token-at ws b n
 no-length ws ks a b n r = no-first ws (λ x y. among y ks) b n a (no-keys n ks r)
 
@@ -92,6 +95,7 @@ no-word (w ∷ ws) s e = go (like s (w .spelling)) refl e (λ x. no-word ws s x)
 abbrev words-from : ℕ → List ℕ → List ℕ → ℕ → List Word
 words-from k ls bs i = words-of (k + i) (drop i ls) (drop (total (take i ls)) bs)
 
+-- past a word that does not, where the words after it are known
 module _ (k l : ℕ) (ls bs s : List ℕ) (i : ℕ) (later : first-like s (words-of (suc k) ls (drop l bs)) ≡ found (suc k + i) → find-word (words-of (suc k) ls (drop l bs)) s ≡ find-word (words-from (suc k) ls (drop l bs) i) s) where
   abbrev more : List Word
   more = words-of (suc k) ls (drop l bs)
@@ -132,6 +136,7 @@ first-token (w ∷ ws) b n p a t h = go (begins b n (w .spelling)) (λ x y. firs
     go true ih h = let e : w .token ≡ t = cc in subst (λ (x : ℕ). T (p x)) e (and-left (p (w .token)) (every (λ v. p (v .token)) ws) a)
     go false ih h = ih (and-right (p (w .token)) (every (λ v. p (v .token)) ws) a) h
 
+-- so within the bounds of a table's tokens
 first-bounds : (low high : ℕ) (ws : List Word) (b n : ℕ) → T (every (λ w. token-within low high (w .token)) ws) → (t : ℕ) → first-word ws b n ≡ found t → (low ≤ t) × (t ≤ high)
 unfolding token-within
 first-bounds low high ws b n a t h =
@@ -165,6 +170,7 @@ total-parts zero ls = omega arith
 total-parts (suc i) [] = refl
 total-parts (suc i) (l ∷ ls) = omega (arith, total-parts i ls)
 
+-- the rest of a list is all of it from there on
 rest-all : (n : ℕ) (ls : List ℕ) (i : ℕ) → length ls ≡ n → take (n - i) (drop i ls) ≡ drop i ls
 rest-all n ls i e = take-all (n - i) (drop i ls) (omega (arith, length-drop i ls))
 
