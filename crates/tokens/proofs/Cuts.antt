@@ -92,11 +92,11 @@ statement-start-at k e = ap (λ (ls : List ℕ). total (take k ls)) statement-si
 pub operator-start-at : (k : ℕ) {i : ℕ} → i ≡ k → total (take k operator-sizes) ≡ total (take i operator-lengths)
 operator-start-at k e = ap (λ (ls : List ℕ). total (take k ls)) operator-sizes-right ∙ at-key (λ i. total (take i operator-lengths)) k e
 
-statement-bytes : 223 ≡ total statement-lengths
+pub statement-bytes : 223 ≡ total statement-lengths
 unfolding total statement-sizes
 statement-bytes = ap total statement-sizes-right
 
-operator-bytes : 132 ≡ total operator-lengths
+pub operator-bytes : 132 ≡ total operator-lengths
 unfolding total operator-sizes
 operator-bytes = ap total operator-sizes-right
 

@@ -3,4 +3,4 @@ pub mod Search
 pub mod Symbols
 pub mod Cuts
 pub mod Keys
-pub mod Guarded
+pub mod First

@@ -16,7 +16,7 @@ use Rattle.tokens.specs.declared.Found.{Found as Answer}
 use Rattle.tokens.specs.declared.Found.the-variants.{Token, Nothing}
 use Rattle.tokens.specs.declared.Statement.the-variants.{Word as AWord, Nothing as NoStatement}
 use Rattle.tokens.specs.declared.Reserved.the-variants.{Operator, Function, Nothing as NotReserved}
-use Rattle.tokens.specs.Tables.{tabulated, total, end-to-end, read-words, fixed-words, word-size, statement-lengths, operator-lengths, words-of, token-found, statement-found, reserved-found}
+use Rattle.tokens.specs.Tables.{tabulated, total, end-to-end, read-words, fixed-words, word-size, statement-lengths, operator-lengths, words-of, begins, first-word, token-found, statement-found, reserved-found}
 use Rattle.tokens.specs.Same.{not-same, same-as}
 use Rattle.tokens.specs.Words.{find-read}
 
@@ -103,6 +103,11 @@ unfolding find-word bare
 find-bare [] s = refl
 find-bare (w ∷ ws) s = ap (pick (same (w .spelling) s) (found (w .token))) (find-bare ws s)
 
+first-bare : (ws : List Word) (b n : ℕ) → first-word (bare ws) b n ≡ first-word ws b n
+unfolding first-word bare
+first-bare [] b n = refl
+first-bare (w ∷ ws) b n = ap (pick (begins b n (w .spelling)) (found (w .token))) (first-bare ws b n)
+
 statement-table : words-of 0 statement-lengths (drop 0 fixed-words) ≡ bare statements
 unfolding words-of bare tabulated statement-lengths word-size fixed-words end-to-end read-words word-of statements read-operators functions word bytes
 statement-table = refl
@@ -110,12 +115,18 @@ statement-table = refl
 pub find-statement : (s : List ℕ) → find-word (words-of 0 statement-lengths (drop 0 fixed-words)) s ≡ find-word statements s
 find-statement s = ap (λ (ws : List Word). find-word ws s) statement-table ∙ find-bare statements s
 
+pub first-statement : (b n : ℕ) → first-word (words-of 0 statement-lengths (drop 0 fixed-words)) b n ≡ first-word statements b n
+first-statement b n = ap (λ (ws : List Word). first-word ws b n) statement-table ∙ first-bare statements b n
+
 operator-table : words-of 0x12 operator-lengths (drop 223 fixed-words) ≡ bare read-words
 unfolding words-of bare tabulated operator-lengths word-size fixed-words end-to-end read-words word-of statements read-operators functions word bytes
 operator-table = refl
 
 pub find-operator : (s : List ℕ) → find-word (words-of 0x12 operator-lengths (drop 223 fixed-words)) s ≡ find-word operators s
 find-operator s = ap (λ (ws : List Word). find-word ws s) operator-table ∙ find-bare read-words s ∙ sym (find-read s)
+
+pub first-operator : (b n : ℕ) → first-word (words-of 0x12 operator-lengths (drop 223 fixed-words)) b n ≡ first-word read-words b n
+first-operator b n = ap (λ (ws : List Word). first-word ws b n) operator-table ∙ first-bare read-words b n
 
 -- ---- answers of other types
 

@@ -3,4 +3,3 @@ pub mod Parts
 pub mod Same
 pub mod Words
 pub mod Spellings
-pub mod Guards

@@ -1,8 +1,9 @@
 -- The tables of words as the code lays them out, and what a search of one gives.
 use Prim.Native.Nat.{ℕ, zero, suc, _+_}
+use mathlib.Core.Bool.{Bool, _&&_}
 use mathlib.Core.List.{List, [], _∷_, _++_}
 use lib.Dec.{ltb, eqb}
-use lib.ListN.{length, take, drop}
+use lib.ListN.{length, getD, take, drop}
 use Rattle.paper.specs.Bytes.{pick, bytes, letter?}
 use Rattle.paper.specs.Classes.{unfit}
 use Rattle.paper.specs.Words.{Word, word, Found, found, nowhere, word-of, statements, read-operators, functions}
@@ -63,6 +64,15 @@ words-of k (l ∷ ls) bs =
     let more = words-of (suc k) ls (drop l bs) in
     let some : List Word = record { token = k; spelling = take l bs; class = unfit } ∷ more in
     pick (eqb l 0) more some
+
+-- does a spelling begin with byte b and have n bytes
+unfoldable pub begins : ℕ → ℕ → List ℕ → Bool
+begins b n s = eqb (getD s 0 0) b && eqb (length s) n
+
+-- the first word of a table that does
+unfoldable pub first-word : List Word → ℕ → ℕ → Found
+first-word [] b n = nowhere
+first-word (w ∷ ws) b n = let r = first-word ws b n in pick (begins b n (w .spelling)) (found (w .token)) r
 
 -- ---- what a search gives
 

@@ -7,12 +7,12 @@ ghost use mathlib.Core.Path.{_≡_};
 ghost use mathlib.Core.List.{[], _∷_};
 ghost use Prim.Native.Nat.{_-_};
 ghost use lib.Dec.{leb};
-ghost use lib.ListN.{take, drop};
+ghost use lib.ListN.{length, getD, take, drop};
 ghost use Rattle.paper.specs.Bytes.{pick};
-ghost use Rattle.paper.specs.Words.{find-word, word-of, statements, operators, word-operator?};
+ghost use Rattle.paper.specs.Words.{found, find-word, word-of, statements, operators, word-operator?};
 ghost use Rattle.paper.specs.Tokens.{operator-class, read-as};
 ghost use Rattle.paper.specs.Line.{raw-statement?};
-ghost use Rattle.tokens.specs.Tables.{token-found, statement-found, reserved-found, pair-found, symbol-found};
+ghost use Rattle.tokens.specs.Tables.{read-words, first-word, token-found, statement-found, reserved-found, pair-found, symbol-found};
 ghost use Rattle.tokens.specs.Parts.{statement-part, operator-part, bytes-at};
 
 // A token that begins a statement.
@@ -458,11 +458,18 @@ pub fn read_as(token: u8) -> u8
     }
 }
 
-// The statement word that is the whole of a name, looked for in the table.
-fn find_statement(name: &[u8]) -> Statement
+// The statement word that is the whole of a name, looked for from the first one on that has the name's first byte and length.
+fn find_statement(first: u8, name: &[u8]) -> Statement
+    requires { ⌜ first-word statements (getD (now name) 0 0) (length (now name)) ≡ found first ⌝ }
     ensures { λ r. ⌜ r ≡ statement-found (find-word statements (now (name .entry))) ⌝ }
 {
-    match tables::find(&WORDS, 0, &tables::STATEMENT_LENGTHS, 0, name) {
+    match tables::find(
+        &WORDS,
+        tables::statement_start(first) as usize,
+        &tables::STATEMENT_LENGTHS[first as usize..],
+        first,
+        name,
+    ) {
         Found::Token(t) => Statement::Word(StatementToken(t)),
         Found::Nothing => Statement::Nothing,
     }
@@ -472,22 +479,25 @@ fn find_statement(name: &[u8]) -> Statement
 pub fn statement_word(name: &[u8]) -> Statement
     ensures { λ r. ⌜ r ≡ statement-found (find-word statements (now (name .entry))) ⌝ }
 {
-    if tables::may_state(tables::first_of(name), name.len()) {
-        find_statement(name)
-    } else {
+    let first = tables::first_statement(tables::first_of(name), name.len());
+    if first == tables::NO_WORD {
         Statement::Nothing
+    } else {
+        find_statement(first, name)
     }
 }
 
-// The word operator or function that is the whole of a name, looked for in the table.
-fn find_reserved(name: &[u8]) -> Reserved
+// The word operator or function that is the whole of a name, looked for from the first one on that has the name's first byte and length.
+fn find_reserved(first: u8, name: &[u8]) -> Reserved
+    requires { ⌜ first-word read-words (getD (now name) 0 0) (length (now name)) ≡ found first ⌝ }
     ensures { λ r. ⌜ r ≡ reserved-found (find-word operators (now (name .entry))) ⌝ }
 {
+    let i = first - tables::FIRST_OPERATOR;
     match tables::find(
         &WORDS,
-        tables::STATEMENT_BYTES,
-        &tables::OPERATOR_LENGTHS,
-        tables::FIRST_OPERATOR,
+        tables::STATEMENT_BYTES + tables::operator_start(i) as usize,
+        &tables::OPERATOR_LENGTHS[i as usize..],
+        first,
         name,
     ) {
         Found::Token(t) => {
@@ -505,10 +515,11 @@ fn find_reserved(name: &[u8]) -> Reserved
 pub fn reserved_word(name: &[u8]) -> Reserved
     ensures { λ r. ⌜ r ≡ reserved-found (find-word operators (now (name .entry))) ⌝ }
 {
-    if tables::may_reserve(tables::first_of(name), name.len()) {
-        find_reserved(name)
-    } else {
+    let first = tables::first_reserved(tables::first_of(name), name.len());
+    if first == tables::NO_WORD {
         Reserved::Nothing
+    } else {
+        find_reserved(first, name)
     }
 }
 

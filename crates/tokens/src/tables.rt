@@ -1,17 +1,24 @@
-// The tables: what each token's word is, how long and where; what a word may begin with; and the one search of words.
+// The tables: what each token's word is, how long and where; the first with a first byte and a length; and the one search of words.
 ghost use mathlib.Core.Path.{_≡_};
 ghost use mathlib.Core.Bool.{_&&_, not};
 ghost use Prim.Native.Nat.{_+_, _≤_};
 ghost use lib.Dec.{eqb};
 ghost use lib.ListN.{length, getD, take, drop};
-ghost use Rattle.paper.specs.Bytes.{same, letter?};
-ghost use Rattle.paper.specs.Words.{find-word};
-ghost use Rattle.tokens.specs.Tables.{total, statement-lengths, operator-lengths, words-of, token-found};
-ghost use Rattle.tokens.specs.Guards.{within, may-state, may-reserve};
+ghost use Rattle.paper.specs.Bytes.{same};
+ghost use Rattle.paper.specs.Words.{find-word, statements};
+ghost use Rattle.paper.specs.Tokens.{found-or};
+ghost use Rattle.tokens.specs.Tables.{total, read-words, statement-lengths, operator-lengths, words-of, first-word, token-found};
 use crate::Found;
+use crate::FunctionToken;
+use crate::OperatorToken;
+use crate::StatementToken;
+use crate::sign;
 
 // How many tokens from 0 on the table of statement words has.
 pub(crate) const STATEMENTS: u8 = 0x36;
+
+// No word's token.
+pub(crate) const NO_WORD: u8 = 0xFF;
 
 // How many bytes of the fixed words are statement words.
 pub(crate) const STATEMENT_BYTES: usize = 223;
@@ -297,46 +304,139 @@ pub(crate) fn first_of(name: &[u8]) -> u8
     if name.len() == 0 { 0 } else { name[0] }
 }
 
-// Whether a number is one from `low` to `high`.
-fn within(low: usize, high: usize, n: usize) -> bool
-    ensures { λ r. ⌜ r ≡ within low high n ⌝ }
+// The token of the first statement word that begins with a byte and has a length; `NO_WORD` if none does.
+pub(crate) fn first_statement(first: u8, size: usize) -> u8
+    ensures { λ r. ⌜ r ≡ found-or (first-word statements first size) 0xff ⌝ }
 {
-    if n < low { false } else { n <= high }
-}
-
-// Whether a byte is no letter.
-fn no_letter(b: u8) -> bool
-    ensures { λ r. ⌜ r ≡ not (letter? b) ⌝ }
-{
-    if b < b'A' { true } else { b'Z' < b }
-}
-
-// Whether a statement word may begin with a byte and have a length; no word does where it may not.
-pub(crate) fn may_state(first: u8, size: usize) -> bool
-    ensures { λ r. ⌜ r ≡ may-state first size ⌝ }
-{
-    match first {
-        b'B' | b'F' | b'X' => size == 3,
-        b'T' => size == 4,
-        b'I' | b'O' => within(2, 5, size),
-        b'C' | b'E' | b'N' => within(3, 5, size),
-        b'D' | b'L' | b'R' => within(3, 7, size),
-        b'G' | b'P' | b'S' => within(3, 8, size),
-        _ => no_letter(first),
+    match size {
+        1 => match first {
+            b'?' => StatementToken::QUESTION.0,
+            _ => NO_WORD,
+        },
+        2 => match first {
+            b'I' => StatementToken::IF.0,
+            b'O' => StatementToken::ON.0,
+            _ => NO_WORD,
+        },
+        3 => match first {
+            b'R' => StatementToken::REM.0,
+            b'L' => StatementToken::LET.0,
+            b'F' => StatementToken::FOR.0,
+            b'B' => StatementToken::BYE.0,
+            b'C' => StatementToken::COM.0,
+            b'D' => StatementToken::DEG.0,
+            b'E' => StatementToken::END.0,
+            b'N' => StatementToken::NEW.0,
+            b'X' => StatementToken::XIO.0,
+            b'P' => StatementToken::POP.0,
+            b'G' => StatementToken::GET.0,
+            _ => NO_WORD,
+        },
+        4 => match first {
+            b'D' => StatementToken::DATA.0,
+            b'L' => StatementToken::LIST.0,
+            b'N' => StatementToken::NEXT.0,
+            b'G' => StatementToken::GOTO.0,
+            b'T' => StatementToken::TRAP.0,
+            b'C' => StatementToken::CONT.0,
+            b'O' => StatementToken::OPEN.0,
+            b'S' => StatementToken::SAVE.0,
+            b'P' => StatementToken::POKE.0,
+            b'R' => StatementToken::READ.0,
+            _ => NO_WORD,
+        },
+        5 => match first {
+            b'I' => StatementToken::INPUT.0,
+            b'C' => StatementToken::COLOR.0,
+            b'E' => StatementToken::ENTER.0,
+            b'G' => StatementToken::GOSUB.0,
+            b'P' => StatementToken::POINT.0,
+            b'S' => StatementToken::SOUND.0,
+            _ => NO_WORD,
+        },
+        6 => match first {
+            b'S' => StatementToken::STATUS.0,
+            b'R' => StatementToken::RETURN.0,
+            b'D' => StatementToken::DRAWTO.0,
+            b'L' => StatementToken::LOCATE.0,
+            _ => NO_WORD,
+        },
+        7 => match first {
+            b'R' => StatementToken::RESTORE.0,
+            _ => NO_WORD,
+        },
+        8 => match first {
+            b'G' => StatementToken::GRAPHICS.0,
+            b'P' => StatementToken::POSITION.0,
+            b'S' => StatementToken::SETCOLOR.0,
+            _ => NO_WORD,
+        },
+        _ => NO_WORD,
     }
 }
 
-// Whether the word of an operator or function may begin with a byte and have a length; no word does where it may not.
-pub(crate) fn may_reserve(first: u8, size: usize) -> bool
-    ensures { λ r. ⌜ r ≡ may-reserve first size ⌝ }
+// The token of the first word of an operator or function that begins with a byte and has a length; `NO_WORD` if none does.
+pub(crate) fn first_reserved(first: u8, size: usize) -> u8
+    ensures { λ r. ⌜ r ≡ found-or (first-word read-words first size) 0xff ⌝ }
 {
-    match first {
-        b'A' | b'E' | b'I' | b'L' | b'N' | b'R' | b'U' => size == 3,
-        b'C' | b'F' | b'V' => within(3, 4, size),
-        b'G' | b'P' => within(4, 6, size),
-        b'O' | b'T' => within(2, 4, size),
-        b'S' => within(3, 5, size),
-        _ => no_letter(first),
+    match size {
+        1 => match first {
+            b',' => OperatorToken::COMMA.0,
+            b':' => OperatorToken::COLON.0,
+            b';' => OperatorToken::SEMICOLON.0,
+            b'#' => OperatorToken::NUMBER_SIGN.0,
+            b'<' => OperatorToken::LESS.0,
+            b'>' => OperatorToken::GREATER.0,
+            b'=' => OperatorToken::EQUAL.0,
+            b'^' => OperatorToken::POWER.0,
+            b'*' => OperatorToken::TIMES.0,
+            b'+' => OperatorToken::PLUS.0,
+            b'-' => OperatorToken::MINUS.0,
+            b'/' => OperatorToken::DIVIDED_BY.0,
+            b'(' => OperatorToken::OPEN.0,
+            b')' => OperatorToken::CLOSE.0,
+            _ => NO_WORD,
+        },
+        2 => match first {
+            b'T' => OperatorToken::TO.0,
+            b'<' => OperatorToken::LESS_OR_EQUAL.0,
+            b'>' => OperatorToken::GREATER_OR_EQUAL.0,
+            b'O' => OperatorToken::OR.0,
+            _ => NO_WORD,
+        },
+        3 => match first {
+            b'N' => OperatorToken::NOT.0,
+            b'A' => OperatorToken::AND.0,
+            b'U' => FunctionToken::USR.0,
+            b'V' => FunctionToken::VAL.0,
+            b'L' => FunctionToken::LEN.0,
+            b'C' => FunctionToken::COS.0,
+            b'S' => FunctionToken::SIN.0,
+            b'R' => FunctionToken::RND.0,
+            b'F' => FunctionToken::FRE.0,
+            b'E' => FunctionToken::EXP.0,
+            b'I' => FunctionToken::INT.0,
+            _ => NO_WORD,
+        },
+        4 => match first {
+            b'G' => OperatorToken::GOTO.0,
+            b'S' => OperatorToken::STEP.0,
+            b'T' => OperatorToken::THEN.0,
+            b'C' => FunctionToken::CHR.0,
+            b'P' => FunctionToken::PEEK.0,
+            _ => NO_WORD,
+        },
+        5 => match first {
+            b'G' => OperatorToken::GOSUB.0,
+            b'S' => FunctionToken::STICK.0,
+            b'P' => FunctionToken::PTRIG.0,
+            _ => NO_WORD,
+        },
+        6 => match first {
+            b'P' => FunctionToken::PADDLE.0,
+            _ => NO_WORD,
+        },
+        _ => NO_WORD,
     }
 }
 
