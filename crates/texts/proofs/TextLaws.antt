@@ -1,31 +1,32 @@
 -- Texts written one after the other, and the texts of single tokens.
-use Prim.Native.Nat.{ℕ, zero, suc, _+_, _-_, _*_, _/_, _%_, _≤_, _<_}
+use Prim.Native.Nat.{ℕ, zero, suc, min, _+_, _-_, _*_, _/_, _%_, _≤_, _<_}
 use native.Mathlib.Omega.{arith}
 use native.Mathlib.Nat.{add-zero}
 use mathlib.Core.Path.{_≡_, refl, subst, sym, ap, ap₂, _∙_}
 use mathlib.Core.Bool.{Bool, true, false, not}
 use mathlib.Core.List.{List, [], _∷_, _++_, append-nil, append-assoc}
 use lib.Dec.{T, eqb, leb, ltb, leb→le}
-use lib.ListN.{length, take, drop, getD, set, length-append, length-drop}
+use lib.ListN.{length, take, drop, getD, set, length-append, length-take, length-drop}
 use lib.Seq.{sets, take-all, drop-drop, length-take-le}
 use borrow.Author.Tests.{le-leb, lt-leb, lt-ltb, le-ltb}
-use Rattle.paper.specs.Bytes.{pick, same, every, blank}
+use Rattle.paper.specs.Bytes.{pick, bytes, same, every, blank}
 use Rattle.paper.specs.Classes.{unfit}
-use Rattle.paper.specs.Words.{Word, word, word-of, statements, operators, word-operator?}
+use Rattle.paper.specs.Words.{Word, word, word-of, statements, operators, read-operators, functions, word-operator?}
 use Rattle.paper.specs.Tokens.{Token, statement, assigned, operator, variable, constant, string, raw}
 use Rattle.paper.specs.Constants.{constant-text}
 use Rattle.paper.specs.Names.{names-in, less-open}
 use Rattle.paper.specs.Line.{line-number}
 use Rattle.paper.specs.Listing.{decimal, operator-text, token-text, body-text}
 use Rattle.paper.specs.Open.{all-Bytes, all-Words}
-use Rattle.buffers.specs.Sets.{sets-append, sets-more}
+use Rattle.buffers.specs.Sets.{sets-append, sets-out, sets-more}
 use Rattle.constants.specs.Texts.{six-here}
 use Rattle.constants.specs.Laws.{here-six}
-use Rattle.tokens.specs.Tables.{fixed-words}
+use Rattle.tokens.specs.Tables.{fixed-words, end-to-end, read-words}
 use Rattle.tokens.specs.Parts.{source-of, bytes-at, statement-part, operator-part}
 use Rattle.tokens.specs.Spellings.{statement-spelling, operator-spelling}
 use Rattle.tokens.specs.declared.Part.{Part}
-use Rattle.tokens.specs.declared.Source.the-variants.{Names}
+use Rattle.tokens.specs.declared.Source.{Source}
+use Rattle.tokens.specs.declared.Source.the-variants.{Fixed, Names}
 use Rattle.names.specs.Tables.{cleared}
 use Rattle.names.specs.Standing.{all-cleared, stands-text}
 use Rattle.names.specs.Answers.{Stands}
@@ -241,3 +242,36 @@ text-writes ns l at t k = ap (λ (z : List ℕ). token-text (statement t) ++ tak
 
 pub quoted-writes : (ns : List (List ℕ)) (l : List ℕ) (at k : ℕ) → 34 ∷ take k (drop (at + 2) l) ++ 34 ∷ [] ≡ piece-text ns (drop at l) (Piece′.Quoted k)
 quoted-writes ns l at k = ap (λ (z : List ℕ). 34 ∷ take k z ++ 34 ∷ []) (sym (drop-drop 2 at l)) ∙ quoted-piece ns (drop at l) k
+
+-- ---- a spelling's length
+
+size-at : (s : List ℕ) (from end : ℕ) → length (take (end - from) (drop from s)) ≡ min (end - from) (length s - from)
+size-at s from end = length-take (end - from) (drop from s) ∙ ap (min (end - from)) (length-drop from s)
+
+pub size-none : (s : List ℕ) (from end : ℕ) → length s ≤ from → 0 ≡ length (take (end - from) (drop from s))
+size-none s from end h = omega (arith, size-at s from end)
+
+pub size-back : (s : List ℕ) (from end : ℕ) → end ≤ from → 0 ≡ length (take (end - from) (drop from s))
+size-back s from end h = omega (arith, size-at s from end)
+
+pub size-whole : (s : List ℕ) (from end : ℕ) → end ≤ length s → end - from ≡ length (take (end - from) (drop from s))
+size-whole s from end h = omega (arith, size-at s from end)
+
+pub size-cut : (s : List ℕ) (from end : ℕ) → length s < end → length s - from ≡ length (take (end - from) (drop from s))
+size-cut s from end h = omega (arith, size-at s from end)
+
+-- a spelling for which there is no room
+pub unwritten : (x : List ℕ) {n m : ℕ} {old : List ℕ} → length old ≤ n → m ≡ length x → Writes (all-cleared x) n old m old
+unwritten x {n} {m} {old} h e = record { size = e ∙ sym (length-cleared x); bytes = sym (sets-out old n (all-cleared x) h) }
+
+words-long : length fixed-words ≡ 355
+unfolding fixed-words end-to-end read-words statements read-operators functions word bytes
+words-long = refl
+
+pub fixed-size : {r : ℕ} (names : List ℕ) (p : Part) → p .source ≡ Fixed → ((s : List ℕ) → length s ≡ 355 → r ≡ length (take (p .end - p .from) (drop (p .from) s))) → r ≡ length (bytes-at fixed-words names p)
+unfolding bytes-at source-of
+fixed-size names p e h = h fixed-words words-long ∙ ap (λ (x : Source). length (take (p .end - p .from) (drop (p .from) (source-of fixed-words names x)))) (sym e)
+
+pub names-size : {r : ℕ} (names : List ℕ) (p : Part) → p .source ≡ Names → ((s : List ℕ) → length s ≡ length names → r ≡ length (take (p .end - p .from) (drop (p .from) s))) → r ≡ length (bytes-at fixed-words names p)
+unfolding bytes-at source-of
+names-size names p e h = h names refl ∙ ap (λ (x : Source). length (take (p .end - p .from) (drop (p .from) (source-of fixed-words names x)))) (sym e)

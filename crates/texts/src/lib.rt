@@ -7,7 +7,7 @@ use tokens::StatementToken;
 use tokens::WORDS;
 ghost use mathlib.Core.Path.{_≡_};
 ghost use mathlib.Core.List.{List, [], _∷_, _++_};
-ghost use Prim.Native.Nat.{_≤_, _+_, _%_, _^_};
+ghost use Prim.Native.Nat.{ℕ, _≤_, _+_, _-_, _%_, _^_};
 ghost use lib.ListN.{length, take, drop, getD};
 ghost use lib.Seq.{sets};
 ghost use Rattle.paper.specs.Bytes.{blank};
@@ -21,6 +21,9 @@ ghost use Rattle.tokens.specs.Tables.{fixed-words};
 ghost use Rattle.tokens.specs.Parts.{bytes-at};
 ghost use Rattle.pieces.specs.Pieces.{size-of, Holds};
 ghost use Rattle.texts.specs.Texts.{Writes, piece-text, zeros};
+
+// How many bytes the fixed words have.
+const WORDS_SIZE: usize = 355;
 
 // The blank.
 const BLANK: u8 = b' ';
@@ -44,14 +47,52 @@ fn write_cleared(out: &mut [u8], n: usize, src: &[u8])
     }
 }
 
+// How many of the bytes from one place to another a slice of `size` bytes has.
+fn size_between(size: usize, from: usize, end: usize) -> usize
+    ensures { λ r. ⌜ ((s : List ℕ) → length s ≡ size → r ≡ length (take (end - from) (drop from s))) ⌝ }
+{
+    if size <= from {
+        return 0;
+    }
+    if end <= from {
+        return 0;
+    }
+    if end <= size { end - from } else { size - from }
+}
+
+// How many bytes stand at a part of the fixed words or of the name table.
+fn spelled_size(names: &[u8], part: Part) -> usize
+    ensures { λ r. ⌜ r ≡ length (bytes-at fixed-words (now (names .entry)) part) ⌝ }
+{
+    let from = part.from;
+    let end = part.end;
+    let source = part.source;
+    match source {
+        Source::Fixed => size_between(WORDS_SIZE, from, end),
+        Source::Names => size_between(names.len(), from, end),
+    }
+}
+
 // Writes the spelling at a part of the fixed words or of the name table to a place, as much as fits, and returns its length.
-fn write_spelling(names: &[u8], part: Part, out: &mut [u8], n: usize) -> usize
+fn put_spelling(names: &[u8], part: Part, out: &mut [u8], n: usize) -> usize
     requires { ⌜ n ≤ 2 ^ 63 ⌝ }
     ensures { λ r. ⌜ Writes (all-cleared (bytes-at fixed-words (now (names .entry)) part)) n (now (out .entry)) r (now (out .exit)) ⌝ }
 {
     let text = tokens::spelling(&WORDS, names, part);
     write_cleared(out, n, text);
     text.len()
+}
+
+// The same; where nothing fits, the words are not looked at.
+fn write_spelling(names: &[u8], part: Part, out: &mut [u8], n: usize) -> usize
+    requires { ⌜ n ≤ 2 ^ 63 ⌝ }
+    ensures { λ r. ⌜ Writes (all-cleared (bytes-at fixed-words (now (names .entry)) part)) n (now (out .entry)) r (now (out .exit)) ⌝ }
+{
+    if out.len() <= n {
+        spelled_size(names, part)
+    } else {
+        put_spelling(names, part, out, n)
+    }
 }
 
 // Writes a statement's word and the blank after it.

@@ -1,34 +1,24 @@
-use mathlib.Core.Path.{refl}
-use Rattle.paper.specs.Bytes.{bytes}
-use Rattle.paper.specs.Words.{statements, read-operators, functions, word}
-use Rattle.tokens.specs.Tables.{fixed-words, end-to-end, read-words}
-use Rattle.texts.proofs.TextLaws.{spelled}
+use Prim.Native.Nat.{_-_}
+use Rattle.texts.proofs.TextLaws.{unwritten}
 use borrow.Author.Needs.{needs}
 use Rattle.texts.proofs.write_spelling.Statement.{statement}
 use Rattle.texts.proofs.write_spelling.Tie as tie
 
-slice-aggregate-spelling : tie.Need-slice-aggregate-spelling
-slice-aggregate-spelling c = search needs
+spelled-size-requires : tie.Need-spelled-size-requires
+spelled-size-requires c κs = search needs
 
-spelling-requires : tie.Need-spelling-requires
-spelling-requires c κs = search needs
+put-spelling-requires : tie.Need-put-spelling-requires
+put-spelling-requires c κs = search needs
 
-write-cleared-requires : tie.Need-write-cleared-requires
-write-cleared-requires c κs = search needs
+returns : tie.Need-returns
+returns c = unwritten _ (c .before .if1 .taken) (c .spelled-size .ensures)
 
 same-length : tie.Need-same-length
 same-length c = search needs
 
-returns : tie.Need-returns
-unfolding fixed-words end-to-end read-words statements read-operators functions word bytes
-returns c = spelled (c .before .before .before .before .spelling .ensures) (c .before .before .write-cleared .ensures) refl
+returns-2 : tie.Need-returns-2
+returns-2 c = search needs
 
 pub write-spelling-spec : {M : Type 1} → statement M
 write-spelling-spec =
-    tie.close
-    (tie.spec
-    slice-aggregate-spelling
-    spelling-requires
-    write-cleared-requires
-    same-length
-    returns)
+    tie.close (tie.spec spelled-size-requires put-spelling-requires returns same-length returns-2)
