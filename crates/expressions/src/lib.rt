@@ -34,7 +34,7 @@ fn joins(class: u8) -> bool
 }
 
 // An expression: a term, and what is joined to it.
-pub fn expression(
+fn expression(
     part: &[u8],
     offset: usize,
     q: Spot,
@@ -52,7 +52,7 @@ pub fn expression(
 }
 
 // What is joined to a term: an operator and an expression, or nothing.
-pub fn more(
+fn more(
     part: &[u8],
     offset: usize,
     q: Spot,
@@ -76,7 +76,7 @@ pub fn more(
 }
 
 // An expression and the closing parenthesis.
-pub fn enclosed(
+fn enclosed(
     part: &[u8],
     offset: usize,
     q: Spot,
@@ -94,7 +94,7 @@ pub fn enclosed(
 }
 
 // One or two subscripts and the closing parenthesis.
-pub fn subscripts(
+fn subscripts(
     part: &[u8],
     offset: usize,
     q: Spot,
@@ -112,7 +112,7 @@ pub fn subscripts(
 }
 
 // After a subscript: a comma and a second one, or the closing parenthesis.
-pub fn second(
+fn second(
     part: &[u8],
     offset: usize,
     q: Spot,
@@ -140,7 +140,7 @@ pub fn second(
 }
 
 // A function's argument.
-pub fn argument(
+fn argument(
     part: &[u8],
     offset: usize,
     q: Spot,
@@ -165,7 +165,7 @@ pub fn argument(
 }
 
 // The argument of a function of a string.
-pub fn string_argument(
+fn string_argument(
     part: &[u8],
     offset: usize,
     q: Spot,
@@ -193,7 +193,7 @@ pub fn string_argument(
 }
 
 // An array's subscripts.
-pub fn element(
+fn element(
     part: &[u8],
     offset: usize,
     q: Spot,
@@ -218,7 +218,7 @@ pub fn element(
 }
 
 // A string's subscripts, or nothing.
-pub fn substring(
+fn substring(
     part: &[u8],
     offset: usize,
     q: Spot,
@@ -244,7 +244,7 @@ pub fn substring(
 }
 
 // A comparison with a string.
-pub fn comparison(
+fn comparison(
     part: &[u8],
     offset: usize,
     q: Spot,
@@ -269,7 +269,7 @@ pub fn comparison(
 }
 
 // A string compared with a string.
-pub fn compared(
+fn compared(
     part: &[u8],
     offset: usize,
     q: Spot,
@@ -287,7 +287,7 @@ pub fn compared(
 }
 
 // A string: quoted, a variable or a part of one, or what a function gives.
-pub fn string(
+fn string(
     part: &[u8],
     offset: usize,
     q: Spot,
