@@ -5,7 +5,7 @@ use native.Mathlib.Nat.{add-zero}
 use mathlib.Core.Path.{_≡_, refl, subst, sym}
 use mathlib.Core.Bool.{Bool, true, false}
 use mathlib.Core.List.{List, [], _∷_}
-use lib.Dec.{T, eqb, eqb→eq}
+use lib.Dec.{eqb, eqb→eq}
 use lib.ListN.{getD}
 use Rattle.paper.specs.Bytes.{pick}
 use Rattle.laws.specs.Tests.{as-T}

@@ -1,7 +1,7 @@
 -- The rows that are laid over one another say what the table of acts says: one test that is computed, and what it says of an entry.
 use Prim.Native.Nat.{ℕ, _+_, _*_, _/_, _%_, _≤_, _<_}
 use native.Mathlib.Omega.{arith}
-use mathlib.Core.Path.{_≡_, refl, subst, sym, ap, _∙_}
+use mathlib.Core.Path.{_≡_, refl, sym}
 use mathlib.Core.Bool.{Bool, true, false}
 use mathlib.Core.List.{List}
 use lib.Dec.{T, eqb, leb, ltb, eqb→eq, leb→le}
@@ -10,20 +10,26 @@ use borrow.Author.Tests.{ltb-true, ltb-false, lt-ltb, le-ltb, eq-eqb, ne-eqb}
 use Rattle.paper.specs.Bytes.{pick}
 use Rattle.paper.specs.Open.{all-Bytes}
 use Rattle.laws.specs.Tests.{everyAt}
-use Rattle.grammar.specs.Tables.{acts, firsts, laid, entries}
+use Rattle.grammar.specs.Tables.{acts, firsts, no-entry, laid, entries}
 use Rattle.grammar.proofs.Table.{at-each}
 
 -- what entry e says of class c, to a frame whose row begins at b
 unfoldable told : ℕ → ℕ → ℕ → ℕ
 told b c e = pick (eqb (e / 256) c) (e % 256) (pick (ltb b 40) 45 46)
 
--- each act is what the entry of its frame and class says
+-- what the entry of frame f for class c says, by where the rows begin and the entries
+abbrev said : List ℕ → List ℕ → ℕ → ℕ → ℕ
+said fs es f c = told (getD fs f 200) c (getD es (getD fs f 200 + c) no-entry)
+
+-- each act is what its entry says
 unfoldable right-rows? : List ℕ → List ℕ → List ℕ → Bool
-right-rows? fs es a = everyAt (λ i x. let b = getD fs (i / 43) 200 in let c = i % 43 in eqb x (told b c (getD es (b + c) 0x4e2e))) 0 a
+right-rows? fs es a = everyAt (λ i x. eqb x (said fs es (i / 43) (i % 43))) 0 a
 
 right-rows : T (right-rows? firsts entries acts)
 unfolding right-rows? told acts firsts laid entries everyAt all-Bytes
 right-rows = tt
+
+-- ---- from the test to the rule
 
 acts-size : length acts ≡ 1548
 unfolding acts all-Bytes
@@ -50,15 +56,15 @@ first-low f = go (ltb f 36) refl
     go false e = let o : length firsts ≤ f = omega (arith, ltb-false f 36 e, firsts-size) in omega (arith, List·getD-eq-default firsts 200 o)
 
 -- there are 36 frames: any other refuses all
-high : (f c : ℕ) → c < 43 → 36 ≤ f → getD acts (f * 43 + c) 46 ≡ told (getD firsts f 200) c (getD entries (getD firsts f 200 + c) 0x4e2e)
+high : (f c : ℕ) → c < 43 → 36 ≤ f → getD acts (f * 43 + c) 46 ≡ said firsts entries f c
 unfolding told
 high f c h l =
     let b : getD firsts f 200 ≡ 200 = List·getD-eq-default firsts 200 (omega (arith, firsts-size)) in
-    let e : getD entries (200 + c) 0x4e2e ≡ 0x4e2e = List·getD-eq-default entries 0x4e2e (omega (arith, entries-size)) in
+    let e : getD entries (200 + c) no-entry ≡ no-entry = List·getD-eq-default entries no-entry (omega (arith, entries-size)) in
     let o : length acts ≤ f * 43 + c = omega (arith, acts-size) in
     rw (List·getD-eq-default acts 46 o, b, e, ne-eqb 78 c (λ z. omega arith))
 
-low : (f c : ℕ) → c < 43 → f < 36 → getD acts (f * 43 + c) 46 ≡ told (getD firsts f 200) c (getD entries (getD firsts f 200 + c) 0x4e2e)
+low : (f c : ℕ) → c < 43 → f < 36 → getD acts (f * 43 + c) 46 ≡ said firsts entries f c
 unfolding right-rows?
 low f c h l =
     let i : ℕ = f * 43 + c in
@@ -67,11 +73,11 @@ low f c h l =
     eqb→eq (getD acts i 46) _ (rw (k, m) at (at-each _ 46 0 acts right-rows i (omega (arith, acts-size))))
 
 -- what the entry b + c says of class c, to frame f, whose row begins at b
-module _ (f c b e : ℕ) (h : c < 43) (first : b ≡ getD firsts f 200) (entry : e ≡ getD entries (b + c) 0x4e2e) where
+module _ (f c b e : ℕ) (h : c < 43) (first : b ≡ getD firsts f 200) (entry : e ≡ getD entries (b + c) no-entry) where
   by-entry : getD acts (f * 43 + c) 46 ≡ told b c e
   by-entry = rw (entry, first) (go (ltb f 36) refl)
     where
-      go : (t : Bool) → ltb f 36 ≡ t → getD acts (f * 43 + c) 46 ≡ told (getD firsts f 200) c (getD entries (getD firsts f 200 + c) 0x4e2e)
+      go : (t : Bool) → ltb f 36 ≡ t → getD acts (f * 43 + c) 46 ≡ said firsts entries f c
       go true z = low f c h (ltb-true f 36 z)
       go false z = high f c h (ltb-false f 36 z)
 

@@ -46,12 +46,16 @@ acts =
     ∷ bytes ".............0............................."
     ∷ bytes "---:J:Zd---^------E-D-----nbe--------------" ∷ [])
 
--- where the row of each frame begins among the entries; the row of a frame that leaves what it does not take begins before entry 40
+-- where the row of each frame begins among the entries: before entry 40 if the frame leaves what it does not take
 unfoldable pub firsts : List ℕ
 firsts =
     53 ∷ 40 ∷ 41 ∷ 73 ∷ 59 ∷ 93 ∷ 14 ∷ 43 ∷ 44 ∷ 56 ∷ 94 ∷ 97
     ∷ 6 ∷ 42 ∷ 90 ∷ 91 ∷ 46 ∷ 83 ∷ 64 ∷ 96 ∷ 86 ∷ 10 ∷ 64 ∷ 88
     ∷ 24 ∷ 58 ∷ 103 ∷ 104 ∷ 29 ∷ 61 ∷ 34 ∷ 0 ∷ 23 ∷ 1 ∷ 105 ∷ 18 ∷ []
+
+-- the entry where there is none: its class is no class
+abbrev pub no-entry : ℕ
+no-entry = 0x4e2e
 
 -- an entry for each of some classes, written from 48 on, and what is done with them: 256 times the class, and the act
 unfoldable pub laid : List ℕ → List ℕ → List ℕ

@@ -4,7 +4,7 @@ ghost use Prim.Native.Nat.{_+_, _-_, _*_, _≤_, _<_};
 ghost use lib.Dec.{T};
 ghost use lib.ListN.{length, getD};
 ghost use Rattle.grammar.specs.Stack.{stack, Acts, Steps};
-ghost use Rattle.grammar.specs.Tables.{acts, firsts, entries, fits?, unpacked, words};
+ghost use Rattle.grammar.specs.Tables.{acts, firsts, no-entry, entries, fits?, unpacked, words};
 
 // The act of a frame that leaves an item to the frame below.
 const LEAVES: u8 = b'-';
@@ -69,7 +69,7 @@ fn first_of(frame: u8) -> u8
 // The entry at a place: a class, and what the frame whose row this is does with its items. The rows of the frames lie over one another, so that an
 // entry of one stands where others have none. It is a `match`, since a table that is borrowed is laid down anew in each call.
 fn entry_at(place: u8) -> u16
-    ensures { λ r. ⌜ r ≡ getD entries place 0x4e2e ⌝ }
+    ensures { λ r. ⌜ r ≡ getD entries place no-entry ⌝ }
 {
     match place {
         3 => 0x03_47, // print list: number
@@ -282,19 +282,24 @@ fn word_of(act: u8) -> u64
     }
 }
 
-// Puts the frames of a word on the stack of the first frames of a buffer, and returns the new depth.
+// Puts the frames of a word on the stack of the first frames of a buffer, and returns the new depth. Of a word with no frames one byte is written too,
+// above the stack: the loop is tested at its end, since the compiler makes of a test before it a jump for each act in place of the table of words.
 fn put_frames(frames: &mut [u8], at: usize, word: u64) -> usize
     requires { ⌜ (at + 9 ≤ length (now frames)) × T (fits? 9 word) ⌝ }
     ensures { λ r. ⌜ (stack (now (frames .exit)) r ≡ unpacked 9 word (stack (now (frames .entry)) at)) × (r ≤ at + 9) ⌝ }
 {
     let mut depth = at;
     let mut rest = word;
-    while 1 < rest {
+    loop {
         frames[depth] = (rest % 64) as u8;
-        depth += 1;
+        if 1 < rest {
+            depth += 1;
+        }
         rest /= 64;
+        if rest < 2 {
+            return depth;
+        }
     }
-    depth
 }
 
 // What a frame does with an item: takes it, with what it gives and the new depth of the stack; leaves it; refuses it.

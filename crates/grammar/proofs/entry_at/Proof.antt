@@ -2,13 +2,13 @@ use Prim.Native.Nat.{ℕ}
 use mathlib.Core.Path.{_≡_, sym, ap}
 use lib.ListN.{getD}
 use Rattle.paper.specs.Open.{all-Bytes}
-use Rattle.grammar.specs.Tables.{laid, entries}
+use Rattle.grammar.specs.Tables.{no-entry, laid, entries}
 use Rattle.grammar.proofs.Places.{places, at-none}
 use Rattle.grammar.proofs.entry_at.Statement.{statement}
 use Rattle.grammar.proofs.entry_at.Tie as tie
 
-here : {x k : ℕ} → x ≡ k → getD entries k 0x4e2e ≡ getD entries x 0x4e2e
-here e = sym (ap (λ n. getD entries n 0x4e2e) e)
+here : {x k : ℕ} → x ≡ k → getD entries k no-entry ≡ getD entries x no-entry
+here e = sym (ap (λ n. getD entries n no-entry) e)
 
 pub entry-at-spec : {M : Type 1} → statement M
 unfolding laid entries places all-Bytes
@@ -128,4 +128,4 @@ entry-at-spec =
     (λ c. here (c .match .keys111))
     (λ c. here (c .match .keys112))
     (λ c. here (c .match .keys113))
-    (λ c. at-none 0x4e2e entries (c .before .args .place) (c .match .rest)))
+    (λ c. at-none no-entry entries (c .before .args .place) (c .match .rest)))
