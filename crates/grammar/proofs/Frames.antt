@@ -62,38 +62,38 @@ stack-put l d x h =
 
 pub record Held (old : List ℕ) (at word : ℕ) (new : List ℕ) (d rest : ℕ) : Type 0 where
   pub size : length new ≡ length old
-  pub low : at ≤ d
-  pub few : d ≤ at + 9
+  pub room : d < at + 9
   pub fits : T (fits? (at + 9 - d) rest)
   pub stacked : unpacked (at + 9 - d) rest (stack new d) ≡ unpacked 9 word (stack old at)
 
 pub held-first : (old : List ℕ) (at word : ℕ) → T (fits? 9 word) → Held old at word old at word
 held-first old at word t =
     let e : at + 9 - at ≡ 9 = omega arith in
-    record { size = refl; low = omega arith; few = omega arith; fits = rw e t; stacked = rw e refl }
+    record { size = refl; room = omega arith; fits = rw e t; stacked = rw e refl }
 
-module _ {old : List ℕ} {at word : ℕ} {new : List ℕ} {d rest : ℕ} (h : Held old at word new d rest) where
-  more : 1 < rest → More (at + 9 - d) rest
-  more l = one-more (at + 9 - d) rest l (h .fits)
+module _ {old : List ℕ} {at word : ℕ} {new : List ℕ} {d rest : ℕ} (h : Held old at word new d rest) (r : at + 9 ≤ length old) where
+  -- after a frame is written
+  put-one : 1 < rest → unpacked (at + 9 - d - 1) (rest / 64) (stack (set new d (rest % 64)) (d + 1)) ≡ unpacked 9 word (stack old at)
+  put-one l =
+      ap (unpacked (at + 9 - d - 1) (rest / 64)) (stack-put new d (rest % 64) (omega (arith, h .size, h .room)))
+      ∙ sym (one-more (at + 9 - d) rest l (h .fits) .next (stack new d))
+      ∙ h .stacked
 
-  pub held-room : at + 9 ≤ length old → 1 < rest → d < length new
-  held-room r l = omega (arith, more l .some, h .size)
-
-  pub held-next : at + 9 ≤ length old → 1 < rest → Held old at word (set new d (rest % 64)) (d + 1) (rest / 64)
-  held-next r l =
+  pub held-next : 2 ≤ rest / 64 → Held old at word (set new d (rest % 64)) (d + 1) (rest / 64)
+  held-next l =
       let e : at + 9 - (d + 1) ≡ at + 9 - d - 1 = omega arith in
-      let m = more l in
+      let m = one-more (at + 9 - d) rest (omega arith) (h .fits) in
       record {
         size = length-set new d (rest % 64) ∙ h .size;
-        low = omega (arith, h .low);
-        few = omega (arith, m .some);
+        room = omega (arith, one-more (at + 9 - d - 1) (rest / 64) (omega arith) (m .fits) .some);
         fits = rw e (m .fits);
-        stacked =
-            ap (λ (k : ℕ). unpacked k (rest / 64) (stack (set new d (rest % 64)) (d + 1))) e
-            ∙ ap (unpacked (at + 9 - d - 1) (rest / 64)) (stack-put new d (rest % 64) (held-room r l))
-            ∙ sym (m .next (stack new d))
-            ∙ h .stacked;
+        stacked = rw e (put-one (omega arith));
       }
 
-  pub held-last : rest ≤ 1 → stack new d ≡ unpacked 9 word (stack old at)
-  held-last l = sym (unpacked-end (at + 9 - d) rest (stack new d) l) ∙ h .stacked
+  -- the last frame
+  pub held-last : 1 < rest → rest / 64 < 2 → stack (set new d (rest % 64)) (d + 1) ≡ unpacked 9 word (stack old at)
+  held-last l z = sym (unpacked-end (at + 9 - d - 1) (rest / 64) (stack (set new d (rest % 64)) (d + 1)) (omega arith)) ∙ put-one l
+
+  -- no frame
+  pub held-none : rest ≤ 1 → stack (set new d (rest % 64)) d ≡ unpacked 9 word (stack old at)
+  held-none l = stack-below new d (rest % 64) d (omega arith) ∙ sym (unpacked-end (at + 9 - d) rest (stack new d) l) ∙ h .stacked

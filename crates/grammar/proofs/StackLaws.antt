@@ -1,14 +1,12 @@
 -- What one act, and a stack, does with an item.
-use Prim.Native.Nat.{ℕ, zero, suc, _+_, _-_, _≤_, _<_}
+use Prim.Native.Nat.{ℕ, suc, _+_, _-_, _≤_, _<_}
 use native.Mathlib.Omega.{arith}
-use mathlib.Core.Path.{_≡_, refl, subst, sym, ap, _∙_}
-use mathlib.Core.List.{List, [], _∷_, _++_}
+use mathlib.Core.Path.{_≡_, subst, sym, ap, _∙_}
+use mathlib.Core.List.{List}
 use lib.ListN.{getD}
-use Rattle.paper.specs.Machine.{take, leave, refuse, took, over, refused, step-act, step}
-use Rattle.paper.specs.Grammar.{Gives, look}
-use Rattle.grammar.specs.declared.Act.{Act}
+use Rattle.paper.specs.Machine.{leave, refuse, took, over, refused, step-act, step}
+use Rattle.paper.specs.Grammar.{look}
 use Rattle.grammar.specs.declared.Act.the-variants as Act′
-use Rattle.grammar.specs.declared.Step.{Step}
 use Rattle.grammar.specs.declared.Step.the-variants as Step′
 use Rattle.grammar.specs.Stack.{stack, gives-of, Takes-at, Acts, Steps}
 

@@ -64,14 +64,14 @@ unfolding find-row every
 rows-miss [] f c h t = refl
 rows-miss (r ∷ rs) f c h t = row-miss r f c (find-row rs may-be-empty f c) h (and-left (low-row? r) _ t) ∙ rows-miss rs f c h (and-right (low-row? r) _ t)
 
-pub not-among : (f : ℕ) (fs : List ℕ) → 36 ≤ f → T (every (λ x. ltb x 36) fs) → among f fs ≡ false
+not-among : (f : ℕ) (fs : List ℕ) → 36 ≤ f → T (every (λ x. ltb x 36) fs) → among f fs ≡ false
 unfolding among every
 not-among f [] h t = refl
 not-among f (x ∷ fs) h t =
     let l : x < 36 = ltb→lt x 36 (and-left (ltb x 36) _ t) in
     rw (ne-eqb f x (λ e. omega arith)) (not-among f fs h (and-right (ltb x 36) _ t))
 
-pub low-empty : T (every (λ x. ltb x 36) may-be-empty)
+low-empty : T (every (λ x. ltb x 36) may-be-empty)
 unfolding all-Bytes all-Grammar
 low-empty = tt
 

@@ -1,5 +1,5 @@
 -- The bytes that say what frames do with items, and the words of the acts.
-use Prim.Native.Nat.{ℕ, zero, suc, _+_, _*_, _/_, _%_}
+use Prim.Native.Nat.{ℕ, zero, suc, _+_, _-_, _*_, _/_, _%_}
 use mathlib.Core.Bool.{Bool, _||_}
 use mathlib.Core.List.{List, [], _∷_}
 use lib.Dec.{leb}
@@ -45,6 +45,30 @@ acts =
     ∷ bytes "-------------B-B---------------------------"
     ∷ bytes ".............0............................."
     ∷ bytes "---:J:Zd---^------E-D-----nbe--------------" ∷ [])
+
+-- where the row of each frame begins among the entries: before entry 40 if the frame leaves what it does not take
+unfoldable pub firsts : List ℕ
+firsts =
+    53 ∷ 40 ∷ 41 ∷ 73 ∷ 59 ∷ 93 ∷ 14 ∷ 43 ∷ 44 ∷ 56 ∷ 94 ∷ 97
+    ∷ 6 ∷ 42 ∷ 90 ∷ 91 ∷ 46 ∷ 83 ∷ 64 ∷ 96 ∷ 86 ∷ 10 ∷ 64 ∷ 88
+    ∷ 24 ∷ 58 ∷ 103 ∷ 104 ∷ 29 ∷ 61 ∷ 34 ∷ 0 ∷ 23 ∷ 1 ∷ 105 ∷ 18 ∷ []
+
+-- the entry where there is none: its class is no class
+abbrev pub no-entry : ℕ
+no-entry = 0x4e2e
+
+-- an entry for each of some classes, written from 48 on, and what is done with them: 256 times the class, and the act
+unfoldable pub laid : List ℕ → List ℕ → List ℕ
+laid [] xs = []
+laid (c ∷ cs) [] = []
+laid (c ∷ cs) (x ∷ xs) = ((c - 48) * 256 + x) ∷ laid cs xs
+
+-- the rows of all frames, laid over one another
+unfoldable pub entries : List ℕ
+entries =
+    laid
+    (bytes "~~~34567~~~;~==??;B~D34567JKL;@ABCHEB=D@A0=3JKL=89:567;><=@A189:6756<5NOPQRSTUVWXYZNOPQRSTUVWXYZ345674M6;;@@IGFB@D;;~~=JKL~J")
+    (bytes "...GPG]k...c.BBBBSX.W:J:Zdogm^DDDDDDEVDHH0?7nbe@K[lK[l260U;;0K[lihAA00CN>_qLR7MpjOQCN>_qLR7MpjOQ0=0I`00<T4F\\00091835..0fYa.a")
 
 -- frames as one number, the first one lowest, after them a 1
 unfoldable pub packed : List ℕ → ℕ

@@ -3,10 +3,8 @@ ghost use mathlib.Core.Path.{_≡_};
 ghost use Prim.Native.Nat.{_+_, _-_, _*_, _≤_, _<_};
 ghost use lib.Dec.{T};
 ghost use lib.ListN.{length, getD};
-ghost use Rattle.paper.specs.Bytes.{pick, among};
-ghost use Rattle.paper.specs.Grammar.{may-be-empty};
 ghost use Rattle.grammar.specs.Stack.{stack, Acts, Steps};
-ghost use Rattle.grammar.specs.Tables.{acts, fits?, unpacked, words};
+ghost use Rattle.grammar.specs.Tables.{acts, firsts, no-entry, entries, fits?, unpacked, words};
 
 // The act of a frame that leaves an item to the frame below.
 const LEAVES: u8 = b'-';
@@ -17,148 +15,194 @@ const REFUSES: u8 = b'.';
 // The first act that takes an item; one before it that does not leave it refuses it.
 const FIRST_ACT: u8 = b'0';
 
-// What a frame does with the items that it does not take.
-fn otherwise(frame: u8) -> u8
-    ensures { λ r. ⌜ r ≡ pick (among frame may-be-empty) 45 46 ⌝ }
+// The rows of the frames that leave what they do not take begin before this entry, those of the others here or later.
+const REFUSING: u8 = 40;
+
+// The entry where there is none: its class is no class.
+const NO_ENTRY: u16 = 0x4e_2e;
+
+// Where the row of a frame begins among the entries. The entry for a class is as many places further.
+fn first_of(frame: u8) -> u8
+    ensures { λ r. ⌜ r ≡ getD firsts frame 200 ⌝ }
 {
     match frame {
-        6 => LEAVES,
-        12 => LEAVES,
-        21 => LEAVES,
-        24 => LEAVES,
-        28 => LEAVES,
-        30 => LEAVES,
-        31 => LEAVES,
-        32 => LEAVES,
-        33 => LEAVES,
-        35 => LEAVES,
-        _ => REFUSES,
+        0 => 53, // statement
+        1 => 40, // after then
+        2 => 41, // end
+        3 => 73, // raw text
+        4 => 59, // raw end
+        5 => 93, // operand
+        6 => 14, // more terms
+        7 => 43, // array open
+        8 => 44, // second
+        9 => 56, // close
+        10 => 94, // function open
+        11 => 97, // string
+        12 => 6, // substring
+        13 => 42, // string comparison
+        14 => 90, // number assigned
+        15 => 91, // string assigned
+        16 => 46, // let target
+        17 => 83, // then
+        18 => 64, // for variable
+        19 => 96, // for equals
+        20 => 86, // to
+        21 => 10, // step
+        22 => 64, // next variable
+        23 => 88, // goto gosub
+        24 => 24, // more lines
+        25 => 58, // dim
+        26 => 103, // dim array open
+        27 => 104, // dim string open
+        28 => 29, // more dims
+        29 => 61, // plain variable
+        30 => 34, // more variables
+        31 => 0, // print list
+        32 => 23, // print comparison
+        33 => 1, // print separator
+        34 => 105, // poke comma
+        35 => 18, // restore number
+        _ => 200,
     }
 }
 
-// What a frame does with items of a class, by the two numbers one after the other: 1316 is frame 13 and class 16. It is a
-// `match`, since a table that is borrowed is laid down anew in each call.
+// The entry at a place: a class, and what the frame whose row this is does with its items. The rows of the frames lie over one another, so that an
+// entry of one stands where others have none. It is a `match`, since a table that is borrowed is laid down anew in each call.
+fn entry_at(place: u8) -> u16
+    ensures { λ r. ⌜ r ≡ getD entries place no-entry ⌝ }
+{
+    match place {
+        3 => 0x03_47, // print list: number
+        4 => 0x04_50, // print list: quoted
+        5 => 0x05_47, // print list: numeric variable
+        6 => 0x06_5d, // print list: string variable
+        7 => 0x07_6b, // print list: array
+        11 => 0x0b_63, // print list: open sign
+        13 => 0x0d_42, // print list: comma
+        14 => 0x0d_42, // print separator: comma
+        15 => 0x0f_42, // print list: semicolon
+        16 => 0x0f_42, // print separator: semicolon
+        17 => 0x0b_53, // substring: open sign
+        18 => 0x12_58, // print list: plus minus
+        20 => 0x14_57, // print list: not word
+        21 => 0x03_3a, // restore number: number
+        22 => 0x04_4a, // restore number: quoted
+        23 => 0x05_3a, // restore number: numeric variable
+        24 => 0x06_5a, // restore number: string variable
+        25 => 0x07_64, // restore number: array
+        26 => 0x1a_6f, // print list: string function
+        27 => 0x1b_67, // print list: function of string
+        28 => 0x1c_6d, // print list: function of number
+        29 => 0x0b_5e, // restore number: open sign
+        30 => 0x10_44, // more terms: equals
+        31 => 0x11_44, // more terms: comparison
+        32 => 0x12_44, // more terms: plus minus
+        33 => 0x13_44, // more terms: factor sign
+        34 => 0x18_44, // step: step word
+        35 => 0x15_44, // more terms: or and
+        36 => 0x12_45, // restore number: plus minus
+        37 => 0x0d_56, // more lines: comma
+        38 => 0x14_44, // restore number: not word
+        39 => 0x10_48, // print comparison: equals
+        40 => 0x11_48, // print comparison: comparison
+        41 => 0x00_30, // end: line end
+        42 => 0x0d_3f, // more dims: comma
+        43 => 0x03_37, // after then: number
+        44 => 0x1a_6e, // restore number: string function
+        45 => 0x1b_62, // restore number: function of string
+        46 => 0x1c_65, // restore number: function of number
+        47 => 0x0d_40, // more variables: comma
+        48 => 0x08_4b, // after then: first numeric
+        49 => 0x09_5b, // after then: first string
+        50 => 0x0a_6c, // after then: first array
+        51 => 0x05_4b, // let target: numeric variable
+        52 => 0x06_5b, // let target: string variable
+        53 => 0x07_6c, // let target: array
+        54 => 0x0b_32, // array open: open sign
+        55 => 0x0e_36, // end: colon
+        56 => 0x0c_30, // second: close sign
+        57 => 0x0d_55, // second: comma
+        58 => 0x10_3b, // string comparison: equals
+        59 => 0x11_3b, // string comparison: comparison
+        60 => 0x01_30, // raw end: raw end
+        61 => 0x08_4b, // statement: first numeric
+        62 => 0x09_5b, // statement: first string
+        63 => 0x0a_6c, // statement: first array
+        64 => 0x06_69, // dim: string variable
+        65 => 0x07_68, // dim: array
+        66 => 0x05_41, // plain variable: numeric variable
+        67 => 0x06_41, // plain variable: string variable
+        68 => 0x0c_30, // close: close sign
+        69 => 0x05_30, // for variable: numeric variable
+        70 => 0x1e_43, // after then: remark
+        71 => 0x1f_4e, // after then: read input
+        72 => 0x20_3e, // after then: let word
+        73 => 0x21_5f, // after then: if word
+        74 => 0x22_71, // after then: for word
+        75 => 0x23_4c, // after then: next word
+        76 => 0x24_52, // after then: jump
+        77 => 0x25_37, // after then: alone
+        78 => 0x26_4d, // after then: dim word
+        79 => 0x27_70, // after then: on word
+        80 => 0x28_6a, // after then: poke word
+        81 => 0x29_4f, // after then: print word
+        82 => 0x2a_51, // after then: restore word
+        83 => 0x1e_43, // statement: remark
+        84 => 0x1f_4e, // statement: read input
+        85 => 0x20_3e, // statement: let word
+        86 => 0x21_5f, // statement: if word
+        87 => 0x22_71, // statement: for word
+        88 => 0x23_4c, // statement: next word
+        89 => 0x24_52, // statement: jump
+        90 => 0x25_37, // statement: alone
+        91 => 0x26_4d, // statement: dim word
+        92 => 0x27_70, // statement: on word
+        93 => 0x28_6a, // statement: poke word
+        94 => 0x29_4f, // statement: print word
+        95 => 0x2a_51, // statement: restore word
+        96 => 0x03_30, // operand: number
+        97 => 0x04_3d, // operand: quoted
+        98 => 0x05_30, // operand: numeric variable
+        99 => 0x06_49, // operand: string variable
+        100 => 0x07_60, // operand: array
+        101 => 0x04_30, // string: quoted
+        102 => 0x1d_30, // raw text: raw text
+        103 => 0x06_3c, // string: string variable
+        104 => 0x0b_54, // operand: open sign
+        105 => 0x0b_34, // function open: open sign
+        106 => 0x10_46, // number assigned: equals
+        107 => 0x10_5c, // string assigned: equals
+        108 => 0x19_30, // then: then word
+        109 => 0x17_30, // to: to word
+        110 => 0x16_30, // goto gosub: goto gosub
+        111 => 0x12_39, // operand: plus minus
+        112 => 0x10_31, // for equals: equals
+        113 => 0x14_38, // operand: not word
+        114 => 0x0b_33, // dim array open: open sign
+        115 => 0x0b_35, // dim string open: open sign
+        118 => 0x0d_30, // poke comma: comma
+        119 => 0x1a_66, // operand: string function
+        120 => 0x1b_59, // operand: function of string
+        121 => 0x1c_61, // operand: function of number
+        123 => 0x1a_61, // string: string function
+        _ => NO_ENTRY,
+    }
+}
+
+// What a frame does with items of a class. An entry for another class is another frame's.
 fn act_of(frame: u8, class: u8) -> u8
     requires { ⌜ class < 43 ⌝ }
     ensures { λ r. ⌜ r ≡ getD acts (frame * 43 + class) 46 ⌝ }
 {
-    match frame as usize * 100 + class as usize {
-        8 => b'K',
-        9 => b'[',
-        10 => b'l',
-        30 => b'C',
-        31 => b'N',
-        32 => b'>',
-        33 => b'_',
-        34 => b'q',
-        35 => b'L',
-        36 => b'R',
-        37 => b'7',
-        38 => b'M',
-        39 => b'p',
-        40 => b'j',
-        41 => b'O',
-        42 => b'Q',
-        103 => b'7',
-        108 => b'K',
-        109 => b'[',
-        110 => b'l',
-        130 => b'C',
-        131 => b'N',
-        132 => b'>',
-        133 => b'_',
-        134 => b'q',
-        135 => b'L',
-        136 => b'R',
-        137 => b'7',
-        138 => b'M',
-        139 => b'p',
-        140 => b'j',
-        141 => b'O',
-        142 => b'Q',
-        200 => b'0',
-        214 => b'6',
-        329 => b'0',
-        401 => b'0',
-        503 => b'0',
-        504 => b'=',
-        505 => b'0',
-        506 => b'I',
-        507 => b'`',
-        511 => b'T',
-        518 => b'9',
-        520 => b'8',
-        526 => b'f',
-        527 => b'Y',
-        528 => b'a',
-        616 => b'D',
-        617 => b'D',
-        618 => b'D',
-        619 => b'D',
-        621 => b'D',
-        711 => b'2',
-        812 => b'0',
-        813 => b'U',
-        912 => b'0',
-        1011 => b'4',
-        1104 => b'0',
-        1106 => b'<',
-        1126 => b'a',
-        1211 => b'S',
-        1316 => b';',
-        1317 => b';',
-        1416 => b'F',
-        1516 => b'\\',
-        1605 => b'K',
-        1606 => b'[',
-        1607 => b'l',
-        1725 => b'0',
-        1805 => b'0',
-        1916 => b'1',
-        2023 => b'0',
-        2124 => b'D',
-        2205 => b'0',
-        2322 => b'0',
-        2413 => b'V',
-        2506 => b'i',
-        2507 => b'h',
-        2611 => b'3',
-        2711 => b'5',
-        2813 => b'?',
-        2905 => b'A',
-        2906 => b'A',
-        3013 => b'@',
-        3103 => b'G',
-        3104 => b'P',
-        3105 => b'G',
-        3106 => b']',
-        3107 => b'k',
-        3111 => b'c',
-        3113 => b'B',
-        3115 => b'B',
-        3118 => b'X',
-        3120 => b'W',
-        3126 => b'o',
-        3127 => b'g',
-        3128 => b'm',
-        3216 => b'H',
-        3217 => b'H',
-        3313 => b'B',
-        3315 => b'B',
-        3413 => b'0',
-        3503 => b':',
-        3504 => b'J',
-        3505 => b':',
-        3506 => b'Z',
-        3507 => b'd',
-        3511 => b'^',
-        3518 => b'E',
-        3520 => b'D',
-        3526 => b'n',
-        3527 => b'b',
-        3528 => b'e',
-        _ => otherwise(frame),
+    let first = first_of(frame);
+    let entry = entry_at(first + class);
+    if entry / 256 == class as u16 {
+        return (entry % 256) as u8;
     }
+    if first < REFUSING {
+        return LEAVES;
+    }
+    REFUSES
 }
 
 // The word of an act: a 1, then two octal digits for each frame that it wants, from the top of the stack down, then two for what it gives: 0 for the
@@ -238,19 +282,24 @@ fn word_of(act: u8) -> u64
     }
 }
 
-// Puts the frames of a word on the stack of the first frames of a buffer, and returns the new depth.
+// Puts the frames of a word on the stack of the first frames of a buffer, and returns the new depth. Of a word with no frames one byte is written too,
+// above the stack: the loop is tested at its end, since the compiler makes of a test before it a jump for each act in place of the table of words.
 fn put_frames(frames: &mut [u8], at: usize, word: u64) -> usize
     requires { ⌜ (at + 9 ≤ length (now frames)) × T (fits? 9 word) ⌝ }
     ensures { λ r. ⌜ (stack (now (frames .exit)) r ≡ unpacked 9 word (stack (now (frames .entry)) at)) × (r ≤ at + 9) ⌝ }
 {
     let mut depth = at;
     let mut rest = word;
-    while 1 < rest {
+    loop {
         frames[depth] = (rest % 64) as u8;
-        depth += 1;
+        if 1 < rest {
+            depth += 1;
+        }
         rest /= 64;
+        if rest < 2 {
+            return depth;
+        }
     }
-    depth
 }
 
 // What a frame does with an item: takes it, with what it gives and the new depth of the stack; leaves it; refuses it.

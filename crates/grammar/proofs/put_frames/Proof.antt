@@ -1,5 +1,6 @@
 use native.Mathlib.Omega.{arith}
-use Rattle.grammar.proofs.Frames.{Held, held-first, held-room, held-next, held-last}
+use mathlib.Core.Logic.{⊎-elim}
+use Rattle.grammar.proofs.Frames.{Held, held-first, held-next, held-last, held-none}
 use borrow.Author.Needs.{needs}
 use Rattle.grammar.proofs.put_frames.Statement.{statement}
 use Rattle.grammar.proofs.put_frames.Tie as tie
@@ -17,22 +18,30 @@ cast-frames : tie.Need-cast-frames Inv-loop μ-loop
 cast-frames c = omega arith
 
 slice-write-frames : tie.Need-slice-write-frames Inv-loop μ-loop
-slice-write-frames c = held-room (c .before .loop .inv) (c .before .before .pre .0) (c .loop-test .taken)
+slice-write-frames c = omega arith
 
 add-depth : tie.Need-add-depth Inv-loop μ-loop
 add-depth c = search needs
+
+same-length : tie.Need-same-length Inv-loop μ-loop
+same-length c = search needs
+
+returns : tie.Need-returns Inv-loop μ-loop
+returns c =
+    ⊎-elim
+    (λ w. rw (w .1) (held-last (c .before .before .loop .inv) (c .before .before .before .pre .0) (w .0 .taken) (c .if2 .taken), omega arith))
+    (λ w. rw (w .1) (held-none (c .before .before .loop .inv) (c .before .before .before .pre .0) (w .0 .left), omega arith))
+    (c .before .if1 .came)
 
 loop-less : tie.Need-loop-less Inv-loop μ-loop
 loop-less c = omega arith
 
 loop-again : tie.Need-loop-again Inv-loop μ-loop
-loop-again c = held-next (c .before .loop .inv) (c .before .before .pre .0) (c .loop-test .taken)
-
-same-length : tie.Need-same-length Inv-loop μ-loop
-same-length c = c .before .loop .inv .size
-
-returns : tie.Need-returns Inv-loop μ-loop
-returns c = (held-last (c .before .loop .inv) (c .loop-test .left), c .before .loop .inv .few)
+loop-again c =
+    ⊎-elim
+    (λ w. rw (w .1) (held-next (c .before .before .loop .inv) (c .before .before .before .pre .0) (c .if2 .left)))
+    (λ w. absurd (omega (arith, w .0 .left)))
+    (c .before .if1 .came)
 
 pub put-frames-spec : {M : Type 1} → statement M
-put-frames-spec = tie.close (tie.spec Inv-loop μ-loop loop-holds cast-frames slice-write-frames add-depth loop-less loop-again same-length returns)
+put-frames-spec = tie.close (tie.spec Inv-loop μ-loop loop-holds cast-frames slice-write-frames add-depth same-length returns loop-less loop-again)

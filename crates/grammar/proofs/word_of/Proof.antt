@@ -1,347 +1,83 @@
-use Prim.Native.Nat.{_-_}
-use mathlib.Core.Path.{sym, ap}
+use Prim.Native.Nat.{ℕ, _-_}
+use mathlib.Core.Path.{_≡_, sym, ap}
 use lib.ListN.{getD}
 use Rattle.grammar.specs.Tables.{packed, word, words}
-use Rattle.grammar.proofs.Places.{from-48, no-word}
+use Rattle.grammar.proofs.Places.{places, at-none-from}
 use Rattle.grammar.proofs.word_of.Statement.{statement}
 use Rattle.grammar.proofs.word_of.Tie as tie
 
-returns : tie.Need-returns
-unfolding packed word words
-returns c = sym (ap (λ n. getD words (n - 48) 0) (c .match .keys1))
-
-returns-2 : tie.Need-returns-2
-unfolding packed word words
-returns-2 c = sym (ap (λ n. getD words (n - 48) 0) (c .match .keys2))
-
-returns-3 : tie.Need-returns-3
-unfolding packed word words
-returns-3 c = sym (ap (λ n. getD words (n - 48) 0) (c .match .keys3))
-
-returns-4 : tie.Need-returns-4
-unfolding packed word words
-returns-4 c = sym (ap (λ n. getD words (n - 48) 0) (c .match .keys4))
-
-returns-5 : tie.Need-returns-5
-unfolding packed word words
-returns-5 c = sym (ap (λ n. getD words (n - 48) 0) (c .match .keys5))
-
-returns-6 : tie.Need-returns-6
-unfolding packed word words
-returns-6 c = sym (ap (λ n. getD words (n - 48) 0) (c .match .keys6))
-
-returns-7 : tie.Need-returns-7
-unfolding packed word words
-returns-7 c = sym (ap (λ n. getD words (n - 48) 0) (c .match .keys7))
-
-returns-8 : tie.Need-returns-8
-unfolding packed word words
-returns-8 c = sym (ap (λ n. getD words (n - 48) 0) (c .match .keys8))
-
-returns-9 : tie.Need-returns-9
-unfolding packed word words
-returns-9 c = sym (ap (λ n. getD words (n - 48) 0) (c .match .keys9))
-
-returns-10 : tie.Need-returns-10
-unfolding packed word words
-returns-10 c = sym (ap (λ n. getD words (n - 48) 0) (c .match .keys10))
-
-returns-11 : tie.Need-returns-11
-unfolding packed word words
-returns-11 c = sym (ap (λ n. getD words (n - 48) 0) (c .match .keys11))
-
-returns-12 : tie.Need-returns-12
-unfolding packed word words
-returns-12 c = sym (ap (λ n. getD words (n - 48) 0) (c .match .keys12))
-
-returns-13 : tie.Need-returns-13
-unfolding packed word words
-returns-13 c = sym (ap (λ n. getD words (n - 48) 0) (c .match .keys13))
-
-returns-14 : tie.Need-returns-14
-unfolding packed word words
-returns-14 c = sym (ap (λ n. getD words (n - 48) 0) (c .match .keys14))
-
-returns-15 : tie.Need-returns-15
-unfolding packed word words
-returns-15 c = sym (ap (λ n. getD words (n - 48) 0) (c .match .keys15))
-
-returns-16 : tie.Need-returns-16
-unfolding packed word words
-returns-16 c = sym (ap (λ n. getD words (n - 48) 0) (c .match .keys16))
-
-returns-17 : tie.Need-returns-17
-unfolding packed word words
-returns-17 c = sym (ap (λ n. getD words (n - 48) 0) (c .match .keys17))
-
-returns-18 : tie.Need-returns-18
-unfolding packed word words
-returns-18 c = sym (ap (λ n. getD words (n - 48) 0) (c .match .keys18))
-
-returns-19 : tie.Need-returns-19
-unfolding packed word words
-returns-19 c = sym (ap (λ n. getD words (n - 48) 0) (c .match .keys19))
-
-returns-20 : tie.Need-returns-20
-unfolding packed word words
-returns-20 c = sym (ap (λ n. getD words (n - 48) 0) (c .match .keys20))
-
-returns-21 : tie.Need-returns-21
-unfolding packed word words
-returns-21 c = sym (ap (λ n. getD words (n - 48) 0) (c .match .keys21))
-
-returns-22 : tie.Need-returns-22
-unfolding packed word words
-returns-22 c = sym (ap (λ n. getD words (n - 48) 0) (c .match .keys22))
-
-returns-23 : tie.Need-returns-23
-unfolding packed word words
-returns-23 c = sym (ap (λ n. getD words (n - 48) 0) (c .match .keys23))
-
-returns-24 : tie.Need-returns-24
-unfolding packed word words
-returns-24 c = sym (ap (λ n. getD words (n - 48) 0) (c .match .keys24))
-
-returns-25 : tie.Need-returns-25
-unfolding packed word words
-returns-25 c = sym (ap (λ n. getD words (n - 48) 0) (c .match .keys25))
-
-returns-26 : tie.Need-returns-26
-unfolding packed word words
-returns-26 c = sym (ap (λ n. getD words (n - 48) 0) (c .match .keys26))
-
-returns-27 : tie.Need-returns-27
-unfolding packed word words
-returns-27 c = sym (ap (λ n. getD words (n - 48) 0) (c .match .keys27))
-
-returns-28 : tie.Need-returns-28
-unfolding packed word words
-returns-28 c = sym (ap (λ n. getD words (n - 48) 0) (c .match .keys28))
-
-returns-29 : tie.Need-returns-29
-unfolding packed word words
-returns-29 c = sym (ap (λ n. getD words (n - 48) 0) (c .match .keys29))
-
-returns-30 : tie.Need-returns-30
-unfolding packed word words
-returns-30 c = sym (ap (λ n. getD words (n - 48) 0) (c .match .keys30))
-
-returns-31 : tie.Need-returns-31
-unfolding packed word words
-returns-31 c = sym (ap (λ n. getD words (n - 48) 0) (c .match .keys31))
-
-returns-32 : tie.Need-returns-32
-unfolding packed word words
-returns-32 c = sym (ap (λ n. getD words (n - 48) 0) (c .match .keys32))
-
-returns-33 : tie.Need-returns-33
-unfolding packed word words
-returns-33 c = sym (ap (λ n. getD words (n - 48) 0) (c .match .keys33))
-
-returns-34 : tie.Need-returns-34
-unfolding packed word words
-returns-34 c = sym (ap (λ n. getD words (n - 48) 0) (c .match .keys34))
-
-returns-35 : tie.Need-returns-35
-unfolding packed word words
-returns-35 c = sym (ap (λ n. getD words (n - 48) 0) (c .match .keys35))
-
-returns-36 : tie.Need-returns-36
-unfolding packed word words
-returns-36 c = sym (ap (λ n. getD words (n - 48) 0) (c .match .keys36))
-
-returns-37 : tie.Need-returns-37
-unfolding packed word words
-returns-37 c = sym (ap (λ n. getD words (n - 48) 0) (c .match .keys37))
-
-returns-38 : tie.Need-returns-38
-unfolding packed word words
-returns-38 c = sym (ap (λ n. getD words (n - 48) 0) (c .match .keys38))
-
-returns-39 : tie.Need-returns-39
-unfolding packed word words
-returns-39 c = sym (ap (λ n. getD words (n - 48) 0) (c .match .keys39))
-
-returns-40 : tie.Need-returns-40
-unfolding packed word words
-returns-40 c = sym (ap (λ n. getD words (n - 48) 0) (c .match .keys40))
-
-returns-41 : tie.Need-returns-41
-unfolding packed word words
-returns-41 c = sym (ap (λ n. getD words (n - 48) 0) (c .match .keys41))
-
-returns-42 : tie.Need-returns-42
-unfolding packed word words
-returns-42 c = sym (ap (λ n. getD words (n - 48) 0) (c .match .keys42))
-
-returns-43 : tie.Need-returns-43
-unfolding packed word words
-returns-43 c = sym (ap (λ n. getD words (n - 48) 0) (c .match .keys43))
-
-returns-44 : tie.Need-returns-44
-unfolding packed word words
-returns-44 c = sym (ap (λ n. getD words (n - 48) 0) (c .match .keys44))
-
-returns-45 : tie.Need-returns-45
-unfolding packed word words
-returns-45 c = sym (ap (λ n. getD words (n - 48) 0) (c .match .keys45))
-
-returns-46 : tie.Need-returns-46
-unfolding packed word words
-returns-46 c = sym (ap (λ n. getD words (n - 48) 0) (c .match .keys46))
-
-returns-47 : tie.Need-returns-47
-unfolding packed word words
-returns-47 c = sym (ap (λ n. getD words (n - 48) 0) (c .match .keys47))
-
-returns-48 : tie.Need-returns-48
-unfolding packed word words
-returns-48 c = sym (ap (λ n. getD words (n - 48) 0) (c .match .keys48))
-
-returns-49 : tie.Need-returns-49
-unfolding packed word words
-returns-49 c = sym (ap (λ n. getD words (n - 48) 0) (c .match .keys49))
-
-returns-50 : tie.Need-returns-50
-unfolding packed word words
-returns-50 c = sym (ap (λ n. getD words (n - 48) 0) (c .match .keys50))
-
-returns-51 : tie.Need-returns-51
-unfolding packed word words
-returns-51 c = sym (ap (λ n. getD words (n - 48) 0) (c .match .keys51))
-
-returns-52 : tie.Need-returns-52
-unfolding packed word words
-returns-52 c = sym (ap (λ n. getD words (n - 48) 0) (c .match .keys52))
-
-returns-53 : tie.Need-returns-53
-unfolding packed word words
-returns-53 c = sym (ap (λ n. getD words (n - 48) 0) (c .match .keys53))
-
-returns-54 : tie.Need-returns-54
-unfolding packed word words
-returns-54 c = sym (ap (λ n. getD words (n - 48) 0) (c .match .keys54))
-
-returns-55 : tie.Need-returns-55
-unfolding packed word words
-returns-55 c = sym (ap (λ n. getD words (n - 48) 0) (c .match .keys55))
-
-returns-56 : tie.Need-returns-56
-unfolding packed word words
-returns-56 c = sym (ap (λ n. getD words (n - 48) 0) (c .match .keys56))
-
-returns-57 : tie.Need-returns-57
-unfolding packed word words
-returns-57 c = sym (ap (λ n. getD words (n - 48) 0) (c .match .keys57))
-
-returns-58 : tie.Need-returns-58
-unfolding packed word words
-returns-58 c = sym (ap (λ n. getD words (n - 48) 0) (c .match .keys58))
-
-returns-59 : tie.Need-returns-59
-unfolding packed word words
-returns-59 c = sym (ap (λ n. getD words (n - 48) 0) (c .match .keys59))
-
-returns-60 : tie.Need-returns-60
-unfolding packed word words
-returns-60 c = sym (ap (λ n. getD words (n - 48) 0) (c .match .keys60))
-
-returns-61 : tie.Need-returns-61
-unfolding packed word words
-returns-61 c = sym (ap (λ n. getD words (n - 48) 0) (c .match .keys61))
-
-returns-62 : tie.Need-returns-62
-unfolding packed word words
-returns-62 c = sym (ap (λ n. getD words (n - 48) 0) (c .match .keys62))
-
-returns-63 : tie.Need-returns-63
-unfolding packed word words
-returns-63 c = sym (ap (λ n. getD words (n - 48) 0) (c .match .keys63))
-
-returns-64 : tie.Need-returns-64
-unfolding packed word words
-returns-64 c = sym (ap (λ n. getD words (n - 48) 0) (c .match .keys64))
-
-returns-65 : tie.Need-returns-65
-unfolding packed word words
-returns-65 c = sym (ap (λ n. getD words (n - 48) 0) (c .match .keys65))
-
-returns-66 : tie.Need-returns-66
-unfolding packed word words
-returns-66 c = sym (ap (λ n. getD words (n - 48) 0) (c .match .keys66))
-
-returns-67 : tie.Need-returns-67
-unfolding from-48
-returns-67 c = no-word (c .before .args .act) (c .match .rest) (c .before .pre)
+here : {x k : ℕ} → x ≡ k → getD words (k - 48) 0 ≡ getD words (x - 48) 0
+here e = sym (ap (λ n. getD words (n - 48) 0) e)
 
 pub word-of-spec : {M : Type 1} → statement M
+unfolding packed word words places
 word-of-spec =
     tie.close
     (tie.spec
-    returns
-    returns-2
-    returns-3
-    returns-4
-    returns-5
-    returns-6
-    returns-7
-    returns-8
-    returns-9
-    returns-10
-    returns-11
-    returns-12
-    returns-13
-    returns-14
-    returns-15
-    returns-16
-    returns-17
-    returns-18
-    returns-19
-    returns-20
-    returns-21
-    returns-22
-    returns-23
-    returns-24
-    returns-25
-    returns-26
-    returns-27
-    returns-28
-    returns-29
-    returns-30
-    returns-31
-    returns-32
-    returns-33
-    returns-34
-    returns-35
-    returns-36
-    returns-37
-    returns-38
-    returns-39
-    returns-40
-    returns-41
-    returns-42
-    returns-43
-    returns-44
-    returns-45
-    returns-46
-    returns-47
-    returns-48
-    returns-49
-    returns-50
-    returns-51
-    returns-52
-    returns-53
-    returns-54
-    returns-55
-    returns-56
-    returns-57
-    returns-58
-    returns-59
-    returns-60
-    returns-61
-    returns-62
-    returns-63
-    returns-64
-    returns-65
-    returns-66
-    returns-67)
+    (λ c. here (c .match .keys1))
+    (λ c. here (c .match .keys2))
+    (λ c. here (c .match .keys3))
+    (λ c. here (c .match .keys4))
+    (λ c. here (c .match .keys5))
+    (λ c. here (c .match .keys6))
+    (λ c. here (c .match .keys7))
+    (λ c. here (c .match .keys8))
+    (λ c. here (c .match .keys9))
+    (λ c. here (c .match .keys10))
+    (λ c. here (c .match .keys11))
+    (λ c. here (c .match .keys12))
+    (λ c. here (c .match .keys13))
+    (λ c. here (c .match .keys14))
+    (λ c. here (c .match .keys15))
+    (λ c. here (c .match .keys16))
+    (λ c. here (c .match .keys17))
+    (λ c. here (c .match .keys18))
+    (λ c. here (c .match .keys19))
+    (λ c. here (c .match .keys20))
+    (λ c. here (c .match .keys21))
+    (λ c. here (c .match .keys22))
+    (λ c. here (c .match .keys23))
+    (λ c. here (c .match .keys24))
+    (λ c. here (c .match .keys25))
+    (λ c. here (c .match .keys26))
+    (λ c. here (c .match .keys27))
+    (λ c. here (c .match .keys28))
+    (λ c. here (c .match .keys29))
+    (λ c. here (c .match .keys30))
+    (λ c. here (c .match .keys31))
+    (λ c. here (c .match .keys32))
+    (λ c. here (c .match .keys33))
+    (λ c. here (c .match .keys34))
+    (λ c. here (c .match .keys35))
+    (λ c. here (c .match .keys36))
+    (λ c. here (c .match .keys37))
+    (λ c. here (c .match .keys38))
+    (λ c. here (c .match .keys39))
+    (λ c. here (c .match .keys40))
+    (λ c. here (c .match .keys41))
+    (λ c. here (c .match .keys42))
+    (λ c. here (c .match .keys43))
+    (λ c. here (c .match .keys44))
+    (λ c. here (c .match .keys45))
+    (λ c. here (c .match .keys46))
+    (λ c. here (c .match .keys47))
+    (λ c. here (c .match .keys48))
+    (λ c. here (c .match .keys49))
+    (λ c. here (c .match .keys50))
+    (λ c. here (c .match .keys51))
+    (λ c. here (c .match .keys52))
+    (λ c. here (c .match .keys53))
+    (λ c. here (c .match .keys54))
+    (λ c. here (c .match .keys55))
+    (λ c. here (c .match .keys56))
+    (λ c. here (c .match .keys57))
+    (λ c. here (c .match .keys58))
+    (λ c. here (c .match .keys59))
+    (λ c. here (c .match .keys60))
+    (λ c. here (c .match .keys61))
+    (λ c. here (c .match .keys62))
+    (λ c. here (c .match .keys63))
+    (λ c. here (c .match .keys64))
+    (λ c. here (c .match .keys65))
+    (λ c. here (c .match .keys66))
+    (λ c. at-none-from 48 0 words (c .before .args .act) (c .before .pre) (c .match .rest)))
