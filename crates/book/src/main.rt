@@ -19,7 +19,7 @@ use console::print;
 use console::print_bytes;
 use console::print_number;
 use console::whole;
-use editor::Editor;
+use entries::Editor;
 
 // The longest row that is kept.
 const LONGEST: usize = 1024;

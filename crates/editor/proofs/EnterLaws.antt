@@ -11,7 +11,7 @@ use Rattle.paper.specs.Bytes.{pick, blank?, run}
 use Rattle.paper.specs.Tokens.{Token}
 use Rattle.paper.specs.Names.{names-in, name-bytes, add-names}
 use Rattle.paper.specs.Line.{line-bytes}
-use Rattle.paper.specs.Calls.{State, names-of, sound-state, refusal, Translated, tokens, refused-at, translate, accept, answered, delete, Head, numbered, too-great, no-digit, head-of, at-head, enter-sound, enter}
+use Rattle.paper.specs.Calls.{State, names-of, refusal, Translated, tokens, refused-at, translate, accept, answered, delete, Head, numbered, too-great, no-digit, head-of, at-head, enter-sound}
 use Rattle.paper.specs.Calls.{Entered as Outcome}
 use Rattle.laws.specs.Names.{names-added, closed?, closed-names}
 use Rattle.buffers.specs.Sets.{front}
@@ -21,10 +21,9 @@ use Rattle.reader.specs.Reading.{of-translated, of-head, reading, Accepted, Tol
 use Rattle.reader.specs.declared.Line.{Line}
 use Rattle.reader.specs.declared.Reading.{Reading}
 use Rattle.reader.specs.declared.Reading.the-variants.{Read, Delete, Refused}
-use Rattle.editor.specs.declared.Editor.{Editor}
-use Rattle.editor.specs.declared.Entered.{Entered}
-use Rattle.editor.specs.States.{state, entered, Written, Accepts}
-use Rattle.editor.proofs.AnswerLaws.{refusing}
+use Rattle.entries.specs.declared.Editor.{Editor}
+use Rattle.entries.specs.declared.Entered.{Entered}
+use Rattle.entries.specs.States.{state, entered, refusing, Written, Accepts}
 
 -- ---- a refusal and a deletion
 
@@ -161,16 +160,6 @@ text-long s text h = sym (rw (lt-ltb 120 (length text) h))
 pub text-short : (s : State) (text : List ℕ) (o : Outcome) → length text ≤ 120 → o ≡ at-head s (head-of text) → o ≡ enter-sound text s
 unfolding enter-sound
 text-short s text o h e = e ∙ sym (rw (le-ltb 120 (length text) h))
-
--- over sound tables and store
-pub enter-so : (s : State) (text : List ℕ) (b : Bool) (o : Outcome) → b ≡ sound-state s → b ≡ true → o ≡ enter-sound text s → o ≡ enter text s
-unfolding enter
-enter-so s text b o e t h = h ∙ sym (rw (sym e ∙ t))
-
--- 1
-pub enter-refused : (s : State) (text : List ℕ) (b : Bool) → b ≡ sound-state s → b ≡ false → refusal 1 0 s ≡ enter text s
-unfolding enter
-enter-refused s text b e t = sym (rw (sym e ∙ t))
 
 -- a refusal as the code makes it
 pub refusal-made : (names values store : List ℕ) (e : Editor) (k p : ℕ) (x : Entered) (o : Outcome) → x ≡ refusing k p e → refusal k p (state names values store e) ≡ o → entered x names values store ≡ o

@@ -1,34 +1,17 @@
 // The calls over lent tables and a lent store: a text entered, a stored line listed.
-mod edits;
-mod listings;
-
-use edits::enter_short;
-use edits::refused;
+use buffers::front;
+use entries::Editor;
+use entries::Entered;
+use entries::refused;
+use listings::Listed;
+use reader::Reading;
 ghost use mathlib.Core.Path.{_≡_};
+ghost use Prim.Native.Nat.{_≤_};
 ghost use lib.Dec.{T};
-ghost use Rattle.paper.specs.Calls.{sound-state, enter-sound, enter as enter-call, list as list-call};
-ghost use Rattle.editor.specs.States.{state, entered, listed};
-
-// The editor's record: the bytes of the store that are used, how many names there are, and how many bytes they have.
-pub struct Editor {
-    pub used: usize,
-    pub name_count: usize,
-    pub name_bytes: usize,
-}
-
-// What entering a text answers: document 01's number, the place where one applies, how many names were added, and the record afterwards.
-pub struct Entered {
-    pub number: u8,
-    pub place: usize,
-    pub added: usize,
-    pub editor: Editor,
-}
-
-// What listing a line answers: document 01's number, and how many bytes were written.
-pub struct Listed {
-    pub number: u8,
-    pub written: usize,
-}
+ghost use lib.ListN.{length};
+ghost use Rattle.paper.specs.Calls.{sound-state, at-head, head-of, enter-sound, enter as enter-call, list as list-call};
+ghost use Rattle.entries.specs.States.{state, entered};
+ghost use Rattle.listings.specs.Answers.{listed};
 
 // The most bytes that a text may have.
 const LONGEST_TEXT: usize = 120;
@@ -41,6 +24,34 @@ pub fn sound(names: &[u8], values: &[u8], store: &[u8], e: Editor) -> bool
         lines::sound(store, e.used)
     } else {
         false
+    }
+}
+
+// Enters a text of at most 120 bytes over sound tables and a sound store, with scratch for its line and for the names that are new in it.
+fn enter_short(
+    text: &[u8],
+    names: &mut [u8],
+    values: &mut [u8],
+    store: &mut [u8],
+    e: Editor,
+    line: &mut [u8],
+    fresh: &mut [u8],
+) -> Entered
+    requires { ⌜ (T (sound-state (state (now names) (now values) (now store) e))) × (length (now text) ≤ 120) × (255 ≤ length (now line)) × (240 ≤ length (now fresh)) ⌝ }
+    ensures { λ r. ⌜ entered r (now (names .exit)) (now (values .exit)) (now (store .exit)) ≡ at-head (state (now (names .entry)) (now (values .entry)) (now (store .entry)) e) (head-of (now (text .entry))) ⌝ }
+{
+    match reader::read(text, names, e.name_bytes, line, fresh) {
+        Reading::Refused(number, place) => refused(number, place, e),
+        Reading::Delete(number) => entries::take_out(number, names, values, store, e),
+        Reading::Read(l) => entries::accept(
+            line,
+            l.size,
+            front(fresh, l.named),
+            names,
+            values,
+            store,
+            e,
+        ),
     }
 }
 

@@ -1,6 +1,6 @@
-use Rattle.editor.specs.States.{state}
-use Rattle.editor.proofs.ListLaws.{sound-passed}
-use Rattle.editor.proofs.EnterLaws.{refusal-made, enter-so, enter-refused}
+use Rattle.entries.specs.States.{state}
+use Rattle.editor.proofs.TestLaws.{sound-passed, enter-so, enter-refused}
+use Rattle.editor.proofs.EnterLaws.{refusal-made}
 use borrow.Author.Needs.{needs}
 use Rattle.editor.proofs.enter.Statement.{statement}
 use Rattle.editor.proofs.enter.Tie as tie

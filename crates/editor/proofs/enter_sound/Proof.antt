@@ -1,5 +1,5 @@
 use native.Mathlib.Omega.{arith}
-use Rattle.editor.specs.States.{state}
+use Rattle.entries.specs.States.{state}
 use Rattle.editor.proofs.EnterLaws.{refusal-made, text-long, text-short}
 use borrow.Author.Needs.{needs}
 use Rattle.editor.proofs.enter_sound.Statement.{statement}

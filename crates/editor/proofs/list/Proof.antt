@@ -1,5 +1,5 @@
-use Rattle.editor.specs.States.{state}
-use Rattle.editor.proofs.ListLaws.{sound-passed, list-so, list-refused}
+use Rattle.entries.specs.States.{state}
+use Rattle.editor.proofs.TestLaws.{sound-passed, list-so, list-refused}
 use borrow.Author.Needs.{needs}
 use Rattle.editor.proofs.list.Statement.{statement}
 use Rattle.editor.proofs.list.Tie as tie

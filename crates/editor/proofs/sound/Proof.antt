@@ -1,5 +1,5 @@
-use Rattle.editor.specs.States.{state}
-use Rattle.editor.proofs.StateLaws.{sound-so, unsound-so}
+use Rattle.entries.specs.States.{state}
+use Rattle.editor.proofs.TestLaws.{sound-so, unsound-so}
 use borrow.Author.Needs.{needs}
 use Rattle.editor.proofs.sound.Statement.{statement}
 use Rattle.editor.proofs.sound.Tie as tie
