@@ -1,20 +1,21 @@
 // The calls over lent tables and a lent store: a text entered, a stored line listed.
-use buffers::front;
+mod readings;
+
 use entries::Editor;
 use entries::Entered;
 use entries::refused;
+use lines::Found;
 use listings::Listed;
-use reader::Reading;
+use listings::list_stored;
+use listings::not_listed;
+use readings::asked;
+use readings::edit;
+use readings::read;
 ghost use mathlib.Core.Path.{_≡_};
-ghost use Prim.Native.Nat.{_≤_};
 ghost use lib.Dec.{T};
-ghost use lib.ListN.{length};
-ghost use Rattle.paper.specs.Calls.{sound-state, at-head, head-of, enter-sound, enter as enter-call, list as list-call};
+ghost use Rattle.paper.specs.Calls.{sound-state, enter-sound, enter as enter-call, list as list-call};
 ghost use Rattle.entries.specs.States.{state, entered};
 ghost use Rattle.listings.specs.Answers.{listed};
-
-// The most bytes that a text may have.
-const LONGEST_TEXT: usize = 120;
 
 // Whether tables and store are sound.
 pub fn sound(names: &[u8], values: &[u8], store: &[u8], e: Editor) -> bool
@@ -24,34 +25,6 @@ pub fn sound(names: &[u8], values: &[u8], store: &[u8], e: Editor) -> bool
         lines::sound(store, e.used)
     } else {
         false
-    }
-}
-
-// Enters a text of at most 120 bytes over sound tables and a sound store, with scratch for its line and for the names that are new in it.
-fn enter_short(
-    text: &[u8],
-    names: &mut [u8],
-    values: &mut [u8],
-    store: &mut [u8],
-    e: Editor,
-    line: &mut [u8],
-    fresh: &mut [u8],
-) -> Entered
-    requires { ⌜ (T (sound-state (state (now names) (now values) (now store) e))) × (length (now text) ≤ 120) × (255 ≤ length (now line)) × (240 ≤ length (now fresh)) ⌝ }
-    ensures { λ r. ⌜ entered r (now (names .exit)) (now (values .exit)) (now (store .exit)) ≡ at-head (state (now (names .entry)) (now (values .entry)) (now (store .entry)) e) (head-of (now (text .entry))) ⌝ }
-{
-    match reader::read(text, names, e.name_bytes, line, fresh) {
-        Reading::Refused(number, place) => refused(number, place, e),
-        Reading::Delete(number) => entries::take_out(number, names, values, store, e),
-        Reading::Read(l) => entries::accept(
-            line,
-            l.size,
-            front(fresh, l.named),
-            names,
-            values,
-            store,
-            e,
-        ),
     }
 }
 
@@ -66,15 +39,15 @@ pub fn enter_sound(
     requires { ⌜ T (sound-state (state (now names) (now values) (now store) e)) ⌝ }
     ensures { λ r. ⌜ entered r (now (names .exit)) (now (values .exit)) (now (store .exit)) ≡ enter-sound (now (text .entry)) (state (now (names .entry)) (now (values .entry)) (now (store .entry)) e) ⌝ }
 {
-    if LONGEST_TEXT < text.len() {
-        return refused(2, 0, e);
-    }
     let mut line = [0u8; 255];
     let mut fresh = [0u8; 240];
-    enter_short(text, names, values, store, e, &mut line, &mut fresh)
+    let reading = read(text, names, e, &mut line, &mut fresh);
+    let place = lines::find_sound(store, e.used, asked(reading));
+    edit(reading, place, &line, &fresh, names, values, store, e)
 }
 
-// Enters a text: a line is put in or takes the place of the one with its number, a number alone deletes. A refusal, 1 to 9, changes nothing.
+// Enters a text: a line is put in or takes the place of the one with its number, a number alone deletes. A refusal, 1 to 9, changes nothing. The
+// text is read first, so that one walk over the store tests it and finds the place.
 pub fn enter(
     text: &[u8],
     names: &mut [u8],
@@ -84,8 +57,14 @@ pub fn enter(
 ) -> Entered
     ensures { λ r. ⌜ entered r (now (names .exit)) (now (values .exit)) (now (store .exit)) ≡ enter-call (now (text .entry)) (state (now (names .entry)) (now (values .entry)) (now (store .entry)) e) ⌝ }
 {
-    if sound(names, values, store, e) {
-        enter_sound(text, names, values, store, e)
+    if names::sound(names, e.name_bytes, e.name_count, values.len()) {
+        let mut line = [0u8; 255];
+        let mut fresh = [0u8; 240];
+        let reading = read(text, names, e, &mut line, &mut fresh);
+        match lines::find(store, e.used, asked(reading)) {
+            Found::Unsound => refused(1, 0, e),
+            Found::At(place) => edit(reading, place, &line, &fresh, names, values, store, e),
+        }
     } else {
         refused(1, 0, e)
     }
@@ -102,12 +81,12 @@ pub fn list(
 ) -> Listed
     ensures { λ r. ⌜ listed r (now (out .exit)) ≡ list-call line (state (now (names .entry)) (now (values .entry)) (now (store .entry)) e) (now (out .entry)) ⌝ }
 {
-    if sound(names, values, store, e) {
-        listings::list_stored(line, names, values, store, e, out)
-    } else {
-        Listed {
-            number: 1,
-            written: 0,
+    if names::sound(names, e.name_bytes, e.name_count, values.len()) {
+        match lines::find(store, e.used, line) {
+            Found::Unsound => not_listed(1),
+            Found::At(place) => list_stored(place, names, values, store, e, out),
         }
+    } else {
+        not_listed(1)
     }
 }

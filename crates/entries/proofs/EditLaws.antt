@@ -12,7 +12,7 @@ use borrow.Author.Tests.{lt-ltb, le-ltb}
 use Rattle.paper.specs.Bytes.{joined}
 use Rattle.paper.specs.Tokens.{Token}
 use Rattle.paper.specs.Names.{names-in, name-bytes, add-names, value-entries}
-use Rattle.paper.specs.Line.{line-bytes}
+use Rattle.paper.specs.Line.{line-bytes, line-number}
 use Rattle.paper.specs.Store.{stored?, put-line, take-out, overwritten}
 use Rattle.paper.specs.Calls.{State, names-of, lines-of, sound-state, refusal, stored, lacks-room, accept, delete}
 use Rattle.paper.specs.Calls.{Entered as Outcome}
@@ -20,7 +20,7 @@ use Rattle.laws.specs.Names.{closed?, adds-front}
 use Rattle.names.specs.Answers.{lacks, Room}
 use Rattle.names.specs.Uses.{length-bytes, lacks-is, room-left}
 use Rattle.lines.specs.Answers.{too-long}
-use Rattle.entries.specs.States.{Written, Accepts}
+use Rattle.entries.specs.Lines.{Written, Accepts}
 use Rattle.entries.specs.Sound.{table-sound, values-fit}
 
 -- ---- taking a line out
@@ -59,7 +59,11 @@ not-there s n h = sym (rw (h))
 names-are : {ns : List (List ℕ)} {n : ℕ} {ts : List Token} {line : List ℕ} {size : ℕ} {fresh : List ℕ} → Written ns n ts line size fresh → add-names ns ts ≡ ns ++ names-in fresh
 names-are {ns} {n} {ts} w = adds-front ns ts ∙ ap (λ (l : List (List ℕ)). ns ++ l) (sym (w .new))
 
-module _ (s : State) (o : T (sound-state s)) (line : List ℕ) (size : ℕ) (fresh : List ℕ) where
+line-number-of : (ns : List (List ℕ)) (n : ℕ) (ts : List Token) → line-number (line-bytes ns n ts) ≡ n
+unfolding line-number line-bytes
+line-number-of ns n ts = omega arith
+
+module _ (s : State) (o : T (sound-state s)) (n : ℕ) (line : List ℕ) (size : ℕ) (fresh : List ℕ) where
   abbrev lack : Bool
   lack = lacks (length (s .names)) (s .name-size) (length (s .values)) (s .name-count) (names-in fresh)
 
@@ -67,18 +71,18 @@ module _ (s : State) (o : T (sound-state s)) (line : List ℕ) (size : ℕ) (fre
   unfolding names-of
   counted = (table-sound s o) .counted
 
-  lack-is : (n : ℕ) (ts : List Token) → Written (names-of s) n ts line size fresh → lacks-room s (add-names (names-of s) ts) ≡ lack
-  lack-is n ts w = ap (lacks-room s) (names-are w) ∙ sym (lacks-is s (names-in fresh) counted)
+  lack-is : (ts : List Token) → Written (names-of s) n ts line size fresh → lacks-room s (add-names (names-of s) ts) ≡ lack
+  lack-is ts w = ap (lacks-room s) (names-are w) ∙ sym (lacks-is s (names-in fresh) counted)
 
   -- 6
-  pub refuses-6 : lack ≡ true → Accepts s line size fresh (refusal 6 0 s)
+  pub refuses-6 : lack ≡ true → Accepts s n line size fresh (refusal 6 0 s)
   unfolding accept
-  refuses-6 h n ts w = sym (rw (lack-is n ts w ∙ h))
+  refuses-6 h ts w = sym (rw (lack-is ts w ∙ h))
 
   -- 7
-  pub refuses-7 : lack ≡ false → 255 < size → Accepts s line size fresh (refusal 7 0 s)
+  pub refuses-7 : lack ≡ false → 255 < size → Accepts s n line size fresh (refusal 7 0 s)
   unfolding accept
-  refuses-7 h k n ts w = sym (rw (lack-is n ts w ∙ h, lt-ltb 255 (length (line-bytes (add-names (names-of s) ts) n ts)) (omega (arith, w .length-is))))
+  refuses-7 h k ts w = sym (rw (lack-is ts w ∙ h, lt-ltb 255 (length (line-bytes (add-names (names-of s) ts) n ts)) (omega (arith, w .length-is))))
 
   -- there is room for the names
   pub roomy : lack ≡ false → closed? fresh ≡ true → Room (s .names) (s .name-size) (s .values) (s .name-count) fresh
@@ -87,19 +91,23 @@ module _ (s : State) (o : T (sound-state s)) (line : List ℕ) (size : ℕ) (fre
       room-left (s .names) (s .name-size) (s .values) (s .name-count) fresh h c (t .few) (t .within) (values-fit s o)
 
   -- the line is written out where it is short and its names are few
-  line-is : (n : ℕ) (ts : List Token) → Written (names-of s) n ts line size fresh → lack ≡ false → closed? fresh ≡ true → size ≤ 255 → take size line ≡ line-bytes (add-names (names-of s) ts) n ts
-  line-is n ts w h c k =
+  line-is : (ts : List Token) → Written (names-of s) n ts line size fresh → lack ≡ false → closed? fresh ≡ true → size ≤ 255 → take size line ≡ line-bytes (add-names (names-of s) ts) n ts
+  line-is ts w h c k =
       let r = roomy h c in
       let e : length (add-names (names-of s) ts) ≡ length (names-of s) + length (names-in fresh) = ap length (names-are w) ∙ length-append (names-of s) (names-in fresh) in
       w .bytes k (omega (arith, r .few, e, counted))
 
+  -- its number
+  pub number-is : (ts : List Token) → Written (names-of s) n ts line size fresh → lack ≡ false → size ≤ 255 → line-number (take size line) ≡ n
+  number-is ts w h k = ap line-number (line-is ts w h (w .closed) k) ∙ line-number-of (add-names (names-of s) ts) n ts
+
   -- 8
-  pub refuses-8 : lack ≡ false → closed? fresh ≡ true → size ≤ 255 → too-long (s .store) (put-line (take size line) (lines-of s)) ≡ true → Accepts s line size fresh (refusal 8 0 s)
+  pub refuses-8 : lack ≡ false → closed? fresh ≡ true → size ≤ 255 → too-long (s .store) (put-line (take size line) (lines-of s)) ≡ true → Accepts s n line size fresh (refusal 8 0 s)
   unfolding accept too-long
-  refuses-8 h c k t n ts w =
-      let l = line-is n ts w h c k in
+  refuses-8 h c k t ts w =
+      let l = line-is ts w h c k in
       let short : length (take size line) ≤ 255 = omega (arith, ap length l, w .length-is) in
-      sym (rw (lack-is n ts w ∙ h, ← l, le-ltb 255 (length (take size line)) short, t))
+      sym (rw (lack-is ts w ∙ h, ← l, le-ltb 255 (length (take size line)) short, t))
 
   -- the state with the line and its names
   abbrev made : State
@@ -121,11 +129,11 @@ module _ (s : State) (o : T (sound-state s)) (line : List ℕ) (size : ℕ) (fre
 
   -- 0
   pub takes : lack ≡ false → closed? fresh ≡ true → size ≤ 255 → too-long (s .store) (put-line (take size line) (lines-of s)) ≡ false
-      → Accepts s line size fresh (record { number = 0; place = 0; added = length (names-in fresh); after = made })
+      → Accepts s n line size fresh (record { number = 0; place = 0; added = length (names-in fresh); after = made })
   unfolding accept too-long
-  takes h c k t n ts w =
-      let l = line-is n ts w h c k in
+  takes h c k t ts w =
+      let l = line-is ts w h c k in
       let short : length (take size line) ≤ 255 = omega (arith, ap length l, w .length-is) in
       let m = names-are w in
       let e : length (names-of s ++ names-in fresh) - length (names-of s) ≡ length (names-in fresh) = omega (arith, length-append (names-of s) (names-in fresh)) in
-      sym (rw (lack-is n ts w ∙ h, ← l, le-ltb 255 (length (take size line)) short, t, m, e, stored-made))
+      sym (rw (lack-is ts w ∙ h, ← l, le-ltb 255 (length (take size line)) short, t, m, e, stored-made))

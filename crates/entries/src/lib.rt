@@ -1,13 +1,13 @@
 // The edits of a sound state: a line put in, with its new names, or taken out.
 use buffers::front;
+use lines::Place;
 use lines::Removed;
 use lines::Stored;
 ghost use mathlib.Core.Path.{_≡_};
-ghost use mathlib.Core.Bool.{true};
 ghost use lib.Dec.{T};
 ghost use Rattle.paper.specs.Calls.{sound-state, delete};
-ghost use Rattle.laws.specs.Names.{closed?};
-ghost use Rattle.entries.specs.States.{state, entered, refusing, Accepts};
+ghost use Rattle.entries.specs.States.{state, entered, refusing, Lies};
+ghost use Rattle.entries.specs.Lines.{Readable, Accepts};
 
 // The editor's record: the bytes of the store that are used, how many names there are, and how many bytes they have.
 pub struct Editor {
@@ -39,12 +39,12 @@ pub fn refused(number: u8, place: usize, e: Editor) -> Entered
     }
 }
 
-// Takes the line with a number out of a sound store.
-pub fn take_out(number: usize, names: &[u8], values: &[u8], store: &mut [u8], e: Editor) -> Entered
-    requires { ⌜ T (sound-state (state (now names) (now values) (now store) e)) ⌝ }
-    ensures { λ r. ⌜ entered r (now (names .entry)) (now (values .entry)) (now (store .exit)) ≡ delete (state (now (names .entry)) (now (values .entry)) (now (store .entry)) e) number ⌝ }
+// Takes the line at a place out of a sound store.
+pub fn take_out(place: Place, names: &[u8], values: &[u8], store: &mut [u8], e: Editor) -> Entered
+    requires { ⌜ (T (sound-state (state (now names) (now values) (now store) e))) × (Lies place (place .number) (state (now names) (now values) (now store) e)) ⌝ }
+    ensures { λ r. ⌜ entered r (now (names .entry)) (now (values .entry)) (now (store .exit)) ≡ delete (state (now (names .entry)) (now (values .entry)) (now (store .entry)) e) (place .number) ⌝ }
 {
-    match lines::take_out(store, e.used, number) {
+    match lines::take_out(store, e.used, place) {
         Removed::Done(used) => Entered {
             number: 0,
             place: 0,
@@ -59,9 +59,10 @@ pub fn take_out(number: usize, names: &[u8], values: &[u8], store: &mut [u8], e:
     }
 }
 
-// Puts the first `size` bytes of a buffer as a line into a sound store and the names that are new in it into the tables, or refuses it with 6, 7
-// or 8. Nothing is written before all tests have passed.
+// Puts the first `size` bytes of a buffer, a line that was read, at the place of its number into a sound store, and the names that are new in it
+// into the tables; or refuses it with 6, 7 or 8. Nothing is written before all tests have passed.
 pub fn accept(
+    place: Place,
     line: &[u8],
     size: usize,
     fresh: &[u8],
@@ -70,8 +71,9 @@ pub fn accept(
     store: &mut [u8],
     e: Editor,
 ) -> Entered
-    requires { ⌜ (T (sound-state (state (now names) (now values) (now store) e))) × (closed? (now fresh) ≡ true) ⌝ }
-    ensures { λ r. ⌜ Accepts (state (now (names .entry)) (now (values .entry)) (now (store .entry)) e) (now (line .entry)) size (now (fresh .entry)) (entered r (now (names .exit)) (now (values .exit)) (now (store .exit))) ⌝ }
+    requires { ⌜ (T (sound-state (state (now names) (now values) (now store) e))) × (Lies place (place .number) (state (now names) (now values) (now store) e))
+        × (Readable (state (now names) (now values) (now store) e) (place .number) (now line) size (now fresh)) ⌝ }
+    ensures { λ r. ⌜ Accepts (state (now (names .entry)) (now (values .entry)) (now (store .entry)) e) (place .number) (now (line .entry)) size (now (fresh .entry)) (entered r (now (names .exit)) (now (values .exit)) (now (store .exit))) ⌝ }
 {
     let bytes = e.name_bytes;
     let count = e.name_count;
@@ -82,7 +84,7 @@ pub fn accept(
     if LONGEST_LINE < size {
         return refused(7, 0, e);
     }
-    match lines::put_in(store, e.used, front(line, size)) {
+    match lines::put_in(store, e.used, place, front(line, size)) {
         Stored::NoRoom => refused(8, 0, e),
         Stored::Done(used) => {
             names::add(names, bytes, values, count, fresh);

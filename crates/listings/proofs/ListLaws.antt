@@ -7,7 +7,7 @@ use lib.Dec.{T, leb, leb→le}
 use lib.ListN.{length, take, drop}
 use Rattle.paper.specs.Names.{names-in, sound-table}
 use Rattle.paper.specs.Store.{line-at, lines-in, sound-store, room}
-use Rattle.paper.specs.Calls.{State, names-of, lines-of, sound-state, Listed, not-listed, list-sound}
+use Rattle.paper.specs.Calls.{State, names-of, lines-of, sound-state, not-listed, list-sound}
 use Rattle.laws.specs.Tests.{and-left}
 use Rattle.laws.specs.Lines.{room-lent}
 use Rattle.lines.specs.Answers.{place-of}
@@ -17,7 +17,8 @@ use Rattle.lister.specs.Listed.{answer, lists}
 use Rattle.pieces.specs.Rest.{Sound}
 use Rattle.listings.specs.declared.Listed.{Listed as Answer}
 use Rattle.lister.specs.declared.Listed.{Listed as Found}
-use Rattle.listings.specs.Answers.{listed, Numbered}
+use Rattle.listings.specs.Answers.{unlisted, listed, Numbered}
+use Rattle.entries.specs.States.{Lies}
 use Rattle.entries.specs.Sound.{table-sound, store-sound}
 
 -- what the lister asks of the names
@@ -27,7 +28,11 @@ names-sound s t =
     subst (λ (k : ℕ). T (sound-table (s .names) (s .name-size) k)) (sym ((table-sound s t) .counted))
     (and-left (sound-table (s .names) (s .name-size) (s .name-count)) _ t)
 
-module _ (s : State) (o : T (sound-state s)) (n : ℕ) (p : Place) (e : p ≡ place-of n (lines-in (take (s .used) (s .store)))) where
+module _ (s : State) (o : T (sound-state s)) (n : ℕ) (p : Place) (lies : Lies p n s) where
+  e : p ≡ place-of n (lines-in (take (s .used) (s .store)))
+  unfolding lines-of
+  e = lies
+
   -- the line lies within the used bytes
   pub lies-within : p .at + p .size ≤ s .used
   lies-within = place-within (s .store) (s .used) n (store-sound s o) p e
@@ -39,9 +44,9 @@ module _ (s : State) (o : T (sound-state s)) (n : ℕ) (p : Place) (e : p ≡ pl
       omega (arith, lies-within, room-lent (s .store), leb→le (s .used) (room (s .store)) (and-left (leb (s .used) (room (s .store))) _ (store-sound s o)))
 
   -- 9
-  pub not-stored : (out : List ℕ) → p .size ≡ 0 → _≡_ {A = Listed} (record { number = 9; written = 0; output = out }) (list-sound n s out)
+  pub not-stored : (r : Answer) (out : List ℕ) → p .size ≡ 0 → r ≡ unlisted 9 → listed r out ≡ list-sound n s out
   unfolding list-sound not-listed lines-of
-  not-stored out h = sym (rw (missing (s .store) (s .used) n (store-sound s o) p e h))
+  not-stored r out h q = rw q (sym (rw (missing (s .store) (s .used) n (store-sound s o) p e h)))
 
   -- 10, 11 or the listing
   pub listed-so : (line out out′ : List ℕ) (x : Found) (r : Answer) → (p .size ≡ 0 → ⊥) → line ≡ take (p .size) (drop (p .at) (s .store)) → answer x out′ ≡ lists (names-in (take (s .name-size) (s .names))) line out → Numbered x r

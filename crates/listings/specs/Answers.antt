@@ -7,6 +7,10 @@ use Rattle.listings.specs.declared.Listed.{Listed}
 use Rattle.lister.specs.declared.Listed.{Listed as Found}
 use Rattle.lister.specs.Listed.{answer}
 
+-- a refusal: nothing is written
+abbrev pub unlisted : ℕ → Listed
+unlisted number = record { number = number; written = 0 }
+
 -- what a listing answered, with what it left in the output buffer
 abbrev pub listed : Listed → List ℕ → Written-out
 listed r out = record { number = r .number; written = r .written; output = out }

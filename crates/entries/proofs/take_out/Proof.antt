@@ -1,13 +1,17 @@
+-- `entries::take_out` meets its contract.
+use Rattle.paper.specs.Calls.{lines-of}
 use Rattle.entries.specs.States.{state}
 use Rattle.entries.specs.Sound.{store-sound}
 use Rattle.entries.proofs.AnswerLaws.{gone, absent}
-use Rattle.paper.specs.Calls.{lines-of}
 use borrow.Author.Needs.{needs}
 use Rattle.entries.proofs.take_out.Statement.{statement}
 use Rattle.entries.proofs.take_out.Tie as tie
 
 take-out-requires : tie.Need-take-out-requires
-take-out-requires c κs = store-sound (state (c .before .before .before .before .args .names .now) (c .before .before .before .before .args .values .now) (c .before .before .before .before .args .store .now) (c .before .before .before .before .args .e)) (c .before .before .before .before .pre)
+unfolding lines-of
+take-out-requires c κs =
+    let args = c .before .before .before .before .args in
+    (store-sound (state (args .names .now) (args .values .now) (args .store .now) (args .e)) (c .before .before .before .before .pre .0), c .before .before .before .before .pre .1)
 
 enum-known-used : tie.Need-enum-known-used
 enum-known-used c = search needs
@@ -23,14 +27,18 @@ same-length c = search needs
 
 returns : tie.Need-returns
 unfolding lines-of
-returns c = gone (c .before .before .before .before .before .before .before .before .before .before .args .names .now) (c .before .before .before .before .before .before .before .before .before .before .args .values .now) (c .before .before .before .before .before .before .before .before .before .before .args .store .now) (c .before .before .before .before .before .before .before .before .before .before .args .e) (c .before .before .before .before .before .before .before .before .before .before .pre) (c .before .before .before .before .before .before .before .before .before .before .args .number) _ _ _ (c .before .before .before .before .before .take-out .ensures .0) (c .before .before .before .before .before .take-out .ensures .1) (c .before .used .given .1)
+returns c =
+    let args = c .before .before .before .before .before .before .before .before .before .before .args in
+    gone (args .names .now) (args .values .now) (args .store .now) (args .e) (c .before .before .before .before .before .before .before .before .before .before .pre .0) (args .place .number) _ _ _ (c .before .before .before .before .before .take-out .ensures .0) (c .before .before .before .before .before .take-out .ensures .1) (c .before .used .given .1)
 
 same-length-2 : tie.Need-same-length-2
 same-length-2 c = search needs
 
 returns-2 : tie.Need-returns-2
 unfolding lines-of
-returns-2 c = absent (c .before .before .before .before .before .before .before .before .before .before .args .names .now) (c .before .before .before .before .before .before .before .before .before .before .args .values .now) (c .before .before .before .before .before .before .before .before .before .before .args .store .now) (c .before .before .before .before .before .before .before .before .before .before .args .e) (c .before .before .before .before .before .before .before .before .before .before .args .number) _ _ _ (c .before .before .before .before .before .take-out .ensures .0) (c .before .before .before .before .before .take-out .ensures .1) (c .before .enum-told .given .1) (c .refused .ensures)
+returns-2 c =
+    let args = c .before .before .before .before .before .before .before .before .before .before .args in
+    absent (args .names .now) (args .values .now) (args .store .now) (args .e) (args .place .number) _ _ _ (c .before .before .before .before .before .take-out .ensures .0) (c .before .before .before .before .before .take-out .ensures .1) (c .before .enum-told .given .1) (c .refused .ensures)
 
 pub take-out-spec : {M : Type 1} → statement M
 take-out-spec =
