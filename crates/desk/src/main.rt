@@ -4,7 +4,7 @@ use buffers::front;
 use console::next_line;
 use console::print;
 use console::print_number;
-use editor::Editor;
+use entries::Editor;
 ghost use Prim.Native.Nat.{_≤_};
 
 // The longest text that is kept: one byte more than may be entered, so that any longer line is refused as such.

@@ -1,7 +1,7 @@
 -- Entering a text, from what reading it told.
 use Prim.Native.Nat.{ℕ, _≤_, _<_}
 use native.Mathlib.Omega.{arith}
-use mathlib.Core.Path.{_≡_, refl, sym, ap, _∙_}
+use mathlib.Core.Path.{_≡_, refl, sym, ap, _∙_, subst}
 use mathlib.Core.Bool.{Bool, true, false}
 use mathlib.Core.List.{List}
 use lib.Dec.{eqb}
@@ -11,7 +11,7 @@ use Rattle.paper.specs.Bytes.{pick, blank?, run}
 use Rattle.paper.specs.Tokens.{Token}
 use Rattle.paper.specs.Names.{names-in, name-bytes, add-names}
 use Rattle.paper.specs.Line.{line-bytes}
-use Rattle.paper.specs.Calls.{State, names-of, sound-state, refusal, Translated, tokens, refused-at, translate, accept, answered, delete, Head, numbered, too-great, no-digit, head-of, at-head, enter-sound, enter}
+use Rattle.paper.specs.Calls.{State, names-of, refusal, Translated, tokens, refused-at, translate, accept, answered, delete, Head, numbered, too-great, no-digit, head-of, at-head, enter-sound}
 use Rattle.paper.specs.Calls.{Entered as Outcome}
 use Rattle.laws.specs.Names.{names-added, closed?, closed-names}
 use Rattle.buffers.specs.Sets.{front}
@@ -21,10 +21,10 @@ use Rattle.reader.specs.Reading.{of-translated, of-head, reading, Accepted, Tol
 use Rattle.reader.specs.declared.Line.{Line}
 use Rattle.reader.specs.declared.Reading.{Reading}
 use Rattle.reader.specs.declared.Reading.the-variants.{Read, Delete, Refused}
-use Rattle.editor.specs.declared.Editor.{Editor}
-use Rattle.editor.specs.declared.Entered.{Entered}
-use Rattle.editor.specs.States.{state, entered, Written, Accepts}
-use Rattle.editor.proofs.AnswerLaws.{refusing}
+use Rattle.entries.specs.declared.Editor.{Editor}
+use Rattle.entries.specs.States.{state}
+use Rattle.entries.specs.Lines.{Written, Accepts}
+use Rattle.editor.specs.Readings.{Ready, Edits, Prepared}
 
 -- ---- a refusal and a deletion
 
@@ -75,6 +75,7 @@ record Tokens (ks : List (List ℕ)) (h : Head) (l : Line) : Type 0 where
   head : h ≡ numbered n p rest
   more : eqb (run blank? rest) (length rest) ≡ false
   translated : translate p rest ≡ tokens ts
+  number : l .number ≡ n
   size : l .size ≡ length (line-bytes (add-names ks ts) n ts)
   named : l .named ≡ length (name-bytes (names-added ks ts))
 
@@ -85,7 +86,7 @@ tokens-go ks l n p rest true t eb et e = let z : _≡_ {A = ℕ} 0 1 = cc in abs
 tokens-go ks l n p rest false (refused-at k q) eb et e = let z : _≡_ {A = ℕ} 0 1 = cc in absurd (omega arith)
 tokens-go ks l n p rest false (tokens ts) eb et e =
     let same : _≡_ {A = Line} l (record { number = n; size = length (line-bytes (add-names ks ts) n ts); named = length (name-bytes (names-added ks ts)) }) = cc in
-    record { n = n; p = p; rest = rest; ts = ts; head = refl; more = eb; translated = et; size = ap (λ (x : Line). x .size) same; named = ap (λ (x : Line). x .named) same }
+    record { n = n; p = p; rest = rest; ts = ts; head = refl; more = eb; translated = et; number = ap (λ (x : Line). x .number) same; size = ap (λ (x : Line). x .size) same; named = ap (λ (x : Line). x .named) same }
 
 tokens-of-head : (ks : List (List ℕ)) (l : Line) (h : Head) → Read l ≡ of-head ks h → Tokens ks h l
 unfolding of-head
@@ -119,7 +120,7 @@ module _ {ks : List (List ℕ)} {n : ℕ} {ts : List Token} {line fresh line′ 
 
   -- they are a line as it was read
   written : (size : ℕ) → size ≡ length (line-bytes (add-names ks ts) n ts) → 255 ≤ length line → Written ks n ts line′ size part
-  written size e fits = record { new = ap names-in part-is ∙ a .told-apart; length-is = e; bytes = line-is size e fits }
+  written size e fits = record { new = ap names-in part-is ∙ a .told-apart; closed = part-closed; length-is = e; bytes = line-is size e fits }
 
 -- ---- the answers
 
@@ -127,11 +128,11 @@ module _ (s : State) (text line fresh line′ fresh′ : List ℕ) (r : Reading)
   abbrev ks : List (List ℕ)
   ks = names-in (take (s .name-size) (s .names))
 
-  pub enters-refused : (k p : ℕ) → r ≡ Refused k p → refusal k p s ≡ at-head s (head-of text)
+  enters-refused : (k p : ℕ) → r ≡ Refused k p → refusal k p s ≡ at-head s (head-of text)
   unfolding reading
   enters-refused k p e = refused-head s ks k p (head-of text) (sym e ∙ told .answer)
 
-  pub enters-delete : (n : ℕ) → r ≡ Delete n → delete s n ≡ at-head s (head-of text)
+  enters-delete : (n : ℕ) → r ≡ Delete n → delete s n ≡ at-head s (head-of text)
   unfolding reading
   enters-delete n e = delete-head s ks n (head-of text) (sym e ∙ told .answer)
 
@@ -142,37 +143,47 @@ module _ (s : State) (text line fresh line′ fresh′ : List ℕ) (r : Reading)
   abbrev accepted-of : (l : Line) (e : r ≡ Read l) → Accepted ks (tokens-read l e .n) (tokens-read l e .ts) line fresh line′ fresh′
   accepted-of l e = let x = tokens-read l e in told .accepted (x .n) (x .p) (x .rest) (x .ts) (x .head) (x .more) (x .translated)
 
-  module _ (l : Line) (e : r ≡ Read l) (room : 240 ≤ length fresh) (part : List ℕ) (whole : part ≡ take (l .named) fresh′) where
-    pub fresh-closed : closed? part ≡ true
-    fresh-closed = part-closed (accepted-of l e) (l .named) (tokens-read l e .named) room part whole
-
-    pub enters-line : (o : Outcome) → 255 ≤ length line → Accepts s line′ (l .size) part o → o ≡ at-head s (head-of text)
+  module _ (fits : 255 ≤ length line) (room : 240 ≤ length fresh) where
+    line-written : (l : Line) (e : r ≡ Read l) → Written (names-of s) (l .number) (tokens-read l e .ts) line′ (l .size) (take (l .named) fresh′)
     unfolding names-of
-    enters-line o fits a =
+    line-written l e =
         let x = tokens-read l e in
-        a (x .n) (x .ts) (written (accepted-of l e) (l .named) (x .named) room part whole (l .size) (x .size) fits) ∙ accepts-head s ks l (head-of text) x
+        subst (λ (n : ℕ). Written ks n (x .ts) line′ (l .size) (take (l .named) fresh′)) (sym (x .number))
+        (written (accepted-of l e) (l .named) (x .named) room (take (l .named) fresh′) refl (l .size) (x .size) fits)
+
+    -- a line can be edited by
+    pub reads-line : Ready s line′ fresh′ r
+    reads-line l e = record { ts = tokens-read l e .ts; written = line-written l e }
+
+    enters-line : (l : Line) (e : r ≡ Read l) (o : Outcome) → Accepts s (l .number) line′ (l .size) (take (l .named) fresh′) o → o ≡ at-head s (head-of text)
+    enters-line l e o a =
+        let x = tokens-read l e in
+        a (x .ts) (line-written l e) ∙ ap (λ (n : ℕ). accept s n (x .ts)) (x .number) ∙ accepts-head s ks l (head-of text) x
+
+    -- and what comes of the edit is what the text is to give
+    pub enters-so : (q : Reading) → r ≡ q → (o : Outcome) → Edits s line′ fresh′ q o → o ≡ at-head s (head-of text)
+    unfolding Edits
+    enters-so (Refused k p) e o h = h ∙ enters-refused k p e
+    enters-so (Delete n) e o h = h ∙ enters-delete n e
+    enters-so (Read l) e o h = enters-line l e o h
+
+-- ---- a text of any length
 
 -- 2
-pub text-long : (s : State) (text : List ℕ) → 120 < length text → refusal 2 0 s ≡ enter-sound text s
-unfolding enter-sound
-text-long s text h = sym (rw (lt-ltb 120 (length text) h))
+pub long-text : (names : List ℕ) (e : Editor) (text line fresh : List ℕ) → 120 < length text → Prepared names e text line fresh (Refused 2 0)
+unfolding enter-sound Edits
+long-text names e text line fresh h =
+    record {
+      ready = λ values store l q. let z : _≡_ {A = ℕ} 0 1 = cc in absurd (omega arith);
+      enters = λ values store o q. q ∙ sym (rw (lt-ltb 120 (length text) h));
+    }
 
 -- a text that is not too long
-pub text-short : (s : State) (text : List ℕ) (o : Outcome) → length text ≤ 120 → o ≡ at-head s (head-of text) → o ≡ enter-sound text s
+pub short-text : (names : List ℕ) (e : Editor) (text line fresh line′ fresh′ : List ℕ) (r : Reading) → length text ≤ 120 → 255 ≤ length line → 240 ≤ length fresh
+    → Told (names-in (take (e .«name_bytes») names)) text line fresh line′ fresh′ r → Prepared names e text line′ fresh′ r
 unfolding enter-sound
-text-short s text o h e = e ∙ sym (rw (le-ltb 120 (length text) h))
-
--- over sound tables and store
-pub enter-so : (s : State) (text : List ℕ) (b : Bool) (o : Outcome) → b ≡ sound-state s → b ≡ true → o ≡ enter-sound text s → o ≡ enter text s
-unfolding enter
-enter-so s text b o e t h = h ∙ sym (rw (sym e ∙ t))
-
--- 1
-pub enter-refused : (s : State) (text : List ℕ) (b : Bool) → b ≡ sound-state s → b ≡ false → refusal 1 0 s ≡ enter text s
-unfolding enter
-enter-refused s text b e t = sym (rw (sym e ∙ t))
-
--- a refusal as the code makes it
-pub refusal-made : (names values store : List ℕ) (e : Editor) (k p : ℕ) (x : Entered) (o : Outcome) → x ≡ refusing k p e → refusal k p (state names values store e) ≡ o → entered x names values store ≡ o
-unfolding refusal
-refusal-made names values store e k p x o q h = rw q h
+short-text names e text line fresh line′ fresh′ r h fits room told =
+    record {
+      ready = λ values store. reads-line (state names values store e) text line fresh line′ fresh′ r told fits room;
+      enters = λ values store o q. enters-so (state names values store e) text line fresh line′ fresh′ r told fits room r refl o q ∙ sym (rw (le-ltb 120 (length text) h));
+    }

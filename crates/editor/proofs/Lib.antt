@@ -1,5 +1,3 @@
-pub mod StateLaws
-pub mod EditLaws
-pub mod AnswerLaws
-pub mod ListLaws
+pub mod TestLaws
 pub mod EnterLaws
+pub mod ReadingLaws

@@ -1,37 +1,21 @@
 // The calls over lent tables and a lent store: a text entered, a stored line listed.
-mod edits;
-mod listings;
+mod readings;
 
-use edits::enter_short;
-use edits::refused;
+use entries::Editor;
+use entries::Entered;
+use entries::refused;
+use lines::Found;
+use listings::Listed;
+use listings::list_stored;
+use listings::not_listed;
+use readings::asked;
+use readings::edit;
+use readings::read;
 ghost use mathlib.Core.Path.{_≡_};
 ghost use lib.Dec.{T};
 ghost use Rattle.paper.specs.Calls.{sound-state, enter-sound, enter as enter-call, list as list-call};
-ghost use Rattle.editor.specs.States.{state, entered, listed};
-
-// The editor's record: the bytes of the store that are used, how many names there are, and how many bytes they have.
-pub struct Editor {
-    pub used: usize,
-    pub name_count: usize,
-    pub name_bytes: usize,
-}
-
-// What entering a text answers: document 01's number, the place where one applies, how many names were added, and the record afterwards.
-pub struct Entered {
-    pub number: u8,
-    pub place: usize,
-    pub added: usize,
-    pub editor: Editor,
-}
-
-// What listing a line answers: document 01's number, and how many bytes were written.
-pub struct Listed {
-    pub number: u8,
-    pub written: usize,
-}
-
-// The most bytes that a text may have.
-const LONGEST_TEXT: usize = 120;
+ghost use Rattle.entries.specs.States.{state, entered};
+ghost use Rattle.listings.specs.Answers.{listed};
 
 // Whether tables and store are sound.
 pub fn sound(names: &[u8], values: &[u8], store: &[u8], e: Editor) -> bool
@@ -55,15 +39,15 @@ pub fn enter_sound(
     requires { ⌜ T (sound-state (state (now names) (now values) (now store) e)) ⌝ }
     ensures { λ r. ⌜ entered r (now (names .exit)) (now (values .exit)) (now (store .exit)) ≡ enter-sound (now (text .entry)) (state (now (names .entry)) (now (values .entry)) (now (store .entry)) e) ⌝ }
 {
-    if LONGEST_TEXT < text.len() {
-        return refused(2, 0, e);
-    }
     let mut line = [0u8; 255];
     let mut fresh = [0u8; 240];
-    enter_short(text, names, values, store, e, &mut line, &mut fresh)
+    let reading = read(text, names, e, &mut line, &mut fresh);
+    let place = lines::find_sound(store, e.used, asked(reading));
+    edit(reading, place, &line, &fresh, names, values, store, e)
 }
 
-// Enters a text: a line is put in or takes the place of the one with its number, a number alone deletes. A refusal, 1 to 9, changes nothing.
+// Enters a text: a line is put in or takes the place of the one with its number, a number alone deletes. A refusal, 1 to 9, changes nothing. The
+// text is read first, so that one walk over the store tests it and finds the place.
 pub fn enter(
     text: &[u8],
     names: &mut [u8],
@@ -73,8 +57,14 @@ pub fn enter(
 ) -> Entered
     ensures { λ r. ⌜ entered r (now (names .exit)) (now (values .exit)) (now (store .exit)) ≡ enter-call (now (text .entry)) (state (now (names .entry)) (now (values .entry)) (now (store .entry)) e) ⌝ }
 {
-    if sound(names, values, store, e) {
-        enter_sound(text, names, values, store, e)
+    if names::sound(names, e.name_bytes, e.name_count, values.len()) {
+        let mut line = [0u8; 255];
+        let mut fresh = [0u8; 240];
+        let reading = read(text, names, e, &mut line, &mut fresh);
+        match lines::find(store, e.used, asked(reading)) {
+            Found::Unsound => refused(1, 0, e),
+            Found::At(place) => edit(reading, place, &line, &fresh, names, values, store, e),
+        }
     } else {
         refused(1, 0, e)
     }
@@ -91,12 +81,12 @@ pub fn list(
 ) -> Listed
     ensures { λ r. ⌜ listed r (now (out .exit)) ≡ list-call line (state (now (names .entry)) (now (values .entry)) (now (store .entry)) e) (now (out .entry)) ⌝ }
 {
-    if sound(names, values, store, e) {
-        listings::list_stored(line, names, values, store, e, out)
-    } else {
-        Listed {
-            number: 1,
-            written: 0,
+    if names::sound(names, e.name_bytes, e.name_count, values.len()) {
+        match lines::find(store, e.used, line) {
+            Found::Unsound => not_listed(1),
+            Found::At(place) => list_stored(place, names, values, store, e, out),
         }
+    } else {
+        not_listed(1)
     }
 }

@@ -3,6 +3,7 @@ use buffers::front;
 use console::print;
 use console::print_hex;
 use console::print_number;
+use lines::Found;
 use lines::Removed;
 use lines::Stored;
 ghost use mathlib.Core.Path.{_≡_};
@@ -71,17 +72,18 @@ fn show_store(store: &[u8], used: usize) -> usize {
 fn put(store: &mut [u8], used: usize, line: &[u8]) -> usize {
     print(b"put\t");
     print_hex(line);
-    if lines::sound(store, used) {
-        match lines::put_in(store, used, line) {
+    match lines::find(store, used, lines::heads::number(line)) {
+        Found::Unsound => {
+            print(b"\tunsound\n");
+            used
+        }
+        Found::At(place) => match lines::put_in(store, used, place, line) {
             Stored::Done(after) => show_store(store, after),
             Stored::NoRoom => {
                 print(b"\tno room");
                 show_store(store, used)
             }
-        }
-    } else {
-        print(b"\tunsound\n");
-        used
+        },
     }
 }
 
@@ -89,17 +91,18 @@ fn put(store: &mut [u8], used: usize, line: &[u8]) -> usize {
 fn take(store: &mut [u8], used: usize, number: usize) -> usize {
     print(b"take\t");
     print_number(number);
-    if lines::sound(store, used) {
-        match lines::take_out(store, used, number) {
+    match lines::find(store, used, number) {
+        Found::Unsound => {
+            print(b"\tunsound\n");
+            used
+        }
+        Found::At(place) => match lines::take_out(store, used, place) {
             Removed::Done(after) => show_store(store, after),
             Removed::NotThere => {
                 print(b"\tnot there");
                 show_store(store, used)
             }
-        }
-    } else {
-        print(b"\tunsound\n");
-        used
+        },
     }
 }
 

@@ -19,9 +19,9 @@ use denote.Ref.{RefT}
 use denote.Slice.{sliceVal}
 use denote.Struct.Steps.{spelt}
 use denote.Struct.Laws as LL
-use Rattle.editor.specs.declared.Editor.{Editor}
-use Rattle.editor.proofs.Editor as T
-use Rattle.editor.proofs.Editor.Laws as T′
+use Rattle.entries.specs.declared.Editor.{Editor}
+use Rattle.entries.proofs.Editor as T
+use Rattle.entries.proofs.Editor.Laws as T′
 
 abbrev pub Slice : Type 0
 Slice = RefT (List ℕ)

@@ -2,8 +2,8 @@
 use Prim.Native.Nat.{ℕ}
 use mathlib.Core.List.{List}
 use Rattle.paper.specs.Calls.{Entered as Outcome}
-use Rattle.editor.specs.States.{state}
-use Rattle.editor.specs.declared.Editor.{Editor}
+use Rattle.entries.specs.States.{state}
+use Rattle.entries.specs.declared.Editor.{Editor}
 use Rattle.lent.specs.declared.Answer.{Answer}
 
 -- what a call answered, with what it left in names, values, store and the record

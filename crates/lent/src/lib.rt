@@ -1,13 +1,14 @@
 // The calls with the editor's record lent: a text entered, where the record is updated, and a stored line listed. Beside each a function that
 // lends a copy of its own, so that its callers need no lent record.
-use editor::Editor;
-use editor::Entered;
-use editor::Listed;
 use editor::enter;
 use editor::list;
+use entries::Editor;
+use entries::Entered;
+use listings::Listed;
 ghost use mathlib.Core.Path.{_≡_};
 ghost use Rattle.paper.specs.Calls.{enter as enter-call, list as list-call};
-ghost use Rattle.editor.specs.States.{state, entered, listed};
+ghost use Rattle.entries.specs.States.{state, entered};
+ghost use Rattle.listings.specs.Answers.{listed};
 ghost use Rattle.lent.specs.Answers.{answered};
 
 // What entering a text over a lent record answers: document 01's number, the place where one applies, and how many names were added.

@@ -3,10 +3,12 @@ use Prim.Native.Nat.{ℕ}
 use mathlib.Core.Bool.{Bool}
 use mathlib.Core.List.{List, []}
 use lib.Dec.{ltb}
-use lib.ListN.{length}
+use lib.ListN.{length, take}
 use Rattle.paper.specs.Bytes.{pick, joined}
-use Rattle.paper.specs.Store.{room, lines-below, stored?, line-at, take-out, overwritten}
+use Rattle.paper.specs.Store.{room, sound-store, lines-in, lines-below, stored?, line-at, take-out, overwritten}
 use Rattle.lines.specs.declared.Place.{Place}
+use Rattle.lines.specs.declared.Found.{Found}
+use Rattle.lines.specs.declared.Found.the-variants.{Unsound, At}
 use Rattle.lines.specs.declared.Stored.{Stored}
 use Rattle.lines.specs.declared.Stored.the-variants.{Done, NoRoom}
 use Rattle.lines.specs.declared.Removed.{Removed}
@@ -14,7 +16,16 @@ use Rattle.lines.specs.declared.Removed.the-variants.{Done as Gone, NotT
 
 -- where the line with a number begins, or would begin; and its size, 0 if it is not stored
 unfoldable pub place-of : ℕ → List (List ℕ) → Place
-place-of n ls = record { at = length (joined (lines-below n ls)); size = length (pick (stored? n ls) (line-at n ls) []) }
+place-of n ls = record { number = n; at = length (joined (lines-below n ls)); size = length (pick (stored? n ls) (line-at n ls) []) }
+
+-- that place in a store that is sound
+unfoldable pub found-answer : List ℕ → ℕ → ℕ → Found
+found-answer store used n = let at = At (place-of n (lines-in (take used store))) in pick (sound-store store used) at Unsound
+
+-- the number of document 01: 1 of a store that is not
+unfoldable pub found-number : Found → ℕ
+found-number Unsound = 1
+found-number (At p) = 0
 
 -- ---- putting a line in
 

@@ -9,12 +9,13 @@ use lib.ListN.{length, take, drop, take-append-drop}
 use lib.Seq.{take-append-seam, drop-append-seam}
 use Rattle.paper.specs.Bytes.{pick, every, joined}
 use Rattle.paper.specs.Store.{lines-in, whole-line?, sound-store, lines-below, lines-not-below, first-is?, stored?, first-line, line-at, lines-above, take-out}
-use Rattle.laws.specs.Tests.{and-left}
+use Rattle.laws.specs.Tests.{and-left, as-T}
 use Rattle.laws.specs.Lines.{every-second, both-sides, used-of, parts-of, sizes-of, old-line}
 use Rattle.lines.specs.declared.Place.{Place}
+use Rattle.lines.specs.declared.Found.the-variants.{Unsound, At}
 use Rattle.lines.specs.declared.Stored.the-variants.{Done, NoRoom}
 use Rattle.lines.specs.declared.Removed.the-variants.{Done as Gone, NotThere}
-use Rattle.lines.specs.Answers.{place-of, too-long, stored-answer, stored-number, stored-used, removed-answer, removed-number, removed-used}
+use Rattle.lines.specs.Answers.{place-of, found-answer, found-number, too-long, stored-answer, stored-number, stored-used, removed-answer, removed-number, removed-used}
 
 -- ---- the place of a number
 
@@ -69,6 +70,33 @@ module _ (store : List ℕ) (used n : ℕ) (sound : T (sound-store store used)) 
       ∙ take-append-seam o (a ++ drop used store)
       ∙ ap (λ (x : Bool). pick x (line-at n ls) []) (there p e h)
 
+-- the place of a number is that of its own
+pub own-place : (n : ℕ) (ls : List (List ℕ)) (p : Place) → p ≡ place-of n ls → p ≡ place-of (p .number) ls
+unfolding place-of
+own-place n ls p e = e ∙ ap (λ (k : ℕ). place-of k ls) (sym (ap (λ (q : Place). q .number) e))
+
+-- ---- the answer to a search
+
+at-go : (b : Bool) (q p : Place) → pick b (At q) Unsound ≡ At p → (b ≡ true) × (p ≡ q)
+at-go true q p e = (refl, (cc))
+at-go false q p e = let z : _≡_ {A = ℕ} 0 1 = cc in absurd (omega arith)
+
+-- a place was found: the store is sound
+pub found-sound : (store : List ℕ) (used n : ℕ) (p : Place) → found-answer store used n ≡ At p → (T (sound-store store used)) × (p ≡ place-of n (lines-in (take used store)))
+unfolding found-answer
+found-sound store used n p e =
+    let g = at-go (sound-store store used) (place-of n (lines-in (take used store))) p e in
+    (as-T (sound-store store used) (g .0), g .1)
+
+none-go : (b : Bool) (q : Place) → pick b (At q) Unsound ≡ Unsound → b ≡ false
+none-go true q e = let z : _≡_ {A = ℕ} 0 1 = cc in absurd (omega arith)
+none-go false q e = refl
+
+-- none was: it is not
+pub found-unsound : (store : List ℕ) (used n : ℕ) → found-answer store used n ≡ Unsound → sound-store store used ≡ false
+unfolding found-answer
+found-unsound store used n e = none-go (sound-store store used) (place-of n (lines-in (take used store))) e
+
 -- ---- answers, as facts about the lines that the store would hold
 
 done-go : (b : Bool) (m n : ℕ) → pick b NoRoom (Done m) ≡ Done n → (b ≡ false) × (n ≡ m)
@@ -108,6 +136,16 @@ unfolding removed-answer
 removed-not-there n ls e = not-there-go (stored? n ls) (length (joined (take-out n ls))) e
 
 -- ---- answers, as the numbers and counts of document 01
+
+found-number-go : (b : Bool) (p : Place) → found-number (pick b (At p) Unsound) ≡ pick b 0 1
+unfolding found-number
+found-number-go true p = refl
+found-number-go false p = refl
+
+-- 1 if the store is not sound
+pub found-number-is : (store : List ℕ) (used n : ℕ) → found-number (found-answer store used n) ≡ pick (sound-store store used) 0 1
+unfolding found-answer
+found-number-is store used n = found-number-go (sound-store store used) (place-of n (lines-in (take used store)))
 
 number-go : (b : Bool) (m : ℕ) → stored-number (pick b NoRoom (Done m)) ≡ pick b 8 0
 unfolding stored-number

@@ -4,7 +4,7 @@ ghost use lib.ListN.{getD};
 ghost use Rattle.paper.specs.Line.{line-number};
 
 // The number of the line that some bytes begin with.
-pub(crate) fn number(s: &[u8]) -> usize
+pub fn number(s: &[u8]) -> usize
     ensures { λ r. ⌜ r ≡ line-number (now (s .entry)) ⌝ }
 {
     let low = buffers::byte_at(s, 0) as usize;

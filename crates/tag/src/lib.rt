@@ -1,12 +1,13 @@
 // The two calls for programs in C, over numbers and lent slices, as include/virgontey.h declares them.
-use editor::Editor;
-use editor::Entered;
-use editor::Listed;
+use entries::Editor;
+use entries::Entered;
+use listings::Listed;
 ghost use mathlib.Core.Path.{_≡_};
 ghost use mathlib.Core.List.{[], _∷_};
 ghost use lib.ListN.{getD, set};
 ghost use lib.Seq.{sets};
-ghost use Rattle.editor.specs.States.{entered, listed};
+ghost use Rattle.entries.specs.States.{entered};
+ghost use Rattle.listings.specs.Answers.{listed};
 ghost use Rattle.tag.specs.Lent.{editor-of, enter-lent, list-lent, Leaves, Lists};
 
 // How many counts a record has.

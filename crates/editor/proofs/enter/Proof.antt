@@ -1,6 +1,9 @@
-use Rattle.editor.specs.States.{state}
-use Rattle.editor.proofs.ListLaws.{sound-passed}
-use Rattle.editor.proofs.EnterLaws.{refusal-made, enter-so, enter-refused}
+-- `editor::enter` meets its contract.
+use mathlib.Core.Path.{ap, _∙_}
+use native.Mathlib.Omega.{arith}
+use Rattle.lines.specs.Answers.{found-answer}
+use Rattle.entries.specs.States.{state}
+use Rattle.editor.proofs.TestLaws.{unsound-tables, names-within, sound-there, unsound-store, enter-so, enter-refused}
 use borrow.Author.Needs.{needs}
 use Rattle.editor.proofs.enter.Statement.{statement}
 use Rattle.editor.proofs.enter.Tie as tie
@@ -8,11 +11,46 @@ use Rattle.editor.proofs.enter.Tie as tie
 sound-requires : tie.Need-sound-requires
 sound-requires c κs = search needs
 
-enter-sound-requires : tie.Need-enter-sound-requires
-enter-sound-requires c κs = sound-passed (state (c .before .before .before .before .before .before .before .before .before .before .before .before .args .names .now) (c .before .before .before .before .before .before .before .before .before .before .before .before .args .values .now) (c .before .before .before .before .before .before .before .before .before .before .before .before .args .store .now) (c .before .before .before .before .before .before .before .before .before .before .before .before .args .e)) _ (c .before .before .before .before .sound .ensures) (c .before .before .before .if1 .taken)
+slice-aggregate-read : tie.Need-slice-aggregate-read
+slice-aggregate-read c = search needs
+
+slice-aggregate-read-2 : tie.Need-slice-aggregate-read-2
+slice-aggregate-read-2 c = search needs
+
+read-requires : tie.Need-read-requires
+read-requires c κs =
+    let args = c .before .before .before .before .before .before .before .before .before .before .args in
+    (names-within (state (args .names .now) (args .values .now) (args .store .now) (args .e)) _ (c .before .before .before .before .sound .ensures) (c .before .before .before .if1 .taken), omega arith, omega arith)
+
+asked-requires : tie.Need-asked-requires
+asked-requires c κs = search needs
+
+find-requires : tie.Need-find-requires
+find-requires c κs = search needs
+
+enum-told : tie.Need-enum-told
+enum-told c = search needs
 
 refused-requires : tie.Need-refused-requires
 refused-requires c κs = search needs
+
+enum-known-place : tie.Need-enum-known-place
+enum-known-place c = search needs
+
+slice-aggregate-edit : tie.Need-slice-aggregate-edit
+slice-aggregate-edit c = search needs
+
+slice-aggregate-edit-2 : tie.Need-slice-aggregate-edit-2
+slice-aggregate-edit-2 c = search needs
+
+edit-requires : tie.Need-edit-requires
+edit-requires c κs =
+    let args = c .before .before .before .before .before .before .before .before .before .before .before .before .before .before .before .before .before .before .before .before .before .before .before .before .args in
+    let there = sound-there (state (args .names .now) (args .values .now) (args .store .now) (args .e)) _ (c .before .before .before .before .before .before .before .before .before .before .before .before .before .before .before .before .before .before .sound .ensures) (c .before .before .before .before .before .before .before .before .before .before .before .before .before .before .before .before .before .if1 .taken) _ _ (c .before .before .before .before .before .before .before .before .find .ensures ∙ ap (found-answer (args .store .now) (args .e .used)) (c .before .before .before .before .before .before .before .before .before .asked .ensures)) (c .before .before .before .before .before .before .place .given .0 .0) (c .before .before .before .before .before .before .place .given .1) in
+    (there .0, there .1, c .before .before .before .before .before .before .before .before .before .before .before .before .before .read .ensures .ready (args .values .now) (args .store .now))
+
+refused-requires-2 : tie.Need-refused-requires-2
+refused-requires-2 c κs = search needs
 
 same-length : tie.Need-same-length
 same-length c = search needs
@@ -20,11 +58,13 @@ same-length c = search needs
 same-length-2 : tie.Need-same-length-2
 same-length-2 c = search needs
 
+returns : tie.Need-returns
+returns c =
+    let args = c .before .before .before .before .before .before .before .before .before .before .before .before .before .before .before .before .before .before .before .args in
+    enter-refused (args .names .now) (args .values .now) (args .store .now) (args .e) (args .text .now) _ (unsound-store (state (args .names .now) (args .values .now) (args .store .now) (args .e)) _ (c .before .before .before .before .before .before .before .before .before .before .before .before .before .sound .ensures) (c .before .before .before .before .before .before .before .before .before .before .before .before .if1 .taken) _ _ (c .before .before .before .find .ensures ∙ ap (found-answer (args .store .now) (args .e .used)) (c .before .before .before .before .asked .ensures)) (c .before .enum-told .given .1)) (c .refused .ensures)
+
 same-length-3 : tie.Need-same-length-3
 same-length-3 c = search needs
-
-returns : tie.Need-returns
-returns c = enter-so (state (c .before .before .before .before .before .before .before .before .before .before .before .before .before .before .before .before .before .before .before .args .names .now) (c .before .before .before .before .before .before .before .before .before .before .before .before .before .before .before .before .before .before .before .args .values .now) (c .before .before .before .before .before .before .before .before .before .before .before .before .before .before .before .before .before .before .before .args .store .now) (c .before .before .before .before .before .before .before .before .before .before .before .before .before .before .before .before .before .before .before .args .e)) (c .before .before .before .before .before .before .before .before .before .before .before .before .before .before .before .before .before .before .before .args .text .now) _ _ (c .before .before .before .before .before .before .before .before .before .before .before .sound .ensures) (c .before .before .before .before .before .before .before .before .before .before .if1 .taken) (c .before .before .before .before .before .before .enter-sound .ensures)
 
 same-length-4 : tie.Need-same-length-4
 same-length-4 c = search needs
@@ -32,24 +72,43 @@ same-length-4 c = search needs
 same-length-5 : tie.Need-same-length-5
 same-length-5 c = search needs
 
+returns-2 : tie.Need-returns-2
+returns-2 c =
+    let args = c .before .before .before .before .before .before .before .before .before .before .before .before .before .before .before .before .before .before .before .before .before .before .before .before .before .before .before .before .before .before .before .args in
+    let there = sound-there (state (args .names .now) (args .values .now) (args .store .now) (args .e)) _ (c .before .before .before .before .before .before .before .before .before .before .before .before .before .before .before .before .before .before .before .before .before .before .before .before .before .sound .ensures) (c .before .before .before .before .before .before .before .before .before .before .before .before .before .before .before .before .before .before .before .before .before .before .before .before .if1 .taken) _ _ (c .before .before .before .before .before .before .before .before .before .before .before .before .before .before .before .find .ensures ∙ ap (found-answer (args .store .now) (args .e .used)) (c .before .before .before .before .before .before .before .before .before .before .before .before .before .before .before .before .asked .ensures)) (c .before .before .before .before .before .before .before .before .before .before .before .before .before .place .given .0 .0) (c .before .before .before .before .before .before .before .before .before .before .before .before .before .place .given .1) in
+    enter-so (state (args .names .now) (args .values .now) (args .store .now) (args .e)) (args .text .now) _ (there .0) (c .before .before .before .before .before .before .before .before .before .before .before .before .before .before .before .before .before .before .before .before .read .ensures .enters (args .values .now) (args .store .now) _ (c .before .before .before .before .before .before .edit .ensures))
+
 same-length-6 : tie.Need-same-length-6
 same-length-6 c = search needs
 
-returns-2 : tie.Need-returns-2
-returns-2 c = refusal-made (c .before .before .before .before .before .before .before .before .before .before .args .names .now) (c .before .before .before .before .before .before .before .before .before .before .args .values .now) (c .before .before .before .before .before .before .before .before .before .before .args .store .now) (c .before .before .before .before .before .before .before .before .before .before .args .e) 1 0 _ _ (c .refused .ensures) (enter-refused (state (c .before .before .before .before .before .before .before .before .before .before .args .names .now) (c .before .before .before .before .before .before .before .before .before .before .args .values .now) (c .before .before .before .before .before .before .before .before .before .before .args .store .now) (c .before .before .before .before .before .before .before .before .before .before .args .e)) (c .before .before .before .before .before .before .before .before .before .before .args .text .now) _ (c .before .before .sound .ensures) (c .before .if1 .left))
+returns-3 : tie.Need-returns-3
+returns-3 c =
+    let args = c .before .before .before .before .before .before .before .before .args in
+    enter-refused (args .names .now) (args .values .now) (args .store .now) (args .e) (args .text .now) _ (unsound-tables (state (args .names .now) (args .values .now) (args .store .now) (args .e)) _ (c .before .before .sound .ensures) (c .before .if1 .left)) (c .refused2 .ensures)
 
 pub enter-spec : {M : Type 1} → statement M
 enter-spec =
     tie.close
     (tie.spec
     sound-requires
-    enter-sound-requires
+    slice-aggregate-read
+    slice-aggregate-read-2
+    read-requires
+    asked-requires
+    find-requires
+    enum-told
     refused-requires
+    enum-known-place
+    slice-aggregate-edit
+    slice-aggregate-edit-2
+    edit-requires
+    refused-requires-2
     same-length
     same-length-2
-    same-length-3
     returns
+    same-length-3
     same-length-4
     same-length-5
+    returns-2
     same-length-6
-    returns-2)
+    returns-3)

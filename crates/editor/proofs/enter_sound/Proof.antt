@@ -1,24 +1,46 @@
+-- `editor::enter_sound` meets its contract.
+use mathlib.Core.Path.{ap, _∙_}
 use native.Mathlib.Omega.{arith}
-use Rattle.editor.specs.States.{state}
-use Rattle.editor.proofs.EnterLaws.{refusal-made, text-long, text-short}
+use Prim.Native.Nat.{ℕ}
+use Rattle.paper.specs.Calls.{lines-of}
+use Rattle.lines.specs.Answers.{place-of}
+use Rattle.entries.specs.States.{state}
+use Rattle.entries.specs.Sound.{table-sound, store-sound}
 use borrow.Author.Needs.{needs}
 use Rattle.editor.proofs.enter_sound.Statement.{statement}
 use Rattle.editor.proofs.enter_sound.Tie as tie
 
-refused-requires : tie.Need-refused-requires
-refused-requires c κs = search needs
+slice-aggregate-read : tie.Need-slice-aggregate-read
+slice-aggregate-read c = search needs
 
-returns : tie.Need-returns
-returns c = refusal-made (c .before .before .before .before .before .before .args .names .now) (c .before .before .before .before .before .before .args .values .now) (c .before .before .before .before .before .before .args .store .now) (c .before .before .before .before .before .before .args .e) 2 0 _ _ (c .refused .ensures) (text-long (state (c .before .before .before .before .before .before .args .names .now) (c .before .before .before .before .before .before .args .values .now) (c .before .before .before .before .before .before .args .store .now) (c .before .before .before .before .before .before .args .e)) (c .before .before .before .before .before .before .args .text .now) (c .before .if1 .taken))
+slice-aggregate-read-2 : tie.Need-slice-aggregate-read-2
+slice-aggregate-read-2 c = search needs
 
-slice-aggregate-enter-short : tie.Need-slice-aggregate-enter-short
-slice-aggregate-enter-short c = search needs
+read-requires : tie.Need-read-requires
+read-requires c κs =
+    let args = c .before .before .before .before .before .before .before .args in
+    (table-sound (state (args .names .now) (args .values .now) (args .store .now) (args .e)) (c .before .before .before .before .before .before .before .pre) .within, omega arith, omega arith)
 
-slice-aggregate-enter-short-2 : tie.Need-slice-aggregate-enter-short-2
-slice-aggregate-enter-short-2 c = search needs
+asked-requires : tie.Need-asked-requires
+asked-requires c κs = search needs
 
-enter-short-requires : tie.Need-enter-short-requires
-enter-short-requires c κs = ((c .before .before .before .before .before .before .before .before .before .before .pre), omega arith, omega arith, omega arith)
+find-sound-requires : tie.Need-find-sound-requires
+find-sound-requires c κs =
+    let args = c .before .before .before .before .before .before .before .before .before .before .before .before .args in
+    store-sound (state (args .names .now) (args .values .now) (args .store .now) (args .e)) (c .before .before .before .before .before .before .before .before .before .before .before .before .pre)
+
+slice-aggregate-edit : tie.Need-slice-aggregate-edit
+slice-aggregate-edit c = search needs
+
+slice-aggregate-edit-2 : tie.Need-slice-aggregate-edit-2
+slice-aggregate-edit-2 c = search needs
+
+edit-requires : tie.Need-edit-requires
+unfolding lines-of
+edit-requires c κs =
+    let args = c .before .before .before .before .before .before .before .before .before .before .before .before .before .before .before .before .before .before .args in
+    let there = c .before .before .before .before .before .find-sound .ensures ∙ ap (λ (n : ℕ). place-of n (lines-of (state (args .names .now) (args .values .now) (args .store .now) (args .e)))) (c .before .before .before .before .before .before .asked .ensures) in
+    (c .before .before .before .before .before .before .before .before .before .before .before .before .before .before .before .before .before .before .pre, there, c .before .before .before .before .before .before .before .before .before .before .read .ensures .ready (args .values .now) (args .store .now))
 
 same-length : tie.Need-same-length
 same-length c = search needs
@@ -29,19 +51,24 @@ same-length-2 c = search needs
 same-length-3 : tie.Need-same-length-3
 same-length-3 c = search needs
 
-returns-2 : tie.Need-returns-2
-returns-2 c = text-short (state (c .before .before .before .before .before .before .before .before .before .before .before .before .before .before .before .before .before .before .before .args .names .now) (c .before .before .before .before .before .before .before .before .before .before .before .before .before .before .before .before .before .before .before .args .values .now) (c .before .before .before .before .before .before .before .before .before .before .before .before .before .before .before .before .before .before .before .args .store .now) (c .before .before .before .before .before .before .before .before .before .before .before .before .before .before .before .before .before .before .before .args .e)) (c .before .before .before .before .before .before .before .before .before .before .before .before .before .before .before .before .before .before .before .args .text .now) _ (omega arith) (c .before .before .before .before .before .before .before .before .enter-short .ensures)
+returns : tie.Need-returns
+returns c =
+    let args = c .before .before .before .before .before .before .before .before .before .before .before .before .before .before .before .before .before .before .before .before .before .before .before .before .before .args in
+    c .before .before .before .before .before .before .before .before .before .before .before .before .before .before .before .before .before .read .ensures .enters (args .values .now) (args .store .now) _ (c .before .before .before .before .before .before .edit .ensures)
 
 pub enter-sound-spec : {M : Type 1} → statement M
 enter-sound-spec =
     tie.close
     (tie.spec
-    refused-requires
-    returns
-    slice-aggregate-enter-short
-    slice-aggregate-enter-short-2
-    enter-short-requires
+    slice-aggregate-read
+    slice-aggregate-read-2
+    read-requires
+    asked-requires
+    find-sound-requires
+    slice-aggregate-edit
+    slice-aggregate-edit-2
+    edit-requires
     same-length
     same-length-2
     same-length-3
-    returns-2)
+    returns)

@@ -1,5 +1,7 @@
-use Rattle.editor.specs.States.{state}
-use Rattle.editor.proofs.ListLaws.{sound-passed, list-so, list-refused}
+-- `editor::list` meets its contract.
+use Rattle.entries.specs.States.{state}
+use Rattle.lines.specs.Places.{own-place}
+use Rattle.editor.proofs.TestLaws.{unsound-tables, sound-there, unsound-store, list-so, list-refused}
 use borrow.Author.Needs.{needs}
 use Rattle.editor.proofs.list.Statement.{statement}
 use Rattle.editor.proofs.list.Tie as tie
@@ -7,17 +9,58 @@ use Rattle.editor.proofs.list.Tie as tie
 sound-requires : tie.Need-sound-requires
 sound-requires c κs = search needs
 
+find-requires : tie.Need-find-requires
+find-requires c κs = search needs
+
+enum-told : tie.Need-enum-told
+enum-told c = search needs
+
+not-listed-requires : tie.Need-not-listed-requires
+not-listed-requires c κs = search needs
+
+enum-known-place : tie.Need-enum-known-place
+enum-known-place c = search needs
+
 list-stored-requires : tie.Need-list-stored-requires
-list-stored-requires c κs = sound-passed (state (c .before .before .before .before .before .before .before .args .names .now) (c .before .before .before .before .before .before .before .args .values .now) (c .before .before .before .before .before .before .before .args .store .now) (c .before .before .before .before .before .before .before .args .e)) _ (c .before .before .sound .ensures) (c .before .if1 .taken)
+list-stored-requires c κs =
+    let args = c .before .before .before .before .before .before .before .before .before .before .before .args in
+    let there = sound-there (state (args .names .now) (args .values .now) (args .store .now) (args .e)) _ (c .before .before .before .before .before .before .sound .ensures) (c .before .before .before .before .before .if1 .taken) (args .line) _ (c .before .before .before .before .find .ensures) (c .before .before .place .given .0 .0) (c .before .before .place .given .1) in
+    (there .0, own-place (args .line) _ _ (there .1))
+
+not-listed-requires-2 : tie.Need-not-listed-requires-2
+not-listed-requires-2 c κs = search needs
+
+returns : tie.Need-returns
+returns c =
+    let args = c .before .before .before .before .before .before .before .before .before .before .args in
+    list-refused (state (args .names .now) (args .values .now) (args .store .now) (args .e)) (args .line) (args .out .now) _ (unsound-store (state (args .names .now) (args .values .now) (args .store .now) (args .e)) _ (c .before .before .before .before .before .sound .ensures) (c .before .before .before .before .if1 .taken) (args .line) _ (c .before .before .before .find .ensures) (c .before .enum-told .given .1)) (c .not-listed .ensures)
 
 same-length : tie.Need-same-length
 same-length c = search needs
 
-returns : tie.Need-returns
-returns c = list-so (state (c .before .before .before .before .before .before .before .before .before .before .args .names .now) (c .before .before .before .before .before .before .before .before .before .before .args .values .now) (c .before .before .before .before .before .before .before .before .before .before .args .store .now) (c .before .before .before .before .before .before .before .before .before .before .args .e)) (c .before .before .before .before .before .before .before .before .before .before .args .line) (c .before .before .before .before .before .before .before .before .before .before .args .out .now) _ _ (c .before .before .before .before .before .sound .ensures) (c .before .before .before .before .if1 .taken) (c .before .before .list-stored .ensures)
-
 returns-2 : tie.Need-returns-2
-returns-2 c = list-refused (state (c .before .before .before .before .before .before .args .names .now) (c .before .before .before .before .before .before .args .values .now) (c .before .before .before .before .before .before .args .store .now) (c .before .before .before .before .before .before .args .e)) (c .before .before .before .before .before .before .args .line) (c .before .before .before .before .before .before .args .out .now) _ (c .before .sound .ensures) (c .if1 .left)
+returns-2 c =
+    let args = c .before .before .before .before .before .before .before .before .before .before .before .before .before .before .args in
+    let there = sound-there (state (args .names .now) (args .values .now) (args .store .now) (args .e)) _ (c .before .before .before .before .before .before .before .before .before .sound .ensures) (c .before .before .before .before .before .before .before .before .if1 .taken) (args .line) _ (c .before .before .before .before .before .before .before .find .ensures) (c .before .before .before .before .before .place .given .0 .0) (c .before .before .before .before .before .place .given .1) in
+    list-so (state (args .names .now) (args .values .now) (args .store .now) (args .e)) (args .line) _ (args .out .now) _ (there .0) (there .1) (c .before .before .list-stored .ensures)
+
+returns-3 : tie.Need-returns-3
+returns-3 c =
+    let args = c .before .before .before .before .before .before .before .args in
+    list-refused (state (args .names .now) (args .values .now) (args .store .now) (args .e)) (args .line) (args .out .now) _ (unsound-tables (state (args .names .now) (args .values .now) (args .store .now) (args .e)) _ (c .before .before .sound .ensures) (c .before .if1 .left)) (c .not-listed2 .ensures)
 
 pub list-spec : {M : Type 1} → statement M
-list-spec = tie.close (tie.spec sound-requires list-stored-requires same-length returns returns-2)
+list-spec =
+    tie.close
+    (tie.spec
+    sound-requires
+    find-requires
+    enum-told
+    not-listed-requires
+    enum-known-place
+    list-stored-requires
+    not-listed-requires-2
+    returns
+    same-length
+    returns-2
+    returns-3)

@@ -42,15 +42,15 @@ use denote.Triple.Table.{entered as entry, cited}
 use denote.Triple.Walked.{says, Stays, stay-ref, stay-dropped, gave-slice, walkOf, AllGo, goes-ref, goes-dropped, goes-gave-slice, Walks, ends-at, walked, walk-meets}
 use denote.Exit.{yes}
 use Rattle.paper.specs.Calls.{enter as enter-call}
-use Rattle.editor.specs.States.{state, entered}
-use Rattle.editor.specs.declared.Editor.{Editor}
-use Rattle.editor.specs.declared.Entered.{Entered}
+use Rattle.entries.specs.States.{state, entered}
+use Rattle.entries.specs.declared.Editor.{Editor}
+use Rattle.entries.specs.declared.Entered.{Entered}
 use Rattle.lent.specs.declared.Answer.{Answer}
 use Rattle.lent.proofs.Shared.{Slice, val}
-use Rattle.editor.proofs.Editor as T
-use Rattle.editor.proofs.Editor.Laws as T′
-use Rattle.editor.proofs.Entered as E
-use Rattle.editor.proofs.Entered.Laws as E′
+use Rattle.entries.proofs.Editor as T
+use Rattle.entries.proofs.Editor.Laws as T′
+use Rattle.entries.proofs.Entered as E
+use Rattle.entries.proofs.Entered.Laws as E′
 use Rattle.lent.proofs.Answer as R
 use Rattle.lent.proofs.Answer.Laws as R′
 use Rattle.editor.proofs.enter as enter

@@ -43,14 +43,15 @@ use denote.Triple.Table.{entered as entry, cited}
 use denote.Triple.Walked.{says, Stays, stay-dropped, gave-slice, walkOf, AllGo, goes-dropped, goes-gave-slice, Walks, ends-at, walked, walk-meets}
 use denote.Exit.{yes}
 use Rattle.paper.specs.Calls.{list as list-call}
-use Rattle.editor.specs.States.{state, listed}
-use Rattle.editor.specs.declared.Editor.{Editor}
-use Rattle.editor.specs.declared.Listed.{Listed}
+use Rattle.entries.specs.States.{state}
+use Rattle.listings.specs.Answers.{listed}
+use Rattle.entries.specs.declared.Editor.{Editor}
+use Rattle.listings.specs.declared.Listed.{Listed}
 use Rattle.lent.proofs.Shared.{Slice, val, lies-in, lies-out}
-use Rattle.editor.proofs.Editor as T
-use Rattle.editor.proofs.Editor.Laws as T′
-use Rattle.editor.proofs.Listed as R
-use Rattle.editor.proofs.Listed.Laws as R′
+use Rattle.entries.proofs.Editor as T
+use Rattle.entries.proofs.Editor.Laws as T′
+use Rattle.listings.proofs.Listed as R
+use Rattle.listings.proofs.Listed.Laws as R′
 use Rattle.lent.proofs.list_lent as lent
 use Rattle.lent.proofs.list_lent.Symbol as lent-def
 use Rattle.lent.proofs.list_lent.Symbol.{name as #lent·list-lent}

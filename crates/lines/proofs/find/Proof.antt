@@ -1,94 +1,79 @@
 -- `lines::find` meets its contract.
-use mathlib.Core.Path.{refl, sym, ap, _∙_}
-use mathlib.Core.List.{List}
-use Prim.Native.Nat.{ℕ}
+use mathlib.Core.Path.{refl, sym}
 use native.Mathlib.Omega.{arith}
-use lib.ListN.{take, drop, getD, length-drop}
+use lib.ListN.{take}
 use lib.Seq.{length-take-le}
-use Rattle.paper.specs.Line.{line-number}
-use Rattle.laws.specs.Lines.{used-of}
-use Rattle.lines.proofs.Walk.{past}
-use Rattle.lines.proofs.Search.{here, found, old-end, old-same, old-other, place-is}
+use Rattle.laws.specs.Lines.{room-lent}
+use Rattle.lines.proofs.Walk.{past, walked-within}
+use Rattle.lines.proofs.Search.{lines-sound, found-over, test-passed, found-at, found-unsound}
 use borrow.Author.Needs.{needs}
 use Rattle.lines.proofs.find.Statement.{statement}
 use Rattle.lines.proofs.find.Tie as tie
 
-first-not-below-requires : tie.Need-first-not-below-requires
-first-not-below-requires c κs = search needs
+room-of-requires : tie.Need-room-of-requires
+room-of-requires c κs = search needs
 
 returns : tie.Need-returns
-returns c =
-    let args = c .before .before .before .args in
-    let first-not-below = c .before .first-not-below in
-    let u = used-of (args .store .now) (args .used) (c .before .before .before .pre) in
-    let bytes = take (args .used) (args .store .now) in
-    let size = length-take-le (args .used) (args .store .now) (u .lent) in
-    let lines = found (args .number) bytes (first-not-below .result) (u .whole) (first-not-below .ensures) in
-    place-is (args .number) bytes (first-not-below .result) 0 (first-not-below .ensures) (sym (old-end (args .number) bytes (first-not-below .result) lines (omega (arith, size))))
+returns c = found-over (c .before .before .before .args .store .now) (c .before .before .before .args .used) (c .before .before .before .args .number) (omega (arith, c .before .room-of .ensures))
 
 slice-aggregate-lines : tie.Need-slice-aggregate-lines
 slice-aggregate-lines c =
     let args = c .before .before .before .before .args in
-    let u = used-of (args .store .now) (args .used) (c .before .before .before .before .pre) in
-    sym (length-take-le (args .used) (args .store .now) (u .lent))
+    sym (length-take-le (args .used) (args .store .now) (omega (arith, c .before .before .room-of .ensures, room-lent (args .store .now))))
 
-sub-rest : tie.Need-sub-rest
-sub-rest c =
-    let args = c .before .before .before .before .args in
-    let u = used-of (args .store .now) (args .used) (c .before .before .before .before .pre) in
-    omega (arith, length-take-le (args .used) (args .store .now) (u .lent))
+first-not-below-requires : tie.Need-first-not-below-requires
+first-not-below-requires c κs = search needs
 
-part-rest-start : tie.Need-part-rest-start
-part-rest-start c =
-    let args = c .before .before .before .before .args in
-    let u = used-of (args .store .now) (args .used) (c .before .before .before .before .pre) in
-    omega (arith, length-take-le (args .used) (args .store .now) (u .lent))
+sub-sound-from : tie.Need-sub-sound-from
+sub-sound-from c =
+    let args = c .before .before .before .before .before .args in
+    omega (arith, c .first-not-below .ensures, walked-within 0 (args .number) (take (args .used) (args .store .now)))
 
-part-rest-end : tie.Need-part-rest-end
-part-rest-end c = search needs
+part-sound-from-start : tie.Need-part-sound-from-start
+part-sound-from-start c =
+    let args = c .before .before .before .before .before .args in
+    omega (arith, c .first-not-below .ensures, walked-within 0 (args .number) (take (args .used) (args .store .now)))
 
-number-requires : tie.Need-number-requires
-number-requires c κs = search needs
+part-sound-from-end : tie.Need-part-sound-from-end
+part-sound-from-end c = search needs
 
-size-requires : tie.Need-size-requires
-size-requires c κs = search needs
+sound-from-requires : tie.Need-sound-from-requires
+sound-from-requires c κs = search needs
+
+place-at-requires : tie.Need-place-at-requires
+place-at-requires c κs =
+    let args = c .before .before .before .before .before .before .before .before .args in
+    let at = c .before .before .before .first-not-below in
+    let rest = past (take (args .used) (args .store .now)) (at .result) (at .result) refl in
+    let sound = test-passed (args .store .now) (args .used) (args .number) (omega (arith, c .before .before .before .before .before .before .room-of .ensures)) (at .result) (at .ensures) _ rest _ (c .before .sound-from .ensures) (c .if2 .taken) in
+    (lines-sound (args .store .now) (args .used) sound, at .ensures)
 
 returns-2 : tie.Need-returns-2
 returns-2 c =
-    let args = c .before .before .before .before .before .before .before .before .args in
-    let first-not-below = c .before .before .before .before .before .before .first-not-below in
-    let head-size = c .size in
-    let u = used-of (args .store .now) (args .used) (c .before .before .before .before .before .before .before .before .pre) in
-    let bytes = take (args .used) (args .store .now) in
-    let size = length-take-le (args .used) (args .store .now) (u .lent) in
-    let lines = found (args .number) bytes (first-not-below .result) (u .whole) (first-not-below .ensures) in
-    let line = here (drop (first-not-below .result) bytes) (omega (arith, length-drop (first-not-below .result) bytes, size)) (lines .whole) in
-    let rest = past bytes (first-not-below .result) (first-not-below .result) refl in
-    place-is (args .number) bytes (first-not-below .result) (head-size .result) (first-not-below .ensures) (head-size .ensures ∙ ap (λ (s : List ℕ). getD s 2 0) rest ∙ sym (old-same (args .number) bytes (first-not-below .result) lines line (sym (ap line-number rest) ∙ sym (c .before .before .number .ensures) ∙ c .before .if2 .taken)))
+    let args = c .before .before .before .before .before .before .before .before .before .args in
+    let at = c .before .before .before .before .first-not-below in
+    let rest = past (take (args .used) (args .store .now)) (at .result) (at .result) refl in
+    found-at (args .store .now) (args .used) (args .number) (omega (arith, c .before .before .before .before .before .before .before .room-of .ensures)) (at .result) (at .ensures) _ rest _ (c .before .before .sound-from .ensures) (c .before .if2 .taken) _ (c .place-at .ensures)
 
 returns-3 : tie.Need-returns-3
 returns-3 c =
-    let args = c .before .before .before .before .before .before .before .args in
-    let first-not-below = c .before .before .before .before .before .first-not-below in
-    let u = used-of (args .store .now) (args .used) (c .before .before .before .before .before .before .before .pre) in
-    let bytes = take (args .used) (args .store .now) in
-    let size = length-take-le (args .used) (args .store .now) (u .lent) in
-    let lines = found (args .number) bytes (first-not-below .result) (u .whole) (first-not-below .ensures) in
-    let line = here (drop (first-not-below .result) bytes) (omega (arith, length-drop (first-not-below .result) bytes, size)) (lines .whole) in
-    let rest = past bytes (first-not-below .result) (first-not-below .result) refl in
-    place-is (args .number) bytes (first-not-below .result) 0 (first-not-below .ensures) (sym (old-other (args .number) bytes (first-not-below .result) lines line (λ e. c .if2 .left (c .before .number .ensures ∙ ap line-number rest ∙ e))))
+    let args = c .before .before .before .before .before .before .before .before .args in
+    let at = c .before .before .before .first-not-below in
+    let rest = past (take (args .used) (args .store .now)) (at .result) (at .result) refl in
+    found-unsound (args .store .now) (args .used) (args .number) (omega (arith, c .before .before .before .before .before .before .room-of .ensures)) (at .result) (at .ensures) _ rest _ (c .before .sound-from .ensures) (c .if2 .left)
 
 pub find-spec : {M : Type 1} → statement M
 find-spec =
     tie.close
     (tie.spec
-    first-not-below-requires
+    room-of-requires
     returns
     slice-aggregate-lines
-    sub-rest
-    part-rest-start
-    part-rest-end
-    number-requires
-    size-requires
+    first-not-below-requires
+    sub-sound-from
+    part-sound-from-start
+    part-sound-from-end
+    sound-from-requires
+    place-at-requires
     returns-2
     returns-3)

@@ -7,47 +7,34 @@ use borrow.Author.Needs.{needs}
 use Rattle.lines.proofs.take_out.Statement.{statement}
 use Rattle.lines.proofs.take_out.Tie as tie
 
-find-requires : tie.Need-find-requires
-find-requires c κs = search needs
+returns : tie.Need-returns
+returns c =
+    let args = c .before .before .args in
+    let given = c .before .before .pre in
+    out-refused (args .store .now) (args .used) (args .place .number) (given .0) (args .place) (given .1) (c .if1 .taken)
+
+resize-requires : tie.Need-resize-requires
+resize-requires c κs =
+    let args = c .before .before .before .args in
+    let given = c .before .before .before .pre in
+    let u = used-of (args .store .now) (args .used) (given .0) in
+    let inside = place-within (args .store .now) (args .used) (args .place .number) (given .0) (args .place) (given .1) in
+    (inside, u .lent, omega (arith, u .lent))
+
+sub-t10 : tie.Need-sub-t10
+sub-t10 c =
+    let args = c .before .before .before .before .before .before .args in
+    let given = c .before .before .before .before .before .before .pre in
+    omega (arith, place-within (args .store .now) (args .used) (args .place .number) (given .0) (args .place) (given .1))
 
 same-length : tie.Need-same-length
 same-length c = search needs
 
-returns : tie.Need-returns
-returns c =
-    let args = c .before .before .before .before .args in
-    let given = c .before .before .before .before .pre in
-    let find = c .before .find in
-    out-refused (args .store .now) (args .used) (args .number) given (find .result) (find .ensures) (c .if1 .taken)
-
-resize-requires : tie.Need-resize-requires
-resize-requires c κs =
-    let args = c .before .before .before .before .before .args in
-    let given = c .before .before .before .before .before .pre in
-    let find = c .before .before .find in
-    let u = used-of (args .store .now) (args .used) given in
-    let inside = place-within (args .store .now) (args .used) (args .number) given (find .result) (find .ensures) in
-    (inside, u .lent, omega (arith, u .lent))
-
-sub-t13 : tie.Need-sub-t13
-sub-t13 c =
-    let args = c .before .before .before .before .before .before .before .before .args in
-    let given = c .before .before .before .before .before .before .before .before .pre in
-    let find = c .before .before .before .before .before .find in
-    omega (arith, place-within (args .store .now) (args .used) (args .number) given (find .result) (find .ensures))
-
-same-length-2 : tie.Need-same-length-2
-same-length-2 c = search needs
-
 returns-2 : tie.Need-returns-2
 returns-2 c =
-    let args = c .before .before .before .before .before .before .before .before .args in
-    let given = c .before .before .before .before .before .before .before .before .pre in
-    let find = c .before .before .before .before .before .find in
-    let if1 = c .before .before .before .before .if1 in
-    out-done (args .store .now) (args .used) (args .number) given (find .result) (find .ensures) (if1 .left) _ (c .before .before .resize .ensures)
+    let args = c .before .before .before .before .before .before .args in
+    let given = c .before .before .before .before .before .before .pre in
+    out-done (args .store .now) (args .used) (args .place .number) (given .0) (args .place) (given .1) (c .before .before .before .before .if1 .left) _ (c .before .before .resize .ensures)
 
 pub take-out-spec : {M : Type 1} → statement M
-take-out-spec =
-    tie.close
-    (tie.spec find-requires same-length returns resize-requires sub-t13 same-length-2 returns-2)
+take-out-spec = tie.close (tie.spec returns resize-requires sub-t10 same-length returns-2)

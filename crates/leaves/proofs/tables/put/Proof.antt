@@ -1,6 +1,10 @@
 -- `put` is safe and ends: the store was found sound before the line is put in.
-use mathlib.Core.Path.{sym, _∙_}
-use Rattle.laws.specs.Tests.{as-T}
+use mathlib.Core.Path.{sym, ap, _∙_}
+use Prim.Native.Nat.{ℕ}
+use lib.ListN.{take}
+use Rattle.paper.specs.Store.{lines-in}
+use Rattle.lines.specs.Answers.{place-of}
+use Rattle.lines.specs.Places.{found-sound}
 use borrow.Author.Needs.{needs}
 use Rattle.leaves.proofs.tables.put.Statement.{statement}
 use Rattle.leaves.proofs.tables.put.Tie as tie
@@ -14,17 +18,11 @@ print-requires c κs = search needs
 print-hex-requires : tie.Need-print-hex-requires
 print-hex-requires c κs = search needs
 
-sound-requires : tie.Need-sound-requires
-sound-requires c κs = search needs
+number-requires : tie.Need-number-requires
+number-requires c κs = search needs
 
-put-in-requires : tie.Need-put-in-requires
-put-in-requires c κs = as-T _ (sym (c .before .before .sound .ensures) ∙ c .before .if1 .taken)
-
-enum-known-after : tie.Need-enum-known-after
-enum-known-after c = search needs
-
-show-store-requires : tie.Need-show-store-requires
-show-store-requires c κs = search needs
+find-requires : tie.Need-find-requires
+find-requires c κs = search needs
 
 enum-told : tie.Need-enum-told
 enum-told c = search needs
@@ -35,14 +33,32 @@ slice-aggregate-print-2 c = search needs
 print-requires-2 : tie.Need-print-requires-2
 print-requires-2 c κs = search needs
 
-show-store-requires-2 : tie.Need-show-store-requires-2
-show-store-requires-2 c κs = search needs
+enum-known-place : tie.Need-enum-known-place
+enum-known-place c = search needs
+
+put-in-requires : tie.Need-put-in-requires
+put-in-requires c κs =
+    let args = c .before .before .before .before .before .before .before .before .before .before .before .before .args in
+    let found = found-sound (args .store .now) (args .used) _ _ (sym (c .before .before .before .before .find .ensures) ∙ c .before .before .place .given .1) in
+    (found .0, found .1 ∙ ap (λ (n : ℕ). place-of n (lines-in (take (args .used) (args .store .now)))) (c .before .before .before .before .before .number .ensures))
+
+enum-known-after : tie.Need-enum-known-after
+enum-known-after c = search needs
+
+show-store-requires : tie.Need-show-store-requires
+show-store-requires c κs = search needs
+
+enum-told-2 : tie.Need-enum-told-2
+enum-told-2 c = search needs
 
 slice-aggregate-print-3 : tie.Need-slice-aggregate-print-3
 slice-aggregate-print-3 c = search needs
 
 print-requires-3 : tie.Need-print-requires-3
 print-requires-3 c κs = search needs
+
+show-store-requires-2 : tie.Need-show-store-requires-2
+show-store-requires-2 c κs = search needs
 
 same-length : tie.Need-same-length
 same-length c = search needs
@@ -69,16 +85,19 @@ put-spec =
     slice-aggregate-print
     print-requires
     print-hex-requires
-    sound-requires
-    put-in-requires
-    enum-known-after
-    show-store-requires
+    number-requires
+    find-requires
     enum-told
     slice-aggregate-print-2
     print-requires-2
-    show-store-requires-2
+    enum-known-place
+    put-in-requires
+    enum-known-after
+    show-store-requires
+    enum-told-2
     slice-aggregate-print-3
     print-requires-3
+    show-store-requires-2
     same-length
     returns
     same-length-2

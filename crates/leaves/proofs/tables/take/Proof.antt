@@ -1,6 +1,6 @@
 -- `take` is safe and ends: the store was found sound before the line is taken out.
 use mathlib.Core.Path.{sym, _∙_}
-use Rattle.laws.specs.Tests.{as-T}
+use Rattle.lines.specs.Places.{own-place, found-sound}
 use borrow.Author.Needs.{needs}
 use Rattle.leaves.proofs.tables.take.Statement.{statement}
 use Rattle.leaves.proofs.tables.take.Tie as tie
@@ -14,17 +14,8 @@ print-requires c κs = search needs
 print-number-requires : tie.Need-print-number-requires
 print-number-requires c κs = search needs
 
-sound-requires : tie.Need-sound-requires
-sound-requires c κs = search needs
-
-take-out-requires : tie.Need-take-out-requires
-take-out-requires c κs = as-T _ (sym (c .before .before .sound .ensures) ∙ c .before .if1 .taken)
-
-enum-known-after : tie.Need-enum-known-after
-enum-known-after c = search needs
-
-show-store-requires : tie.Need-show-store-requires
-show-store-requires c κs = search needs
+find-requires : tie.Need-find-requires
+find-requires c κs = search needs
 
 enum-told : tie.Need-enum-told
 enum-told c = search needs
@@ -35,14 +26,32 @@ slice-aggregate-print-2 c = search needs
 print-requires-2 : tie.Need-print-requires-2
 print-requires-2 c κs = search needs
 
-show-store-requires-2 : tie.Need-show-store-requires-2
-show-store-requires-2 c κs = search needs
+enum-known-place : tie.Need-enum-known-place
+enum-known-place c = search needs
+
+take-out-requires : tie.Need-take-out-requires
+take-out-requires c κs =
+    let args = c .before .before .before .before .before .before .before .before .before .before .args in
+    let found = found-sound (args .store .now) (args .used) _ _ (sym (c .before .before .before .before .find .ensures) ∙ c .before .before .place .given .1) in
+    (found .0, own-place _ _ _ (found .1))
+
+enum-known-after : tie.Need-enum-known-after
+enum-known-after c = search needs
+
+show-store-requires : tie.Need-show-store-requires
+show-store-requires c κs = search needs
+
+enum-told-2 : tie.Need-enum-told-2
+enum-told-2 c = search needs
 
 slice-aggregate-print-3 : tie.Need-slice-aggregate-print-3
 slice-aggregate-print-3 c = search needs
 
 print-requires-3 : tie.Need-print-requires-3
 print-requires-3 c κs = search needs
+
+show-store-requires-2 : tie.Need-show-store-requires-2
+show-store-requires-2 c κs = search needs
 
 same-length : tie.Need-same-length
 same-length c = search needs
@@ -69,16 +78,18 @@ take-spec =
     slice-aggregate-print
     print-requires
     print-number-requires
-    sound-requires
-    take-out-requires
-    enum-known-after
-    show-store-requires
+    find-requires
     enum-told
     slice-aggregate-print-2
     print-requires-2
-    show-store-requires-2
+    enum-known-place
+    take-out-requires
+    enum-known-after
+    show-store-requires
+    enum-told-2
     slice-aggregate-print-3
     print-requires-3
+    show-store-requires-2
     same-length
     returns
     same-length-2

@@ -1,0 +1,92 @@
+-- The test of tables and store, which every call begins with, and what a call answers after it.
+use Prim.Native.Nat.{ℕ, _*_, _≤_}
+use native.Mathlib.Omega.{arith}
+use mathlib.Core.Path.{_≡_, refl, sym, ap, _∙_}
+use mathlib.Core.Bool.{Bool, true, false, _&&_}
+use mathlib.Core.List.{List}
+use lib.Dec.{T, leb}
+use lib.ListN.{length}
+use Rattle.paper.specs.Names.{sound-table}
+use Rattle.paper.specs.Store.{sound-store}
+use Rattle.paper.specs.Calls.{State, lines-of, sound-state, refusal, enter-sound, enter, not-listed, list-sound, list}
+use Rattle.paper.specs.Calls.{Entered as Outcome, Listed as Written-out}
+use Rattle.laws.specs.Tests.{and-left, as-T, is-true}
+use Rattle.laws.specs.Names.{sound-facts}
+use Rattle.lines.specs.declared.Place.{Place}
+use Rattle.lines.specs.declared.Found.{Found}
+use Rattle.lines.specs.declared.Found.the-variants.{Unsound, At}
+use Rattle.lines.specs.Answers.{place-of, found-answer}
+use Rattle.lines.specs.Places.{found-sound, found-unsound}
+use Rattle.entries.specs.declared.Editor.{Editor}
+use Rattle.entries.specs.declared.Entered.{Entered}
+use Rattle.entries.specs.States.{state, entered, refusing, Lies}
+use Rattle.listings.specs.declared.Listed.{Listed}
+use Rattle.listings.specs.Answers.{unlisted, listed}
+
+both : (a b c : Bool) → a && b ≡ true → c ≡ a && (b && c)
+both true true c h = refl
+both true false c h = let z : _≡_ {A = ℕ} 0 1 = cc in absurd (omega arith)
+both false b c h = let z : _≡_ {A = ℕ} 0 1 = cc in absurd (omega arith)
+
+first-fails : (a b c : Bool) → a && b ≡ false → false ≡ a && (b && c)
+first-fails true true c h = let z : _≡_ {A = ℕ} 0 1 = cc in absurd (omega arith)
+first-fails true false c h = refl
+first-fails false b c h = refl
+
+-- the test of the name table and of the room for values
+module _ (s : State) (b : Bool) (e : b ≡ sound-table (s .names) (s .name-size) (s .name-count) && leb (8 * s .name-count) (length (s .values))) where
+  -- where they are not sound, nothing else counts
+  pub unsound-tables : b ≡ false → false ≡ sound-state s
+  unfolding sound-state
+  unsound-tables t = first-fails (sound-table (s .names) (s .name-size) (s .name-count)) (leb (8 * s .name-count) (length (s .values))) (sound-store (s .store) (s .used)) (sym e ∙ t)
+
+  module _ (t : b ≡ true) where
+    -- where they are, the store decides
+    pub store-decides : (c : Bool) → c ≡ sound-store (s .store) (s .used) → c ≡ sound-state s
+    unfolding sound-state
+    store-decides c h = h ∙ both (sound-table (s .names) (s .name-size) (s .name-count)) (leb (8 * s .name-count) (length (s .values))) (sound-store (s .store) (s .used)) (sym e ∙ t)
+
+    -- the names have the bytes that are counted
+    pub names-within : s .name-size ≤ length (s .names)
+    names-within =
+        sound-facts (s .names) (s .name-size) (s .name-count)
+        (is-true (sound-table (s .names) (s .name-size) (s .name-count)) (and-left (sound-table (s .names) (s .name-size) (s .name-count)) _ (as-T _ (sym e ∙ t)))) .within
+
+    module _ (n : ℕ) (f : Found) (is : f ≡ found-answer (s .store) (s .used) n) where
+      -- a place was found
+      pub sound-there : (p : Place) → f ≡ At p → (T (sound-state s)) × Lies p n s
+      unfolding lines-of
+      sound-there p q =
+          let found = found-sound (s .store) (s .used) n p (sym is ∙ q) in
+          (as-T (sound-state s) (sym (store-decides true (sym (is-true (sound-store (s .store) (s .used)) (found .0))))), found .1)
+
+      -- none was
+      pub unsound-store : f ≡ Unsound → false ≡ sound-state s
+      unsound-store q = store-decides false (sym (found-unsound (s .store) (s .used) n (sym is ∙ q)))
+
+-- ---- entering
+
+-- over sound tables and store
+pub enter-so : (s : State) (text : List ℕ) (o : Outcome) → T (sound-state s) → o ≡ enter-sound text s → o ≡ enter text s
+unfolding enter
+enter-so s text o t h = h ∙ sym (rw (is-true (sound-state s) t))
+
+-- 1
+pub enter-refused : (names values store : List ℕ) (e : Editor) (text : List ℕ) (x : Entered) → false ≡ sound-state (state names values store e) → x ≡ refusing 1 0 e
+    → entered x names values store ≡ enter text (state names values store e)
+unfolding enter refusal
+enter-refused names values store e text x t q = rw q (sym (rw (sym t)))
+
+-- ---- listing
+
+-- over sound tables and store, at the place of the number
+pub list-so : (s : State) (n : ℕ) (p : Place) (out : List ℕ) (r : Written-out) → T (sound-state s) → Lies p n s → r ≡ list-sound (p .number) s out → r ≡ list n s out
+unfolding list place-of
+list-so s n p out r t lies h =
+    let same : p .number ≡ n = ap (λ (q : Place). q .number) lies in
+    h ∙ ap (λ (k : ℕ). list-sound k s out) same ∙ sym (rw (is-true (sound-state s) t))
+
+-- 1
+pub list-refused : (s : State) (n : ℕ) (out : List ℕ) (x : Listed) → false ≡ sound-state s → x ≡ unlisted 1 → listed x out ≡ list n s out
+unfolding list not-listed
+list-refused s n out x t q = rw q (sym (rw (sym t)))

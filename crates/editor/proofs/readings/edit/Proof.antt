@@ -1,0 +1,85 @@
+-- `editor::readings::edit` meets its contract.
+use Rattle.entries.specs.States.{state}
+use Rattle.editor.proofs.ReadingLaws.{edits-refused, own-lies, edits-delete, readable, edits-line}
+use borrow.Author.Needs.{needs}
+use Rattle.editor.proofs.readings.edit.Statement.{statement}
+use Rattle.editor.proofs.readings.edit.Tie as tie
+
+enum-known-reading : tie.Need-enum-known-reading
+enum-known-reading c = search needs
+
+refused-requires : tie.Need-refused-requires
+refused-requires c κs = search needs
+
+enum-told : tie.Need-enum-told
+enum-told c = search needs
+
+take-out-requires : tie.Need-take-out-requires
+take-out-requires c κs =
+    let args = c .before .before .before .before .before .before .before .before .before .before .args in
+    (c .before .before .before .before .before .before .before .before .before .before .pre .0, own-lies (state (args .names .now) (args .values .now) (args .store .now) (args .e)) (args .place) (args .reading) (c .before .before .before .before .before .before .before .before .before .before .pre .1))
+
+enum-known-reading-2 : tie.Need-enum-known-reading-2
+enum-known-reading-2 c = search needs
+
+front-requires : tie.Need-front-requires
+front-requires c κs = search needs
+
+accept-requires : tie.Need-accept-requires
+accept-requires c κs =
+    let args = c .before .before .before .before .before .before .before .before .before .before .before .before .args in
+    (c .before .before .before .before .before .before .before .before .before .before .before .before .pre .0, own-lies (state (args .names .now) (args .values .now) (args .store .now) (args .e)) (args .place) (args .reading) (c .before .before .before .before .before .before .before .before .before .before .before .before .pre .1), readable (state (args .names .now) (args .values .now) (args .store .now) (args .e)) (args .place) (args .reading) (c .before .before .before .before .before .before .before .before .before .before .before .before .pre .1) (args .line .now) (args .fresh .now) (c .before .before .before .before .before .reading2 .given .0 .0) (c .before .before .before .before .before .reading2 .given .1) _ (c .before .before .before .front .ensures) (c .before .before .before .before .before .before .before .before .before .before .before .before .pre .2))
+
+returns : tie.Need-returns
+returns c =
+    let args = c .before .before .before .before .before .before .before .before .before .args in
+    edits-refused (args .names .now) (args .values .now) (args .store .now) (args .e) (args .line .now) (args .fresh .now) (args .reading) _ _ _ (c .before .before .reading .given .1) (c .refused .ensures)
+
+same-length : tie.Need-same-length
+same-length c = search needs
+
+same-length-2 : tie.Need-same-length-2
+same-length-2 c = search needs
+
+same-length-3 : tie.Need-same-length-3
+same-length-3 c = search needs
+
+returns-2 : tie.Need-returns-2
+returns-2 c =
+    let args = c .before .before .before .before .before .before .before .before .before .before .before .before .before .args in
+    edits-delete (state (args .names .now) (args .values .now) (args .store .now) (args .e)) (args .place) (args .reading) (c .before .before .before .before .before .before .before .before .before .before .before .before .before .pre .1) (args .line .now) (args .fresh .now) _ _ (c .before .before .before .before .before .before .enum-told .given .1) (c .before .before .take-out .ensures)
+
+same-length-4 : tie.Need-same-length-4
+same-length-4 c = search needs
+
+same-length-5 : tie.Need-same-length-5
+same-length-5 c = search needs
+
+same-length-6 : tie.Need-same-length-6
+same-length-6 c = search needs
+
+returns-3 : tie.Need-returns-3
+returns-3 c =
+    let args = c .before .before .before .before .before .before .before .before .before .before .before .before .before .before .before .before .before .before .before .args in
+    edits-line (state (args .names .now) (args .values .now) (args .store .now) (args .e)) (args .place) (args .reading) (c .before .before .before .before .before .before .before .before .before .before .before .before .before .before .before .before .before .before .before .pre .1) (args .line .now) (args .fresh .now) (c .before .before .before .before .before .before .before .before .before .before .before .before .reading2 .given .0 .0) (c .before .before .before .before .before .before .before .before .before .before .before .before .reading2 .given .1) _ (c .before .before .before .before .before .before .before .before .before .before .front .ensures) _ (c .before .before .before .before .before .before .accept .ensures)
+
+pub edit-spec : {M : Type 1} → statement M
+edit-spec =
+    tie.close
+    (tie.spec
+    enum-known-reading
+    refused-requires
+    enum-told
+    take-out-requires
+    enum-known-reading-2
+    front-requires
+    accept-requires
+    returns
+    same-length
+    same-length-2
+    same-length-3
+    returns-2
+    same-length-4
+    same-length-5
+    same-length-6
+    returns-3)

@@ -1,0 +1,76 @@
+// Texts as they are read, before and after the store is looked at.
+use buffers::front;
+use entries::Editor;
+use entries::Entered;
+use entries::refused;
+use lines::Place;
+use reader::Reading;
+ghost use mathlib.Core.Path.{_≡_};
+ghost use Prim.Native.Nat.{_≤_};
+ghost use lib.Dec.{T};
+ghost use lib.ListN.{length};
+ghost use Rattle.paper.specs.Calls.{sound-state};
+ghost use Rattle.entries.specs.States.{state, entered, Lies};
+ghost use Rattle.editor.specs.Readings.{asked-number, Ready, Edits, Prepared};
+
+// The most bytes that a text may have.
+const LONGEST_TEXT: usize = 120;
+
+// What a text of any length is read as over sound names, with scratch for its line and for the names that are new in it.
+pub(crate) fn read(
+    text: &[u8],
+    names: &[u8],
+    e: Editor,
+    line: &mut [u8],
+    fresh: &mut [u8],
+) -> Reading
+    requires { ⌜ (e .«name_bytes» ≤ length (now names)) × (255 ≤ length (now line)) × (240 ≤ length (now fresh)) ⌝ }
+    ensures { λ r. ⌜ Prepared (now (names .entry)) e (now (text .entry)) (now (line .exit)) (now (fresh .exit)) r ⌝ }
+{
+    if LONGEST_TEXT < text.len() {
+        return Reading::Refused(2, 0);
+    }
+    reader::read(text, names, e.name_bytes, line, fresh)
+}
+
+// The number of the line that a text is about, as it was read; 0 of a text that is refused.
+pub(crate) fn asked(reading: Reading) -> usize
+    ensures { λ r. ⌜ r ≡ asked-number reading ⌝ }
+{
+    match reading {
+        Reading::Refused(_, _) => 0,
+        Reading::Delete(number) => number,
+        Reading::Read(l) => l.number,
+    }
+}
+
+// What comes of a text that was read, over a sound state and with the place of the number that it asks for: its refusal, or the edit.
+pub(crate) fn edit(
+    reading: Reading,
+    place: Place,
+    line: &[u8],
+    fresh: &[u8],
+    names: &mut [u8],
+    values: &mut [u8],
+    store: &mut [u8],
+    e: Editor,
+) -> Entered
+    requires { ⌜ (T (sound-state (state (now names) (now values) (now store) e))) × (Lies place (asked-number reading) (state (now names) (now values) (now store) e))
+        × (Ready (state (now names) (now values) (now store) e) (now line) (now fresh) reading) ⌝ }
+    ensures { λ r. ⌜ Edits (state (now (names .entry)) (now (values .entry)) (now (store .entry)) e) (now (line .entry)) (now (fresh .entry)) reading (entered r (now (names .exit)) (now (values .exit)) (now (store .exit))) ⌝ }
+{
+    match reading {
+        Reading::Refused(number, at) => refused(number, at, e),
+        Reading::Delete(_) => entries::take_out(place, names, values, store, e),
+        Reading::Read(l) => entries::accept(
+            place,
+            line,
+            l.size,
+            front(fresh, l.named),
+            names,
+            values,
+            store,
+            e,
+        ),
+    }
+}
