@@ -21,7 +21,7 @@ ghost use Rattle.listings.specs.Answers.{listed};
 pub fn sound(names: &[u8], values: &[u8], store: &[u8], e: Editor) -> bool
     ensures { λ r. ⌜ r ≡ sound-state (state (now (names .entry)) (now (values .entry)) (now (store .entry)) e) ⌝ }
 {
-    if names::sound(names, e.name_bytes, e.name_count, values.len()) {
+    if soundness::sound(names, e.name_bytes, e.name_count, values.len()) {
         lines::sound(store, e.used)
     } else {
         false
@@ -57,7 +57,7 @@ pub fn enter(
 ) -> Entered
     ensures { λ r. ⌜ entered r (now (names .exit)) (now (values .exit)) (now (store .exit)) ≡ enter-call (now (text .entry)) (state (now (names .entry)) (now (values .entry)) (now (store .entry)) e) ⌝ }
 {
-    if names::sound(names, e.name_bytes, e.name_count, values.len()) {
+    if soundness::sound(names, e.name_bytes, e.name_count, values.len()) {
         let mut line = [0u8; 255];
         let mut fresh = [0u8; 240];
         let reading = read(text, names, e, &mut line, &mut fresh);
@@ -81,7 +81,7 @@ pub fn list(
 ) -> Listed
     ensures { λ r. ⌜ listed r (now (out .exit)) ≡ list-call line (state (now (names .entry)) (now (values .entry)) (now (store .entry)) e) (now (out .entry)) ⌝ }
 {
-    if names::sound(names, e.name_bytes, e.name_count, values.len()) {
+    if soundness::sound(names, e.name_bytes, e.name_count, values.len()) {
         match lines::find(store, e.used, line) {
             Found::Unsound => not_listed(1),
             Found::At(place) => list_stored(place, names, values, store, e, out),

@@ -9,7 +9,7 @@ use lines::Stored;
 ghost use mathlib.Core.Path.{_≡_};
 ghost use mathlib.Core.Bool.{true};
 ghost use Rattle.laws.specs.Names.{plain-name};
-ghost use Rattle.names.specs.Tables.{spelled};
+ghost use Rattle.names.specs.Answers.{spelled};
 
 // Numbers a name over an empty table and the names of the first f bytes of `fresh`, prints its number and those bytes afterwards, and
 // returns how many they are.
@@ -51,7 +51,7 @@ pub(crate) fn show_table(bytes: &[u8], count: usize, value_room: usize) {
     print_number(count);
     print(b"\t");
     print_number(value_room);
-    if names::sound(bytes, bytes.len(), count, value_room) {
+    if soundness::sound(bytes, bytes.len(), count, value_room) {
         print(b"\tsound\n");
     } else {
         print(b"\tunsound\n");

@@ -1,9 +1,5 @@
 pub mod Walking
-pub mod Shapes
 pub mod Values
-pub mod Ends
-pub mod Marking
-pub mod Soundness
 pub mod Numbers
 pub mod Rooms
 pub mod Stands

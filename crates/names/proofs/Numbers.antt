@@ -10,11 +10,16 @@ use borrow.Author.Tests.{ltb-true}
 use Rattle.paper.specs.Bytes.{pick, every}
 use Rattle.paper.specs.Names.{names-in, marked, name-bytes, number-of, known?}
 use Rattle.buffers.specs.Sets.{sets-append}
-use Rattle.laws.specs.Names.{top-clear?, plain-name, plain-some, plain-low, every-first, every-rest, name-added, number-known, number-unknown, unknown-most, known-front, known-behind}
-use Rattle.names.specs.declared.table.Found.{Found}
+use Rattle.laws.specs.Names.{top-clear?, plain-name, plain-some, plain-low, every-first, every-rest, name-added, number-most, number-known, number-unknown, unknown-most, known-front, known-behind}
+use Rattle.spellings.specs.declared.table.Found.{Found}
+use Rattle.spellings.specs.Places.{names-few}
+use Rattle.spellings.specs.Answers.{Finds}
 use Rattle.names.specs.declared.Numbered.{Numbered}
-use Rattle.names.specs.Tables.{spelled}
-use Rattle.names.specs.Answers.{Finds, Numbers}
+use Rattle.names.specs.Answers.{spelled, Numbers}
+
+-- a name's number is at most the count of bytes
+pub found-few : (t n : List ℕ) {r : Found} → Finds (names-in t) n r → r .number ≤ length t
+found-few t n e = omega (arith, e .number, number-most (names-in t) n, names-few t)
 
 -- the bytes that a known name adds, and those of a new one
 none-added : (ns : List (List ℕ)) (n : List ℕ) → known? ns n ≡ true → name-bytes (name-added ns n) ≡ []
@@ -76,6 +81,14 @@ module _ (ns ms : List (List ℕ)) (front : List ℕ) (last : ℕ) (old : List �
       }
 
 -- ---- a name of the text
+
+pub size-array : (w : List ℕ) (array : Bool) → array ≡ true → length w ≡ length (spelled w array) - 1
+unfolding spelled
+size-array w array h = rw (h) (let z : length w ≡ length (w ++ 40 ∷ []) - 1 = omega (arith, length-append w (40 ∷ [])) in z)
+
+pub size-other : (w : List ℕ) (array : Bool) → array ≡ false → length w - 1 ≡ length (spelled w array) - 1
+unfolding spelled
+size-other w array h = rw (h)
 
 low-at : (n : List ℕ) (i : ℕ) → every top-clear? n ≡ true → getD n i 0 < 128
 low-at [] i h = omega arith

@@ -14,11 +14,11 @@ use Rattle.paper.specs.Words.{word, find-word, found?, statements, statement-wo
 use Rattle.paper.specs.Tokens.{variable, class, by-kind}
 use Rattle.paper.specs.Names.{names-in, less-open}
 use Rattle.names.specs.declared.Name.{Name}
-use Rattle.names.specs.Tables.{cleared, unmarked, first-size}
-use Rattle.names.specs.Places.{name-parts, first-most}
+use Rattle.spellings.specs.Tables.{cleared, unmarked, first-size}
+use Rattle.spellings.specs.Places.{name-parts, first-most}
+use Rattle.spellings.specs.Shapes.{bare-last}
 use Rattle.names.specs.Standing.{start, start-bytes, start-within}
 use Rattle.names.specs.Answers.{Stands}
-use Rattle.names.proofs.Shapes.{bare-last}
 use Rattle.names.proofs.Values.{kind-last}
 
 no-statement : statement-word? (less-open []) ≡ false

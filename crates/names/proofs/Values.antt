@@ -11,10 +11,9 @@ use Rattle.paper.specs.Names.{names-in, name-bytes, value-entries}
 use Rattle.paper.specs.Store.{overwritten}
 use Rattle.buffers.specs.Sets.{sets-append}
 use Rattle.laws.specs.Names.{bytes-of-names}
-use Rattle.names.specs.Tables.{cleared, unmarked, first-size}
-use Rattle.names.specs.Places.{name-parts, name-here}
+use Rattle.spellings.specs.Tables.{cleared, unmarked, first-size}
+use Rattle.spellings.specs.Places.{name-parts, name-here, none-left}
 use Rattle.names.specs.Answers.{Room}
-use Rattle.names.proofs.Walking.{none-left}
 
 -- a name's kind is that of its last byte
 pub kind-last : (xs : List ℕ) (x n s a : ℕ) → by-kind (xs ++ x ∷ []) n s a ≡ by-kind (x ∷ []) n s a

@@ -2,27 +2,20 @@
 use Prim.Native.Nat.{ℕ, _+_, _*_, _≤_}
 use mathlib.Core.Path.{_≡_}
 use mathlib.Core.Bool.{Bool, true, _&&_, _||_}
-use mathlib.Core.List.{List, []}
+use mathlib.Core.List.{List, [], _∷_, _++_}
 use lib.Dec.{ltb}
 use lib.ListN.{length, take, getD}
 use lib.Seq.{sets}
-use Rattle.paper.specs.Bytes.{joined}
+use Rattle.paper.specs.Bytes.{pick, joined}
 use Rattle.paper.specs.Tokens.{variable, class}
-use Rattle.paper.specs.Names.{names-in, name-bytes, number-of, known?, less-open, most-names}
+use Rattle.paper.specs.Names.{names-in, name-bytes, number-of, less-open, most-names}
 use Rattle.laws.specs.Names.{closed?, name-added}
-use Rattle.names.specs.declared.table.Found.{Found}
 use Rattle.names.specs.declared.Numbered.{Numbered}
 use Rattle.names.specs.declared.Name.{Name}
 
--- a name's number among some names, and whether it is one of them
-pub record Finds (ns : List (List ℕ)) (n : List ℕ) (r : Found) : Type 0 where
-  pub number : r .number ≡ number-of ns n
-  pub known : r .known ≡ known? ns n
-
--- a word of r bytes, which begins a buffer if it fits
-pub record Bare (n word : List ℕ) (r : ℕ) : Type 0 where
-  pub size : r ≡ length n
-  pub bytes : r ≤ length word → take r word ≡ n
+-- a name from the text's bytes; a `(` belongs to an array's
+unfoldable pub spelled : List ℕ → Bool → List ℕ
+spelled w array = pick array (w ++ 40 ∷ []) w
 
 -- A name's number among the names ns; if it is none of them it is the next, and its bytes stand at f in a buffer.
 pub record Numbers (ns : List (List ℕ)) (n old : List ℕ) (f : ℕ) (r : Numbered) (new : List ℕ) : Type 0 where

@@ -10,8 +10,8 @@ use lib.Seq.{take-nil, drop-nil, take-take, drop-drop, length-take-le}
 use Rattle.paper.specs.Bytes.{pick, joined}
 use Rattle.paper.specs.Names.{names-in, less-open}
 use Rattle.names.specs.declared.Name.{Name}
-use Rattle.names.specs.Tables.{cleared, unmarked, first-size}
-use Rattle.names.specs.Places.{first-some, first-most, first-name, length-unmarked}
+use Rattle.spellings.specs.Tables.{cleared, unmarked, first-size}
+use Rattle.spellings.specs.Places.{first-some, first-most, first-name, length-unmarked}
 use Rattle.names.specs.Answers.{Stands}
 
 -- where the name with a number begins

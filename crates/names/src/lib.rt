@@ -1,112 +1,21 @@
-// The name table and the value table: whether they are sound, a name's number, new names, and the rooms and the limit for them.
-mod mark;
-mod shape;
-mod table;
-
+// The name table and the value table: a name's number, new names, the rooms and the limit for them, and the name with a number.
+use spellings::MOST_NAMES;
+use spellings::shape;
+use spellings::table;
 use tokens::class;
 ghost use mathlib.Core.Path.{_≡_};
-ghost use mathlib.Core.Bool.{true, _&&_};
+ghost use mathlib.Core.Bool.{true};
 ghost use mathlib.Core.List.{[], _∷_, _++_};
 ghost use Prim.Native.Nat.{_+_, _-_, _*_, _≤_, _<_};
-ghost use lib.Dec.{leb};
 ghost use lib.ListN.{length, take, getD};
 ghost use lib.Seq.{sets};
 ghost use Rattle.paper.specs.Bytes.{pick, joined};
 ghost use Rattle.paper.specs.Tokens.{by-kind};
 ghost use Rattle.paper.specs.Words.{statement-word?};
-ghost use Rattle.paper.specs.Names.{names-in, name-bytes, less-open, sound-table, value-entries};
+ghost use Rattle.paper.specs.Names.{names-in, name-bytes, less-open, value-entries};
 ghost use Rattle.paper.specs.Store.{overwritten};
-ghost use Rattle.laws.specs.Names.{closed?, plain-name};
-ghost use Rattle.names.specs.Tables.{spelled, lawful, sound-after};
-ghost use Rattle.names.specs.Marks.{places, place-of, Marks};
-ghost use Rattle.names.specs.Answers.{Numbers, lacks, Room, Stands};
-
-// The most names that a table may hold.
-pub const MOST_NAMES: usize = 128;
-
-// ---- sound tables
-
-// Whether bytes are none, or end with a name's last byte.
-fn is_closed(bytes: &[u8]) -> bool
-    ensures { λ r. ⌜ r ≡ closed? (now (bytes .entry)) ⌝ }
-{
-    let size = bytes.len();
-    if size == 0 {
-        return true;
-    }
-    128 <= bytes[size - 1]
-}
-
-// Whether a name may stand in a table after the names of some bytes, which are marked; its own place for a mark is `place`.
-fn is_lawful(bytes: &[u8], marks: &[u8], place: usize, front: &[u8], last: u8) -> bool
-    requires { ⌜ Marks (now marks) (names-in (now bytes)) × (place ≡ place-of (now front ++ last ∷ [])) ⌝ }
-    ensures { λ r. ⌜ r ≡ lawful (now (front .entry) ++ last ∷ []) (names-in (now (bytes .entry))) ⌝ }
-{
-    if !shape::is_name(front, last) {
-        return false;
-    }
-    if shape::is_reserved(front, last) {
-        return false;
-    }
-    !mark::is_known(bytes, marks, place, front, last)
-}
-
-// Whether bytes are this many names that a sound table may hold. Each name that may stand there is marked, for those after it.
-fn are_marked(bytes: &[u8], count: usize, marks: &mut [u8]) -> bool
-    requires { ⌜ (closed? (now bytes) ≡ true) × (length (now marks) ≡ places) ⌝ }
-    ensures { λ r. ⌜ r ≡ sound-after [] (names-in (now (bytes .entry))) count ⌝ }
-{
-    let mut at: usize = 0;
-    let mut left = count;
-    while at < bytes.len() {
-        if left == 0 {
-            return false;
-        }
-        let end = table::name_end(bytes, at);
-        let last_at = end - 1;
-        let front = &bytes[at..last_at];
-        let last = table::clear(bytes[last_at]);
-        let place = mark::place(front, last);
-        if !is_lawful(&bytes[..at], marks, place, front, last) {
-            return false;
-        }
-        marks[place] = 1;
-        at = end;
-        left -= 1;
-    }
-    left == 0
-}
-
-// Whether bytes are this many names that a sound table may hold.
-fn are_lawful(bytes: &[u8], count: usize) -> bool
-    requires { ⌜ closed? (now bytes) ≡ true ⌝ }
-    ensures { λ r. ⌜ r ≡ sound-after [] (names-in (now (bytes .entry))) count ⌝ }
-{
-    if bytes.len() == 0 {
-        return count == 0;
-    }
-    let mut marks = [0u8; mark::PLACES];
-    are_marked(bytes, count, &mut marks)
-}
-
-// Whether a name table of `size` bytes and `count` names is sound, and there is room for the names' values.
-pub fn sound(names: &[u8], size: usize, count: usize, value_room: usize) -> bool
-    ensures { λ r. ⌜ r ≡ sound-table (now (names .entry)) size count && leb (8 * count) «value_room» ⌝ }
-{
-    if names.len() < size {
-        return false;
-    }
-    if MOST_NAMES < count {
-        return false;
-    }
-    if value_room < 8 * count {
-        return false;
-    }
-    if !is_closed(&names[..size]) {
-        return false;
-    }
-    are_lawful(&names[..size], count)
-}
+ghost use Rattle.laws.specs.Names.{plain-name};
+ghost use Rattle.names.specs.Answers.{spelled, Numbers, lacks, Room, Stands};
 
 // ---- the number of a name
 
@@ -185,6 +94,19 @@ pub fn number_of(
 
 // ---- new names
 
+// How many names some bytes are.
+pub fn count(bytes: &[u8]) -> usize
+    ensures { λ r. ⌜ r ≡ length (names-in (now (bytes .entry))) ⌝ }
+{
+    let mut at: usize = 0;
+    let mut number: usize = 0;
+    while at < bytes.len() {
+        at = table::name_end(bytes, at);
+        number += 1;
+    }
+    number
+}
+
 // Whether the new names of some bytes would pass the limit, or lack room for their bytes or their values; never when there is none.
 pub fn lacks_room(
     name_room: usize,
@@ -201,7 +123,7 @@ pub fn lacks_room(
     if MOST_NAMES < count {
         return true;
     }
-    let after = count + table::count(fresh);
+    let after = count + crate::count(fresh);
     if MOST_NAMES < after {
         return true;
     }
@@ -212,13 +134,6 @@ pub fn lacks_room(
         return true;
     }
     value_room < 8 * after
-}
-
-// How many names some bytes are.
-pub fn count(bytes: &[u8]) -> usize
-    ensures { λ r. ⌜ r ≡ length (names-in (now (bytes .entry))) ⌝ }
-{
-    table::count(bytes)
 }
 
 // The type byte of a value, by the last byte of its name.

@@ -20,7 +20,7 @@ use Rattle.items.specs.Kinds.{class-of}
 use Rattle.items.specs.Sees.{low?, Holds, Named}
 use Rattle.items.specs.declared.Kind.{Kind}
 use Rattle.items.specs.declared.Kind.the-variants.{Numeric, Text, Array, Number, Quoted, Operator, Function, Statement, End, Bad}
-use Rattle.names.specs.Tables.{spelled}
+use Rattle.names.specs.Answers.{spelled}
 use Rattle.operands.specs.ClassLaws.{own-of, statement-classes, operator-classes, no-statement, no-symbol}
 
 -- how many bytes of name an item has

@@ -24,8 +24,7 @@ use Rattle.numerals.specs.declared.Numeral.{Numeral}
 use Rattle.numerals.specs.declared.Six.{Six}
 use Rattle.items.specs.Sees.{Sees, token-at}
 use Rattle.items.specs.declared.Item.{Item as Found}
-use Rattle.names.specs.Tables.{spelled}
-use Rattle.names.specs.Answers.{Numbers}
+use Rattle.names.specs.Answers.{spelled, Numbers}
 use Rattle.names.specs.declared.Numbered.{Numbered}
 use Rattle.operands.specs.Draft.{low, written, after, draft}
 use Rattle.operands.specs.NameLaws.{new-is}

@@ -27,7 +27,7 @@ use Rattle.tokens.specs.Spellings.{statement-spelling, operator-spelling}
 use Rattle.tokens.specs.declared.Part.{Part}
 use Rattle.tokens.specs.declared.Source.{Source}
 use Rattle.tokens.specs.declared.Source.the-variants.{Fixed, Names}
-use Rattle.names.specs.Tables.{cleared}
+use Rattle.spellings.specs.Tables.{cleared}
 use Rattle.names.specs.Standing.{all-cleared, stands-text}
 use Rattle.names.specs.Answers.{Stands}
 use Rattle.names.specs.declared.Name.{Name}

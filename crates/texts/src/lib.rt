@@ -15,7 +15,7 @@ ghost use Rattle.paper.specs.Tokens.{statement, operator};
 ghost use Rattle.paper.specs.Names.{names-in, less-open};
 ghost use Rattle.paper.specs.Line.{line-number};
 ghost use Rattle.paper.specs.Listing.{decimal, token-text};
-ghost use Rattle.names.specs.Tables.{cleared};
+ghost use Rattle.spellings.specs.Tables.{cleared};
 ghost use Rattle.names.specs.Standing.{all-cleared};
 ghost use Rattle.tokens.specs.Tables.{fixed-words};
 ghost use Rattle.tokens.specs.Parts.{bytes-at};

@@ -1,5 +1,4 @@
 use Rattle.names.proofs.Values.{names-added-behind, values-added-behind}
-use Rattle.names.specs.Standing.{start}
 use borrow.Author.Needs.{needs}
 use Rattle.names.proofs.add.Statement.{statement}
 use Rattle.names.proofs.add.Tie as tie

@@ -1,5 +1,4 @@
 use Rattle.names.proofs.Stands.{a-statement, begins-within, no-word}
-use Rattle.names.specs.Standing.{start}
 use borrow.Author.Needs.{needs}
 use native.Mathlib.Omega.{arith}
 use Rattle.names.proofs.is_statement_word.Statement.{statement}

@@ -1,7 +1,6 @@
 use Prim.Native.Nat.{_*_, _+_, ℕ}
 use Rattle.names.proofs.Rooms.{lacks-names, lacks-nothing, lacks-values, passes-limit}
-use Rattle.names.specs.Places.{names-few}
-use Rattle.names.specs.Standing.{start}
+use Rattle.spellings.specs.Places.{names-few}
 use borrow.Author.Needs.{needs}
 use lib.Dec.{ltb}
 use mathlib.Core.Path.{_∙_, ap}

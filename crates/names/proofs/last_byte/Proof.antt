@@ -1,4 +1,3 @@
-use Rattle.names.specs.Standing.{start}
 use Rattle.paper.specs.Bytes.{pick}
 use borrow.Author.Needs.{needs}
 use lib.ListN.{getD}

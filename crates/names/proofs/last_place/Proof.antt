@@ -1,5 +1,5 @@
 use Prim.Native.Nat.{_-_}
-use Rattle.names.proofs.Ends.{size-array, size-other}
+use Rattle.names.proofs.Numbers.{size-array, size-other}
 use borrow.Author.Needs.{needs}
 use lib.ListN.{length}
 use mathlib.Core.Path.{_∙_, _≡_}

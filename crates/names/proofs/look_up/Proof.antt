@@ -1,6 +1,4 @@
-use Rattle.names.proofs.Numbers.{in-fresh, in-table, new-name}
-use Rattle.names.proofs.Walking.{found-few}
-use Rattle.names.specs.Standing.{start}
+use Rattle.names.proofs.Numbers.{found-few, in-fresh, in-table, new-name}
 use borrow.Author.Needs.{needs}
 use lib.ListN.{take}
 use lib.Seq.{length-take-le}

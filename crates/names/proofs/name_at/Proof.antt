@@ -1,5 +1,4 @@
 use Rattle.names.proofs.Stands.{begins-within, stands-array, stands-none, stands-number, stands-string}
-use Rattle.names.specs.Standing.{start}
 use borrow.Author.Needs.{needs}
 use native.Mathlib.Omega.{arith}
 use Rattle.names.proofs.name_at.Statement.{statement}

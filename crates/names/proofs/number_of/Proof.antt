@@ -1,5 +1,4 @@
 use Rattle.names.proofs.Numbers.{front-within, last-low, numbers-spelled}
-use Rattle.names.specs.Standing.{start}
 use borrow.Author.Needs.{needs}
 use lib.Seq.{length-take-le}
 use mathlib.Core.Path.{sym}

@@ -1,5 +1,4 @@
 use Prim.Native.Nat.{_*_, ℕ}
-use Rattle.names.specs.Standing.{start}
 use borrow.Author.Needs.{needs}
 use lib.Seq.{sets}
 use mathlib.Core.List.{[], _∷_}

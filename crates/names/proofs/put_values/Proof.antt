@@ -1,7 +1,7 @@
 -- The loop keeps: the entries still to be written over the values as they are now make all that is to be written over those at entry.
 use Prim.Native.Nat.{_*_, _+_, _-_, _≤_}
 use Rattle.names.proofs.Values.{value-end, value-more}
-use Rattle.names.specs.Places.{name-bounds, name-here}
+use Rattle.spellings.specs.Places.{name-bounds, name-here}
 use Rattle.paper.specs.Names.{names-in, value-entries}
 use borrow.Author.Needs.{needs}
 use lib.ListN.{drop, length}

@@ -1,7 +1,7 @@
 -- The loop keeps: the names asked for are those passed, up to `at`, and `left` of those that follow.
 use Prim.Native.Nat.{_+_, _-_, _≤_}
 use Rattle.names.proofs.Walking.{start-end, start-here, start-more}
-use Rattle.names.specs.Places.{name-bounds}
+use Rattle.spellings.specs.Places.{name-bounds}
 use Rattle.paper.specs.Bytes.{joined}
 use Rattle.paper.specs.Names.{names-in}
 use borrow.Author.Needs.{needs}

@@ -1,5 +1,5 @@
 use borrow.Author.Tests.{le-leb, lt-leb}
-use Rattle.names.specs.Tables.{cleared}
+use Rattle.spellings.specs.Tables.{cleared}
 use borrow.Author.Needs.{needs}
 use Rattle.texts.proofs.clear.Statement.{statement}
 use Rattle.texts.proofs.clear.Tie as tie

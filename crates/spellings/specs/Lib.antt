@@ -1,0 +1,4 @@
+pub mod Tables
+pub mod Places
+pub mod Shapes
+pub mod Answers
