@@ -3,12 +3,12 @@
 use Prim.Native.Nat.{ℕ, suc}
 use Prim.Native.String.{String}
 use mathlib.Core.Path.{_≡_, refl}
-use mathlib.Core.Bool.{Bool, true, false, _&&_}
+use mathlib.Core.Bool.{Bool, _&&_}
 use mathlib.Core.List.{List, [], _∷_, _++_}
 use lib.Dec.{eqb}
 use Rattle.paper.specs.Bytes.{pick, same}
 use Rattle.paper.specs.Hex.{hex}
-use Rattle.paper.specs.Calls.{State, Entered, enter, Listed, list}
+use Rattle.paper.specs.Calls.{State, enter, list}
 use Rattle.paper.specs.Open.{everything}
 
 -- names, their bytes and count, values, store and the bytes used

@@ -6,10 +6,9 @@ use mathlib.Core.Path.{_≡_, refl, sym, ap, _∙_}
 use mathlib.Core.Bool.{Bool, true, false}
 use mathlib.Core.List.{List, [], _∷_, _++_}
 use lib.Dec.{eqb}
-use lib.ListN.{length, take, drop, getD, length-take, length-drop, drop-of-length-le, List·getD-eq-default}
-use lib.Seq.{slice, slice-empty, take-suc, take-all, drop-append-le, length-take-le}
+use lib.ListN.{length, take, drop, getD, length-take, drop-of-length-le, List·getD-eq-default}
+use lib.Seq.{slice, take-suc, take-all, drop-append-le, length-take-le}
 use borrow.Author.Tests.{ne-eqb, eqb-true, eqb-false}
-use Rattle.paper.specs.Bytes.{pick}
 use Rattle.paper.specs.Constants.{digits-of, put-digit, trimmed}
 use Rattle.constants.specs.Texts.{six-here, digits-here, Trims}
 

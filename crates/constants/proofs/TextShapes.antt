@@ -5,11 +5,11 @@ use mathlib.Core.Path.{_≡_, refl, sym, ap, subst, _∙_}
 use mathlib.Core.Bool.{Bool, true, false, _&&_}
 use mathlib.Core.List.{List, [], _∷_, _++_, append-nil}
 use lib.Dec.{leb, ltb, eqb}
-use lib.ListN.{length, take, drop, getD, length-append}
+use lib.ListN.{length, take, getD, length-append}
 use lib.Seq.{slice, slice-cons, length-slice}
 use borrow.Author.Tests.{ne-eqb, eq-eqb, le-leb, lt-leb, ltb-true, ltb-false}
 use Rattle.paper.specs.Bytes.{pick}
-use Rattle.paper.specs.Constants.{digits-of, trimmed, whole-part, with-point, plain-text, power-text, power-of-ten-text, text-of, constant-text}
+use Rattle.paper.specs.Constants.{trimmed, whole-part, with-point, plain-text, power-text, power-of-ten-text, text-of, constant-text}
 use Rattle.constants.specs.declared.texts.Layout.{Layout}
 use Rattle.constants.specs.Texts.{six-here, digits-here, lead, power-part, laid, Trims, Ordered, Shaped, part-size, size-of}
 use Rattle.constants.proofs.TextDigits.{slice-none, ten-here}

@@ -6,11 +6,11 @@ use native.Mathlib.Omega.{arith}
 use mathlib.Core.Path.{_≡_, refl, sym, ap, subst, _∙_}
 use mathlib.Core.Bool.{Bool, true, false, _&&_}
 use mathlib.Core.List.{List, [], _∷_, _++_}
-use lib.Dec.{leb, eqb}
-use lib.ListN.{length, take, drop, getD, set, length-append, drop-of-length-le}
-use lib.Seq.{sets, sets-eq, slice, length-slice, drop-cons, length-sets}
+use lib.Dec.{leb}
+use lib.ListN.{length, drop, getD, set, length-append, drop-of-length-le}
+use lib.Seq.{sets, slice, length-slice, drop-cons}
 use borrow.Author.Tests.{ne-eqb, eq-eqb, le-leb, lt-leb}
-use Rattle.paper.specs.Bytes.{pick, every}
+use Rattle.paper.specs.Bytes.{every}
 use Rattle.paper.specs.Constants.{with-point, power-text}
 use Rattle.buffers.specs.Sets.{sets-append, sets-out}
 use Rattle.constants.specs.declared.texts.Layout.{Layout}

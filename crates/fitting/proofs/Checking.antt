@@ -1,16 +1,16 @@
 -- Checks of pieces: from what the code tests to what is left of the line.
 use Prim.Native.Nat.{ℕ, zero, suc, _+_, _-_, _*_, _≤_, _<_}
 use native.Mathlib.Omega.{arith}
-use mathlib.Core.Path.{_≡_, refl, subst, sym, ap, ap₂, _∙_}
+use mathlib.Core.Path.{_≡_, refl, subst, sym, ap, _∙_}
 use mathlib.Core.Bool.{Bool, true, false, not, _&&_}
 use mathlib.Core.List.{List, [], _∷_, _++_}
 use lib.Dec.{T, T-not, eqb, eqb→eq}
-use lib.ListN.{length, take, drop, getD, length-take, length-drop}
+use lib.ListN.{length, take, drop, length-take, length-drop}
 use lib.Seq.{drop-drop}
 use Rattle.paper.specs.Bytes.{pick, run, every}
 use Rattle.paper.specs.Classes.{raw-text, raw-end}
-use Rattle.paper.specs.Words.{Word, word-of, statements, operators}
-use Rattle.paper.specs.Tokens.{Token, statement, assigned, operator, variable, constant, string, raw, class, operator-class, as-read, read-as}
+use Rattle.paper.specs.Words.{word-of, statements, operators}
+use Rattle.paper.specs.Tokens.{Token, statement, operator, raw, class, operator-class, as-read, read-as}
 use Rattle.paper.specs.Constants.{right-constant?}
 use Rattle.paper.specs.Items.{string-byte?}
 use Rattle.paper.specs.Machine.{took, step}
@@ -24,12 +24,12 @@ use Rattle.grammar.specs.declared.Step.{Step}
 use Rattle.grammar.specs.declared.Step.the-variants as Step′
 use Rattle.pieces.specs.Given.{given-operator}
 use Rattle.pieces.specs.Pieces.{piece-at, tokens-of-piece, size-of, end-after, Holds}
-use Rattle.pieces.specs.Rest.{Takes, Written, Rest, Numbered}
+use Rattle.pieces.specs.Rest.{Takes, Rest, Numbered}
 use Rattle.grammar.specs.Stack.{stack, gives-of, Steps}
 use Rattle.fitting.specs.Passes.{Ended, Onward, Passes}
 use Rattle.pieces.specs.GivenLaws.{step-given, Plain, a-statement-plain, a-raw-plain, operator-given, raw-end-given}
 use Rattle.pieces.specs.ClassLaws.{raw-end-read, raw-end-class, raw-text-class, raw-text-read}
-use Rattle.pieces.specs.RestLaws.{Untaken, taken, takes, untaken, later, all, Here, rest-here, here-rest}
+use Rattle.pieces.specs.RestLaws.{taken, takes, untaken, later, all, Here, rest-here, here-rest}
 
 -- a piece is checked at a place of a line, with a stack in a buffer that may be a new one afterwards
 pub record At (ns : List (List ℕ)) (l : List ℕ) (at end : ℕ) (c : Piece) (old : List ℕ) (depth : ℕ) (new : List ℕ) : Type 0 where

@@ -1,7 +1,7 @@
 -- What the check of a piece says: that it is a part of a well-formed line if what comes after it is, or that it is not.
 use Prim.Native.Nat.{ℕ, _+_, _*_, _≤_}
 use mathlib.Core.Path.{_≡_}
-use mathlib.Core.List.{List, [], _∷_}
+use mathlib.Core.List.{List, _∷_}
 use lib.ListN.{length, drop}
 use Rattle.paper.specs.Tokens.{Token, operator, raw}
 use Rattle.pieces.specs.declared.Piece.{Piece}

@@ -1,12 +1,11 @@
 -- The classes of tokens: there are 43.
 use Prim.Native.Nat.{ℕ, _<_}
 use native.Mathlib.Omega.{arith}
-use mathlib.Core.Path.{_≡_}
 use mathlib.Core.Bool.{Bool, true, false}
 use mathlib.Core.List.{List, [], _∷_}
 use lib.Dec.{T, eqb, ltb, ltb→lt}
 use Rattle.paper.specs.Bytes.{pick, every}
-use Rattle.paper.specs.Classes.{unfit, number, quoted, raw-text, numeric-variable, string-variable, array, first-numeric, first-string, first-array}
+use Rattle.paper.specs.Classes.{unfit, numeric-variable, string-variable, array, first-numeric, first-string, first-array}
 use Rattle.paper.specs.Words.{Word, word, word-of, statements, operators}
 use Rattle.paper.specs.Tokens.{Token, statement, assigned, operator, variable, constant, string, raw, out-of-range, unreadable, class, by-kind, operator-class}
 use Rattle.paper.specs.Open.{all-Bytes, all-Words}

@@ -1,11 +1,11 @@
 -- Runs of bytes at the front of a list, and the seam of two lists.
 use Prim.Native.Nat.{ℕ, zero, suc, _+_}
-use mathlib.Core.Path.{_≡_, refl, subst, sym, ap, _∙_}
-use mathlib.Core.Bool.{Bool, true, false, not, _&&_, _||_}
-use mathlib.Core.List.{List, [], _∷_, _++_, append-assoc, append-nil}
-use lib.Dec.{T, eqb, leb}
+use mathlib.Core.Path.{_≡_, refl, ap}
+use mathlib.Core.Bool.{Bool, true, false}
+use mathlib.Core.List.{List, [], _∷_, _++_}
+use lib.Dec.{T}
 use lib.ListN.{length, take, drop, getD}
-use Rattle.paper.specs.Bytes.{pick, run, every}
+use Rattle.paper.specs.Bytes.{run, every}
 use Rattle.laws.specs.Tests.{and-left, and-right, is-true}
 
 -- a test passes at each entry

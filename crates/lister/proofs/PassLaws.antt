@@ -6,23 +6,22 @@ use mathlib.Core.Path.{_≡_, refl, subst, sym, ap, ap₂, _∙_}
 use mathlib.Core.Bool.{Bool, true, false, not}
 use mathlib.Core.Logic.{_⊎_, inl, inr, ⊎-elim}
 use mathlib.Core.List.{List, [], _∷_, _++_, append-nil, append-assoc}
-use lib.Dec.{T, eqb, leb, ltb, leb→le, le→leb}
-use lib.ListN.{length, take, drop, getD, length-append, length-drop, drop-of-length-le, List·getD-eq-default}
+use lib.Dec.{T, leb, leb→le, le→leb}
+use lib.ListN.{length, drop, getD, length-append, length-drop, drop-of-length-le}
 use lib.Seq.{sets, sets-eq, drop-drop}
 use borrow.Author.Tests.{le-leb, lt-leb, lt-ltb, le-ltb, leb-true, leb-false}
-use Rattle.paper.specs.Bytes.{pick, blank, every}
+use Rattle.paper.specs.Bytes.{blank, every}
 use Rattle.paper.specs.Tokens.{Token}
 use Rattle.paper.specs.Grammar.{start}
 use Rattle.paper.specs.Line.{line-number, lawful-number?, token-bytes, to-next, tokens-from, line-tokens}
-use Rattle.paper.specs.WellFormed.{right-token?, well-formed?}
+use Rattle.paper.specs.WellFormed.{well-formed?}
 use Rattle.paper.specs.Listing.{decimal, token-text, body-text, listing-text, listing}
 use Rattle.paper.specs.Store.{overwritten}
-use Rattle.paper.specs.Calls.{Listed, not-listed}
+use Rattle.paper.specs.Calls.{not-listed}
 use Rattle.laws.specs.Tests.{is-true, as-T}
 use Rattle.buffers.specs.Sets.{sets-append}
 use Rattle.pieces.specs.declared.Piece.{Piece}
 use Rattle.pieces.specs.declared.Piece.the-variants as Piece′
-use Rattle.lister.specs.declared.Listed.{Listed as Outcome}
 use Rattle.lister.specs.declared.Listed.the-variants as Outcome′
 use Rattle.lister.specs.declared.first.Measure.{Measure}
 use Rattle.lister.specs.declared.first.Measure.the-variants as Measure′

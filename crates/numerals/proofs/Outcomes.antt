@@ -1,12 +1,11 @@
 -- The outcomes of `six_bytes`, each from what the code has found on its way there.
-use Prim.Native.Nat.{ℕ, zero, suc, _+_, _-_, _≤_, _<_}
+use Prim.Native.Nat.{ℕ, suc, _+_, _-_, _≤_, _<_}
 use native.Mathlib.Omega.{arith}
-use mathlib.Core.Path.{_≡_, refl, sym, ap, _∙_}
+use mathlib.Core.Path.{_≡_, sym, _∙_}
 use mathlib.Core.Bool.{true, false}
 use mathlib.Core.List.{List}
 use lib.ListN.{length}
 use Rattle.paper.specs.Bytes.{run}
-use Rattle.paper.specs.Constants.{value}
 use Rattle.numerals.specs.declared.Numeral.{Numeral}
 use Rattle.numerals.specs.declared.Six.{Six}
 use Rattle.numerals.specs.Numerals.{Written, digits-in, nought?, up, down, zeros-if, six-from, numeral-six}

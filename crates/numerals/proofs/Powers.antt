@@ -1,13 +1,10 @@
 -- Powers of ten and of a hundred, and the exponent and ten digits that paper's six bytes have.
-use Prim.Native.Nat.{ℕ, zero, suc, _+_, _-_, _*_, _/_, _%_, _^_, _≤_, _<_}
+use Prim.Native.Nat.{ℕ, zero, suc, _+_, _-_, _*_, _/_, _^_, _≤_, _<_}
 use native.Mathlib.Nat.{pow-suc, pow-succ', pow-zero, add-zero, add-suc, mul-assoc, one-le-pow, mul-le-mul-left, le-trans, mul-one, le-div-iff-mul-le, div-lt-iff-lt-mul, one-le-mul, mul-div-mul-right}
 use native.Mathlib.Omega.{arith}
 use mathlib.Core.Path.{_≡_, refl, sym, ap, subst, _∙_}
-use mathlib.Core.Bool.{Bool, true, false}
-use mathlib.Core.List.{List, [], _∷_}
-use lib.Dec.{leb, eqb}
+use mathlib.Core.List.{_∷_}
 use borrow.Author.Tests.{lt-leb, le-leb, ne-eqb}
-use Rattle.paper.specs.Bytes.{pick}
 use Rattle.paper.specs.Constants.{powers, six-at, six, five}
 
 -- a power of a sum is a product

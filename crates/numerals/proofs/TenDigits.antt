@@ -1,19 +1,18 @@
 -- The six bytes of a numeral by its digits: where the first digit that is not zero stands says the range and the exponent, and ten digits
 -- from there on are the bytes.
 use Prim.Native.Nat.{ℕ, zero, suc, _+_, _-_, _*_, _/_, _%_, _^_, _≤_, _<_}
-use native.Mathlib.Nat.{pow-suc, mul-assoc, mul-one, mul-le-mul-left, mul-le-mul-right, le-trans, lt-of-lt-of-le, lt-of-le-of-lt, mul-lt-mul-of-pos-right, pow-le-pow-right, le-div-iff-mul-le, div-lt-iff-lt-mul, add-zero}
-use native.Mathlib.Numerals.{add-one}
+use native.Mathlib.Nat.{pow-suc, mul-le-mul-left, mul-le-mul-right, le-trans, lt-of-lt-of-le, lt-of-le-of-lt, mul-lt-mul-of-pos-right, pow-le-pow-right, le-div-iff-mul-le, div-lt-iff-lt-mul, add-zero}
 use native.Mathlib.Omega.{arith}
 use mathlib.Core.Path.{_≡_, refl, sym, ap, subst, _∙_}
-use mathlib.Core.Bool.{Bool, true, false, _&&_, _||_}
-use mathlib.Core.List.{List, [], _∷_, _++_}
-use lib.Dec.{T, leb, ltb, eqb}
-use lib.ListN.{length, take, drop, getD, length-drop, drop-of-length-le}
-use lib.Seq.{drop-cons, drop-length, drop-drop, getD-drop}
+use mathlib.Core.Bool.{Bool, true, false, _&&_}
+use mathlib.Core.List.{List, [], _∷_}
+use lib.Dec.{leb, eqb}
+use lib.ListN.{length, drop, getD, length-drop, drop-of-length-le}
+use lib.Seq.{drop-cons, drop-drop, getD-drop}
 use borrow.Author.Tests.{lt-leb, le-leb, lt-ltb, le-ltb, ne-eqb, eqb-true, eqb-false}
 use Rattle.laws.specs.Runs.{All, all-drop}
 use Rattle.paper.specs.Bytes.{pick, run, digit?}
-use Rattle.paper.specs.Constants.{value, in-range, six, five, decimal-byte, zero-bytes}
+use Rattle.paper.specs.Constants.{value, in-range, six, five, decimal-byte}
 use Rattle.numerals.specs.declared.Six.{Six}
 use Rattle.numerals.specs.Numerals.{digit-at, pair-at, nought?, bytes-with, six-from, zeros-if, six-if, six-of}
 use Rattle.numerals.proofs.Powers.{pow-add, ten-pos, quotient-is, six-is}

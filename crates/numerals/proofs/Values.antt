@@ -1,14 +1,14 @@
 -- Digits as a whole number: leading zeros, the first digit, and the number that is left when low digits are cut.
-use Prim.Native.Nat.{ℕ, zero, suc, _+_, _-_, _*_, _/_, _%_, _^_, _≤_, _<_}
+use Prim.Native.Nat.{ℕ, zero, suc, _+_, _-_, _*_, _/_, _^_, _≤_, _<_}
 use native.Mathlib.Nat.{pow-suc, mul-assoc, mul-one, mul-le-mul-right, mul-add-div-right, div-eq-of-lt, add-zero, mul-div-mul-right}
 use native.Mathlib.Omega.{arith}
 use mathlib.Core.Path.{_≡_, refl, sym, ap, subst, _∙_}
 use mathlib.Core.Bool.{Bool, true, false, _&&_}
-use mathlib.Core.List.{List, [], _∷_, _++_}
-use lib.Dec.{T, leb, eqb, leb→le}
-use lib.ListN.{length, take, drop, getD}
+use mathlib.Core.List.{List, [], _∷_}
+use lib.Dec.{leb, leb→le}
+use lib.ListN.{length, drop, getD}
 use borrow.Author.Tests.{eqb-true, eqb-false}
-use Rattle.laws.specs.Tests.{and-left, and-right, as-T}
+use Rattle.laws.specs.Tests.{and-right, as-T}
 use Rattle.laws.specs.Runs.{All}
 use Rattle.paper.specs.Bytes.{pick, run, digit?}
 use Rattle.paper.specs.Constants.{value}

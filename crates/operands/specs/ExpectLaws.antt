@@ -1,15 +1,14 @@
 -- The two answers to an item that is expected.
 use Prim.Native.Nat.{ℕ, _+_}
 use native.Mathlib.Omega.{arith}
-use mathlib.Core.Path.{_≡_, refl, sym, ap, subst, _∙_}
+use mathlib.Core.Path.{_≡_, refl, sym, subst, _∙_}
 use mathlib.Core.Bool.{false}
 use mathlib.Core.List.{List}
 use lib.ListN.{set}
 use Rattle.paper.specs.Tokens.{Token, class}
 use Rattle.operands.specs.ClassLaws.{own-of}
-use Rattle.operands.specs.Says.{Env, spot, Next, Hit, Miss, Expects}
+use Rattle.operands.specs.Says.{Env, spot, Next, Hit, Expects}
 use Rattle.operands.specs.declared.Spot.{Spot}
-use Rattle.operands.specs.declared.Step.{Step}
 use Rattle.operands.specs.declared.Step.the-variants.{Done, Refused}
 
 no-done : {A : Type 0} {q : Spot} {k p : ℕ} → Done q ≡ Refused k p → A

@@ -1,31 +1,29 @@
 -- How the promises of readers make the promise of the reader that calls them.
-use Prim.Native.Nat.{ℕ, zero, suc, pred, _+_, _*_, _-_, _≤_, _<_}
+use Prim.Native.Nat.{ℕ, zero, suc, pred, _+_, _-_}
 use native.Mathlib.Nat.{add-zero}
 use native.Mathlib.Omega.{arith}
 use mathlib.Core.Path.{_≡_, refl, subst, sym, ap, _∙_}
-use mathlib.Core.Bool.{Bool, true, false, not, _&&_}
-use mathlib.Core.List.{List, [], _∷_, _++_, append-nil, append-assoc}
+use mathlib.Core.Bool.{Bool, true, false, not}
+use mathlib.Core.List.{List, [], _∷_, _++_, append-nil}
 use lib.Dec.{eqb}
-use lib.ListN.{length, drop, set, length-append}
-use lib.ListN.{take as front}
+use lib.ListN.{length, drop, length-append}
 use lib.Seq.{sets}
 use Rattle.paper.specs.Bytes.{pick, blank?}
-use Rattle.paper.specs.Classes.{line-end, remark, number}
+use Rattle.paper.specs.Classes.{remark, number}
 use Rattle.paper.specs.Tokens.{Token, class, out-of-range?}
-use Rattle.paper.specs.Names.{names-in, name-bytes, add-names}
+use Rattle.paper.specs.Names.{name-bytes, add-names}
 use Rattle.paper.specs.Items.{Item, item-at, opens, raw-at, scan}
-use Rattle.paper.specs.Machine.{Act, take, leave, refuse, step-act, Taken, Run, left, done, bad, and-taken, step, go-on, read}
+use Rattle.paper.specs.Machine.{take, leave, refuse, step-act, Taken, Run, done, bad, and-taken, step, go-on, read}
 use Rattle.paper.specs.MachineLaws.{all-taken, seq, read-append}
-use Rattle.paper.specs.Grammar.{Gives, itself, put, given, look, look-item, if-in-range, look-in-range}
+use Rattle.paper.specs.Grammar.{Gives, itself, given, look, look-item, if-in-range, look-in-range}
 use Rattle.paper.specs.WellFormed.{tokens-of}
-use Rattle.paper.specs.Line.{begins?}
-use Rattle.laws.specs.Names.{names-added, closed?, name-bytes-append, adds-append}
+use Rattle.laws.specs.Names.{names-added, name-bytes-append, adds-append}
 use Rattle.buffers.specs.Sets.{sets-append}
 use Rattle.operands.specs.Draft.{draft, still}
 use Rattle.operands.specs.NameLaws.{new-append, new-none}
 use Rattle.operands.specs.DraftLaws.{draft-append, still-append, still-more, still-none}
 use Rattle.operands.specs.ClassLaws.{in-range-by-class}
-use Rattle.operands.specs.Says.{Env, Mem, mem, spot, known, items-at, taken, Asks, Next, item-of, Marks, Wrote, Took, Got, Stop, Says, Hit, Miss, Expects, Inside, Outside, Counts}
+use Rattle.operands.specs.Says.{Env, Mem, known, items-at, taken, Asks, Next, item-of, Marks, Wrote, Took, Got, Stop, Says, Counts}
 use Rattle.operands.specs.declared.Spot.{Spot}
 use Rattle.operands.specs.declared.Step.{Step}
 use Rattle.operands.specs.declared.Step.the-variants.{Done, Refused}

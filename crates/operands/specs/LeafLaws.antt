@@ -1,24 +1,24 @@
 -- Variables, constants and quoted strings: what is written of them.
-use Prim.Native.Nat.{ℕ, zero, suc, _+_, _*_, _-_, _%_, _^_, _≤_, _<_}
-use native.Mathlib.Nat.{add-zero, add-mod-mod}
+use Prim.Native.Nat.{ℕ, suc, _+_, _*_, _-_, _%_, _^_, _≤_, _<_}
+use native.Mathlib.Nat.{add-mod-mod}
 use native.Mathlib.Omega.{arith}
 use mathlib.Core.Path.{_≡_, refl, subst, sym, ap, _∙_}
-use mathlib.Core.Bool.{Bool, true, false, not}
+use mathlib.Core.Bool.{Bool, true, false}
 use mathlib.Core.List.{List, [], _∷_, _++_, append-nil, append-assoc}
 use lib.Dec.{eqb}
 use borrow.Author.Tests.{ne-eqb}
 use lib.ListN.{length, take, drop, set, length-append, length-drop}
 use lib.Seq.{sets, drop-drop, length-take-le, length-sets, take-length, take-all}
 use Rattle.paper.specs.Bytes.{pick, every}
-use Rattle.paper.specs.Tokens.{Token, statement, assigned, operator, variable, constant, string, out-of-range, out-of-range?, class}
+use Rattle.paper.specs.Tokens.{Token, assigned, variable, constant, string, out-of-range, out-of-range?, class}
 use Rattle.paper.specs.Constants.{value, powers, six, six-at, five, zero-bytes}
 use Rattle.paper.specs.Names.{names-in, name-bytes, number-of, known?, marked, add-name, add-names}
-use Rattle.paper.specs.Items.{Item, variable-at}
-use Rattle.paper.specs.Grammar.{Gives, itself, given}
+use Rattle.paper.specs.Items.{variable-at}
+use Rattle.paper.specs.Grammar.{itself, given}
 use Rattle.paper.specs.Line.{begins?}
-use Rattle.laws.specs.Names.{names-added, name-added, add-append, closed?, closed-append, closed-names, plain-name, names-of-more, name-bytes-append, length-marked}
+use Rattle.laws.specs.Names.{names-added, name-added, add-append, closed?, closed-append, closed-names, plain-name, names-of-more, length-marked}
 use Rattle.buffers.specs.Sets.{written as read-back}
-use Rattle.numerals.specs.Numerals.{Written, digits-in, up, down, six-if, zeros-if, six-of, numeral-six, numeral-token, token-of-six}
+use Rattle.numerals.specs.Numerals.{Written, digits-in, up, down, six-if, zeros-if, six-of, numeral-six, token-of-six}
 use Rattle.numerals.specs.Laws.{six-token}
 use Rattle.numerals.specs.declared.Numeral.{Numeral}
 use Rattle.numerals.specs.declared.Six.{Six}
@@ -28,13 +28,11 @@ use Rattle.names.specs.Answers.{spelled, Numbers}
 use Rattle.names.specs.declared.Numbered.{Numbered}
 use Rattle.operands.specs.Draft.{low, written, after, draft}
 use Rattle.operands.specs.NameLaws.{new-is}
-use Rattle.operands.specs.DraftLaws.{no-bool}
-use Rattle.operands.specs.KindLaws.{name-length, array?, numeral-of, quoted-length, IsName, is-name, IsNumber, is-number, IsQuoted, is-quoted}
-use Rattle.operands.specs.Says.{Env, env, Mem, mem, spot, known, items-at, Asks, Next, item-of, Marks, Wrote, Passed, Took, Inside, Outside, Counts}
+use Rattle.operands.specs.KindLaws.{name-length, array?, numeral-of, quoted-length, IsName, is-name, is-number, is-quoted}
+use Rattle.operands.specs.Says.{Env, env, Mem, mem, spot, known, Asks, item-of, Wrote, Took, Counts}
 use Rattle.operands.specs.SeesLaws.{next-of}
 use Rattle.operands.specs.TookLaws.{calm?, calm-end, next-calm, passed-bytes}
 use Rattle.operands.specs.declared.Spot.{Spot}
-use Rattle.operands.specs.declared.Step.{Step}
 use Rattle.operands.specs.declared.Step.the-variants.{Done, Refused}
 
 -- ---- names

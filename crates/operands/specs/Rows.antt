@@ -1,15 +1,15 @@
 -- The rows of the grammar that the readers of expressions are proved by.
 use Prim.Native.Nat.{ℕ}
-use mathlib.Core.Path.{_≡_, refl, ap, sym, subst, _∙_}
+use mathlib.Core.Path.{_≡_, refl, sym, subst}
 use mathlib.Core.Bool.{Bool, true, false}
-use mathlib.Core.List.{List, [], _∷_, _++_}
+use mathlib.Core.List.{[], _∷_, _++_}
 use lib.Dec.{eqb}
 use borrow.Author.Tests.{ne-eqb, eqb-true}
 use Rattle.paper.specs.Bytes.{pick}
 use Rattle.paper.specs.Classes.{number, quoted, numeric-variable, string-variable, array, open-sign, close-sign, comma, equals, comparison, plus-minus, factor-sign, not-word, or-and, string-function, function-of-string, function-of-number}
 use Rattle.paper.specs.Frames.{want-operand, want-more-terms, want-array-open, want-second, want-close, want-function-open, want-string, want-substring, want-string-comparison}
-use Rattle.paper.specs.Machine.{Act, take, leave, refuse, Row, row, at-row}
-use Rattle.paper.specs.Grammar.{Gives, itself, for-strings, as-prefix, put, look}
+use Rattle.paper.specs.Machine.{take, leave, refuse, row, at-row}
+use Rattle.paper.specs.Grammar.{itself, for-strings, as-prefix, put, look}
 use Rattle.paper.specs.Open.{all-Bytes, all-Machine, all-Grammar}
 use Rattle.operands.specs.Tests.{joins?, compares?}
 use Rattle.operands.specs.DraftLaws.{no-bool}

@@ -9,7 +9,7 @@ use Rattle.paper.specs.Classes.{line-end, remark}
 use Rattle.paper.specs.Tokens.{Token, class, out-of-range?}
 use Rattle.paper.specs.Names.{names-in, name-bytes, add-names}
 use Rattle.paper.specs.Items.{Item, item, opens, scan, raw-at}
-use Rattle.paper.specs.Machine.{Taken, Run, left, done, bad, read}
+use Rattle.paper.specs.Machine.{Taken, done, bad, read}
 use Rattle.paper.specs.Grammar.{Gives, itself, given, look-in-range}
 use Rattle.paper.specs.Line.{begins?}
 use Rattle.paper.specs.WellFormed.{tokens-of}

@@ -1,10 +1,10 @@
 -- The item that was seen stands next among the items of the text.
 use Prim.Native.Nat.{ℕ, _+_, _-_}
-use mathlib.Core.Path.{_≡_, refl, sym, ap, _∙_}
+use mathlib.Core.Path.{_≡_, refl}
 use mathlib.Core.Bool.{Bool, true, false}
 use mathlib.Core.List.{List, [], _∷_}
 use lib.Dec.{eqb}
-use lib.ListN.{length, drop}
+use lib.ListN.{drop}
 use borrow.Author.Tests.{eqb-true, eqb-false, eq-eqb, ne-eqb}
 use Rattle.paper.specs.Bytes.{pick}
 use Rattle.paper.specs.Classes.{line-end, remark}
@@ -13,7 +13,7 @@ use Rattle.paper.specs.Items.{Item, item, opens, raw-at}
 use Rattle.items.specs.Sees.{Sees, token-at}
 use Rattle.items.specs.ScanLaws.{items-next, items-raw, items-end}
 use Rattle.items.specs.declared.Item.{Item as Seen}
-use Rattle.operands.specs.Says.{Env, env, items-at, item-of, Next}
+use Rattle.operands.specs.Says.{env, items-at, item-of, Next}
 
 module _ {s : List ℕ} {at : ℕ} {first : Bool} {it : Seen} (v : Sees s at first it) (o : ℕ) (n : List ℕ) where
   abbrev after-item : List Item

@@ -1,14 +1,13 @@
 -- Single items: passed, and written as their rows give them.
-use Prim.Native.Nat.{ℕ, zero, suc, _+_, _*_, _-_, _≤_, _<_}
+use Prim.Native.Nat.{ℕ, _+_, _*_, _-_, _≤_, _<_}
 use native.Mathlib.Nat.{add-zero}
 use native.Mathlib.Omega.{arith}
 use mathlib.Core.Path.{_≡_, refl, subst, sym, ap, _∙_}
-use mathlib.Core.Bool.{Bool, true, false, not, _&&_, _||_}
-use mathlib.Core.List.{List, [], _∷_, _++_, append-nil}
+use mathlib.Core.Bool.{Bool, true, false, _||_}
+use mathlib.Core.List.{List, [], _∷_}
 use lib.Dec.{eqb, leb, ltb}
 use borrow.Author.Tests.{leb-true, ne-eqb, lt-ltb}
 use lib.ListN.{length, set}
-use lib.ListN.{take as front}
 use lib.Seq.{sets}
 use Rattle.paper.specs.Bytes.{pick}
 use Rattle.paper.specs.Classes.{line-end, remark, colon, then-word, number}
@@ -23,11 +22,11 @@ use Rattle.operands.specs.Draft.{written, after, draft}
 use Rattle.operands.specs.NameLaws.{new-same}
 use Rattle.operands.specs.DraftLaws.{no-bool}
 use Rattle.operands.specs.ClassLaws.{own-of, operator-by-class, small-operator}
-use Rattle.operands.specs.Says.{Env, Mem, mem, spot, known, items-at, Asks, Next, item-of, Marks, Wrote, Passed, Took, Got, Says, Hit, Miss, Expects, as-operator, as-own}
-use Rattle.operands.specs.Laws.{takes, takes-last, refuses}
+use Rattle.operands.specs.Says.{Env, Mem, mem, spot, known, items-at, Asks, Next, item-of, Wrote, Passed, Took, Says, Hit, Expects, as-operator, as-own}
+use Rattle.operands.specs.Laws.{takes-last, refuses}
 use Rattle.operands.specs.declared.Spot.{Spot}
 use Rattle.operands.specs.declared.Step.{Step}
-use Rattle.operands.specs.declared.Step.the-variants.{Done, Refused}
+use Rattle.operands.specs.declared.Step.the-variants.{Refused}
 
 -- a class whose item is no end and no REM or DATA, and after which no statement position comes
 abbrev pub calm? : ℕ → Bool

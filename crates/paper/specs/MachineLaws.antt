@@ -1,7 +1,7 @@
 -- Laws of the stack machine, for every grammar: a stack in two parts, items in two parts.
 use Prim.Native.Nat.{ℕ}
 use mathlib.Core.Path.{_≡_, refl, ap, sym, _∙_}
-use mathlib.Core.List.{List, [], _∷_, _++_, append-assoc, append-nil}
+use mathlib.Core.List.{List, [], _∷_, _++_, append-assoc}
 use Rattle.paper.specs.Machine.{Act, take, leave, refuse, Step, took, over, refused, step-act, Taken, Run, left, done, bad, and-taken, step, go-on, read}
 
 module _ {E : Type 0} where

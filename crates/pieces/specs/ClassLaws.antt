@@ -1,14 +1,12 @@
 -- A variable's class in statement position is the third after its own.
 use Prim.Native.Nat.{ℕ, _+_, _<_}
-use mathlib.Core.Path.{_≡_, refl, ap, sym, _∙_}
+use mathlib.Core.Path.{_≡_, refl}
 use mathlib.Core.Bool.{Bool, true, false}
-use mathlib.Core.List.{List, [], _∷_, _++_}
-use lib.Dec.{T, eqb, ltb, ltb→lt}
-use Rattle.paper.specs.Bytes.{pick, every}
-use Rattle.paper.specs.Classes.{unfit, raw-end, raw-text, numeric-variable, string-variable, array, first-numeric, first-string, first-array}
-use Rattle.paper.specs.Words.{Word, word, word-of, statements, operators}
-use Rattle.paper.specs.Tokens.{Token, operator, variable, assigned, raw, class, by-kind, operator-class, as-read, read-as}
-use Rattle.paper.specs.Open.{all-Bytes, all-Words}
+use mathlib.Core.List.{List, [], _∷_}
+use lib.Dec.{eqb, ltb, ltb→lt}
+use Rattle.paper.specs.Bytes.{pick}
+use Rattle.paper.specs.Classes.{raw-end, raw-text, numeric-variable, string-variable, array, first-numeric, first-string, first-array}
+use Rattle.paper.specs.Tokens.{operator, variable, assigned, raw, class, by-kind, operator-class, as-read, read-as}
 use Rattle.laws.specs.Classes.{at-kind}
 
 pub variable-low : (n : List ℕ) → class (variable n) < 40

@@ -2,12 +2,12 @@
 use Prim.Native.Nat.{ℕ, zero, suc, _+_, _-_}
 use native.Mathlib.Nat.{add-zero}
 use native.Mathlib.Omega.{arith}
-use mathlib.Core.Path.{_≡_, refl, sym, ap, _∙_}
+use mathlib.Core.Path.{_≡_, refl, ap, _∙_}
 use mathlib.Core.Bool.{Bool, true, false}
 use mathlib.Core.List.{List, [], _∷_, _++_}
 use lib.Dec.{eqb, leb}
 use lib.ListN.{take, drop, getD}
-use lib.Seq.{drop-nil, drop-drop, getD-drop}
+use lib.Seq.{getD-drop}
 use Rattle.paper.specs.Bytes.{pick, run}
 use Rattle.paper.specs.Tokens.{Token, statement, assigned, operator, variable, constant, string, raw}
 use Rattle.paper.specs.Items.{raw-byte?}

@@ -2,16 +2,14 @@
 use Prim.Native.Nat.{ℕ}
 use mathlib.Core.Path.{_≡_, refl, subst, sym, ap, _∙_}
 use mathlib.Core.Bool.{Bool, true, false, not, _&&_}
-use mathlib.Core.List.{List, [], _∷_, _++_}
+use mathlib.Core.List.{List, [], _∷_}
 use lib.Dec.{T, eqb, eqb→eq}
-use lib.ListN.{getD}
-use Rattle.paper.specs.Bytes.{pick, every, among}
-use Rattle.paper.specs.Classes.{open-sign, comma, equals, comparison, plus-minus, raw-end, unfit, number, quoted, raw-text, numeric-variable, string-variable, array, first-numeric, first-string, first-array}
-use Rattle.paper.specs.Words.{Word, word, word-of, statements}
-use Rattle.paper.specs.Tokens.{Token, statement, assigned, operator, variable, constant, string, raw, out-of-range, unreadable, class, by-kind}
-use Rattle.paper.specs.Items.{Item, item}
-use Rattle.paper.specs.Machine.{Act, take, leave, refuse, Row, no-row, at-row, find-row, Step, took, over, refused, step-act, step}
-use Rattle.paper.specs.Grammar.{Gives, itself, for-strings, as-prefix, put, moved, given, grammar, may-be-empty, look, look-item}
+use Rattle.paper.specs.Bytes.{every, among}
+use Rattle.paper.specs.Classes.{open-sign, comma, equals, comparison, plus-minus, raw-end, unfit, numeric-variable, string-variable, array, first-numeric, first-string, first-array}
+use Rattle.paper.specs.Words.{Word, word, statements}
+use Rattle.paper.specs.Tokens.{Token, statement, assigned, operator, variable, constant, string, raw, class, by-kind}
+use Rattle.paper.specs.Machine.{Act, take, leave, refuse, Row, no-row, at-row, find-row, Step, took, step-act, step}
+use Rattle.paper.specs.Grammar.{Gives, itself, for-strings, as-prefix, put, moved, given, grammar, may-be-empty, look}
 use Rattle.paper.specs.Open.{all-Bytes, all-Words, all-Machine, all-Grammar}
 use Rattle.laws.specs.Tests.{and-left, and-right, as-T}
 use Rattle.laws.specs.Classes.{word-passes, at-kind}

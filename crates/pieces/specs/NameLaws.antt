@@ -1,14 +1,13 @@
 -- Names of a sound table: each is found at its own number, and has at least a byte without its `(`.
-use Prim.Native.Nat.{ℕ, zero, suc, _+_, _-_, _≤_, _<_}
+use Prim.Native.Nat.{ℕ, zero, suc, _+_, _-_, _<_}
 use native.Mathlib.Omega.{arith}
 use mathlib.Core.Path.{_≡_, refl, subst, sym, ap, _∙_}
 use mathlib.Core.Bool.{Bool, true, false, not, _&&_}
 use mathlib.Core.List.{List, [], _∷_}
 use lib.Dec.{T, eqb, leb, ltb}
 use borrow.Author.Tests.{eqb-true, ltb-true, ltb-false}
-use lib.ListN.{length, take, drop, getD, List·getD-eq-default}
+use lib.ListN.{length, take, getD, List·getD-eq-default}
 use Rattle.paper.specs.Bytes.{pick, letter?, same, every, joined}
-use Rattle.paper.specs.Words.{reserved?}
 use Rattle.paper.specs.Names.{names-in, name-bytes, name?, less-open, all-different, most-names, sound-names, sound-table}
 use Rattle.laws.specs.Tests.{and-left, and-right, is-true}
 use Rattle.laws.specs.Names.{number-at}

@@ -1,28 +1,26 @@
 -- What the tests that tell a piece say of its bytes; and tokens that are written: those of a piece, and those after it.
-use Prim.Native.Nat.{ℕ, zero, suc, _+_, _-_, _≤_, _<_}
-use native.Mathlib.Nat.{add-zero}
+use Prim.Native.Nat.{ℕ, suc, _+_, _-_, _≤_, _<_}
 use native.Mathlib.Omega.{arith}
 use mathlib.Core.Path.{_≡_, refl, subst, sym, ap, ap₂, _∙_}
-use mathlib.Core.Bool.{Bool, true, false, not, _&&_}
-use mathlib.Core.List.{List, [], _∷_, _++_, append-assoc}
-use lib.Dec.{T, eqb, leb, ltb, eqb→eq, leb→le, ltb→lt, lt→ltb}
-use lib.ListN.{length, take, drop, getD, length-append, length-take, length-drop, take-append-drop}
+use mathlib.Core.Bool.{Bool, true, false, not}
+use mathlib.Core.List.{List, [], _∷_, _++_}
+use lib.Dec.{T, eqb, leb, eqb→eq, ltb→lt, lt→ltb}
+use lib.ListN.{length, take, drop, getD, length-append, length-drop, take-append-drop}
 use lib.Seq.{drop-drop, length-take-le, getD-drop, drop-cons}
 use borrow.Author.Tests.{eqb-true, leb-true}
 use Rattle.paper.specs.Bytes.{pick, run, every}
-use Rattle.paper.specs.Words.{statement-word?}
 use Rattle.paper.specs.Tokens.{Token, statement, assigned, operator, variable, constant, string, raw}
 use Rattle.paper.specs.Constants.{right-constant?}
-use Rattle.paper.specs.Names.{less-open, number-of, known?}
-use Rattle.paper.specs.Items.{raw-byte?, string-byte?}
+use Rattle.paper.specs.Names.{number-of, known?}
+use Rattle.paper.specs.Items.{raw-byte?}
 use Rattle.paper.specs.Line.{own-bytes, begins?, variable-bytes, raw-statement?}
 use Rattle.paper.specs.WellFormed.{right-token?}
-use Rattle.laws.specs.Tests.{and-left, and-right, and-both, is-true, is-false, as-T}
+use Rattle.laws.specs.Tests.{and-left, and-right, and-both, as-T}
 use Rattle.pieces.specs.declared.Piece.{Piece}
 use Rattle.pieces.specs.declared.Piece.the-variants.{Word, Text, Target, Variable, Constant, Quoted, Operator}
-use Rattle.pieces.specs.Pieces.{piece-at, tokens-of-piece, size-of, end-after, Holds}
+use Rattle.pieces.specs.Pieces.{piece-at, size-of, end-after, Holds}
 use Rattle.pieces.specs.Rest.{Numbered, Written}
-use Rattle.pieces.specs.Written.{head-is, tail-is, Within, within, within-up, Begun, begun, begun-up}
+use Rattle.pieces.specs.Written.{head-is, within, within-up, begun, begun-up}
 
 -- ---- what the tests say
 

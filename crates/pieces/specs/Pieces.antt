@@ -1,7 +1,7 @@
 -- A line as pieces: what stands at a place, its tokens, its size, and where the statement that goes on after it ends.
 use Prim.Native.Nat.{ℕ, _+_, _-_, _≤_, _<_}
 use mathlib.Core.Bool.{not}
-use mathlib.Core.List.{List, [], _∷_, _++_}
+use mathlib.Core.List.{List, [], _∷_}
 use lib.Dec.{T, eqb, leb}
 use lib.ListN.{length, take, drop, getD}
 use Rattle.paper.specs.Bytes.{pick, run, every}

@@ -1,10 +1,10 @@
 -- What is left of a line: at a piece, and after it.
 use Prim.Native.Nat.{ℕ, _+_, _-_, _≤_, _<_}
 use native.Mathlib.Omega.{arith}
-use mathlib.Core.Path.{_≡_, refl, subst, sym, ap, _∙_}
+use mathlib.Core.Path.{_≡_, refl, subst, sym}
 use mathlib.Core.List.{List, [], _∷_, _++_}
-use lib.ListN.{length, take, drop, getD}
-use Rattle.paper.specs.Tokens.{Token, statement, assigned, operator, variable, constant, string, raw, class, as-read, read-as}
+use lib.ListN.{length, take, drop}
+use Rattle.paper.specs.Tokens.{Token, class, as-read}
 use Rattle.paper.specs.Machine.{Step, took, over, refused, step}
 use Rattle.paper.specs.Grammar.{Gives, given, look}
 use Rattle.paper.specs.Line.{tokens-from}
@@ -13,7 +13,6 @@ use Rattle.pieces.specs.declared.Piece.the-variants.{Word, Text, Target,
 use Rattle.pieces.specs.Pieces.{piece-at, tokens-of-piece, size-of, end-after, Holds}
 use Rattle.pieces.specs.Rest.{Numbered, After, Takes, Written, Rest}
 use Rattle.pieces.specs.Decoded.{pieces}
-use Rattle.pieces.specs.GivenLaws.{step-given, Plain}
 use Rattle.pieces.specs.PieceLaws.{Is, piece-is, Left, less-word, less-text, less-target, less-variable, less-constant, less-quoted, less-operator, Later, more-word, more-text, more-target, more-variable, more-constant, more-quoted, more-operator}
 
 -- ---- one token

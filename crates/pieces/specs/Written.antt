@@ -1,14 +1,13 @@
 -- Tokens that are written at the front of some bytes: one more, one less.
-use Prim.Native.Nat.{ℕ, zero, suc, _+_, _≤_}
-use native.Mathlib.Nat.{add-zero, add-suc, suc-add}
+use Prim.Native.Nat.{ℕ, suc, _+_}
 use native.Mathlib.Omega.{arith}
-use mathlib.Core.Path.{_≡_, refl, subst, sym, ap, ap₂, _∙_}
-use mathlib.Core.Bool.{Bool, true, false, _&&_}
-use mathlib.Core.List.{List, [], _∷_, _++_}
+use mathlib.Core.Path.{_≡_, sym, ap, ap₂, _∙_}
+use mathlib.Core.Bool.{true, false}
+use mathlib.Core.List.{List, _∷_, _++_}
 use lib.Dec.{T}
-use lib.ListN.{length, take, drop, length-append}
+use lib.ListN.{length, drop}
 use lib.Seq.{drop-append-seam}
-use Rattle.paper.specs.Bytes.{pick, every}
+use Rattle.paper.specs.Bytes.{every}
 use Rattle.paper.specs.Tokens.{Token}
 use Rattle.paper.specs.Line.{own-bytes, begins?, to-next, token-bytes}
 use Rattle.paper.specs.WellFormed.{right-token?}

@@ -1,12 +1,12 @@
 -- Which classes can stand side by side in what a run takes: a relation `adj` that is tested on the table holds of every two neighbours.
 -- For each frame: the classes that it takes (`firsts`), and those that may come once it is gone (`follow`). Assumes nothing.
 use Prim.Native.Nat.{ℕ}
-use mathlib.Core.Path.{_≡_, refl, ap, sym, subst}
-use mathlib.Core.Bool.{Bool, true, false, _&&_, _||_}
+use mathlib.Core.Path.{_≡_, refl, ap, subst}
+use mathlib.Core.Bool.{Bool, true, false, _&&_}
 use mathlib.Core.List.{List, [], _∷_, _++_}
-use lib.Dec.{T, eqb, eqb→eq}
+use lib.Dec.{T, eqb}
 use Rattle.paper.specs.Machine.{Act, take, leave, refuse, Step, took, over, refused, step-act, Taken, Run, left, done, bad, and-taken, step, go-on, read}
-use Rattle.paper.specs.Machine.{Row, find-row, at-row, no-row}
+use Rattle.paper.specs.Machine.{Row, find-row}
 use Rattle.paper.specs.Bytes.{every, among}
 use Rattle.laws.specs.Tests.{and-left, and-right, or-else}
 use Rattle.laws.specs.RowTests.{at-rows}

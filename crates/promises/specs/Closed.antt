@@ -1,16 +1,16 @@
 -- A run from the start that leaves nothing wanted ended with the line's end, or the end of raw text.
 use Prim.Native.Nat.{ℕ}
 use mathlib.Core.Path.{_≡_, subst, sym, ap, _∙_}
-use mathlib.Core.Bool.{Bool, true, false, not, _&&_, _||_}
+use mathlib.Core.Bool.{Bool, false, not, _||_}
 use mathlib.Core.List.{List, [], _∷_, map}
-use lib.Dec.{T, T-not, eqb, eqb→eq}
+use lib.Dec.{T, T-not, eqb}
 use Rattle.paper.specs.Bytes.{every, among}
 use Rattle.paper.specs.Classes.{line-end, raw-end}
 use Rattle.paper.specs.Tokens.{Token, class}
-use Rattle.paper.specs.Machine.{Act, take, leave, refuse, Row, find-row, at-row, no-row, Step, took, over, refused, step-act, Taken, Run, left, done, bad, and-taken, step, go-on, read}
+use Rattle.paper.specs.Machine.{Act, take, leave, refuse, Row, Step, took, over, refused, step-act, Taken, Run, left, done, bad, and-taken, step, go-on, read}
 use Rattle.paper.specs.Grammar.{Gives, grammar, may-be-empty, look, start}
 use Rattle.paper.specs.Open.{all-Bytes, all-Grammar, all-Machine}
-use Rattle.laws.specs.Tests.{and-left, and-right, or-else}
+use Rattle.laws.specs.Tests.{or-else}
 use Rattle.laws.specs.RowTests.{at-rows}
 use Rattle.promises.specs.Viable.{Good, StepGood, none, nil?, heads, under, step-good}
 use Rattle.promises.specs.ViableGrammar.{rows-good, start-good}

@@ -2,14 +2,14 @@
 use Prim.Native.Nat.{ℕ}
 use native.Mathlib.Omega.{arith}
 use mathlib.Core.Path.{_≡_, refl, subst, sym, ap, _∙_}
-use mathlib.Core.Bool.{Bool, true, false, not, _&&_, _||_}
+use mathlib.Core.Bool.{Bool, not, _&&_, _||_}
 use mathlib.Core.List.{List, [], _∷_, _++_}
 use lib.Dec.{T, T-not, eqb, eqb→eq}
 use Rattle.paper.specs.Bytes.{pick, every, among}
 use Rattle.paper.specs.Classes.{unfit}
 use Rattle.paper.specs.Tokens.{class}
 use Rattle.paper.specs.Items.{Item}
-use Rattle.paper.specs.Machine.{Act, take, leave, refuse, Row, find-row, at-row, no-row, Step, took, over, refused, step-act, Taken, Run, left, done, bad, and-taken, step, go-on, read}
+use Rattle.paper.specs.Machine.{Act, take, leave, refuse, Row, Step, took, over, refused, step-act, Taken, Run, left, done, bad, and-taken, step, go-on, read}
 use Rattle.paper.specs.Grammar.{Gives, grammar, may-be-empty, look, look-item, start}
 use Rattle.paper.specs.Open.{all-Bytes, all-Grammar, all-Machine}
 use Rattle.laws.specs.Tests.{and-left, and-right, or-else}

@@ -2,13 +2,13 @@
 -- They are the same run up to the first out-of-range constant that the grammar takes.
 use Prim.Native.Nat.{ℕ}
 use mathlib.Core.Path.{_≡_, refl, subst, sym, ap}
-use mathlib.Core.Bool.{Bool, true, false, not, _&&_}
+use mathlib.Core.Bool.{Bool, true, false, not}
 use mathlib.Core.List.{List, [], _∷_, _++_}
 use lib.Dec.{T}
 use Rattle.paper.specs.Bytes.{every}
 use Rattle.paper.specs.Tokens.{out-of-range?, class}
 use Rattle.paper.specs.Items.{Item}
-use Rattle.paper.specs.Machine.{Act, take, leave, refuse, Row, no-row, at-row, find-row, Step, took, over, refused, step-act, Taken, Run, left, done, bad, and-taken, step, go-on, read}
+use Rattle.paper.specs.Machine.{Act, take, leave, refuse, Row, Step, took, over, refused, step-act, Taken, Run, left, done, bad, and-taken, step, go-on, read}
 use Rattle.paper.specs.Grammar.{Gives, grammar, may-be-empty, look, look-item, if-in-range, look-in-range}
 use Rattle.laws.specs.RowTests.{at-rows}
 use Rattle.promises.specs.Place.{sources, Stop, more}

@@ -1,12 +1,11 @@
 -- Runs over items, over their tokens, and over their classes are the same run; and a test of what each row gives holds of all that a run takes.
 use Prim.Native.Nat.{ℕ}
 use mathlib.Core.Path.{_≡_, refl, subst, sym, ap, _∙_}
-use mathlib.Core.Bool.{Bool, true, false, _&&_}
+use mathlib.Core.Bool.{Bool}
 use mathlib.Core.List.{List, [], _∷_, map}
-use lib.Dec.{T, eqb, eqb→eq}
-use Rattle.paper.specs.Bytes.{every, among}
-use Rattle.paper.specs.Machine.{Act, take, leave, refuse, Row, find-row, at-row, no-row, Step, took, over, refused, step-act, Taken, Run, left, done, bad, and-taken, step, go-on, read}
-use Rattle.laws.specs.Tests.{and-left, and-right}
+use lib.Dec.{T}
+use Rattle.paper.specs.Bytes.{every}
+use Rattle.paper.specs.Machine.{Act, take, leave, refuse, Row, find-row, Step, took, over, refused, step-act, Taken, Run, left, done, bad, and-taken, step, go-on, read}
 use Rattle.laws.specs.RowTests.{at-rows}
 use Rattle.promises.specs.Place.{by-class, step-class}
 

@@ -4,13 +4,13 @@
 use Prim.Native.Nat.{ℕ, zero, suc, _+_}
 use native.Mathlib.Nat.{add-zero, zero-add, add-suc, suc-add}
 use mathlib.Core.Path.{_≡_, refl, ap, sym, _∙_, subst}
-use mathlib.Core.Bool.{Bool, true, false, not, _&&_, _||_}
+use mathlib.Core.Bool.{Bool, true, false, not, _&&_}
 use mathlib.Core.List.{List, [], _∷_, _++_, append-assoc}
 use lib.Dec.{T, eqb, eqb→eq}
 use lib.ListN.{getD}
 use Rattle.paper.specs.Machine.{Act, take, leave, refuse, Step, took, over, refused, step-act, Taken, Run, left, done, bad, and-taken, step, go-on, read}
 use Rattle.paper.specs.MachineLaws.{all-taken, seq, then, read-append, read-then}
-use Rattle.paper.specs.Machine.{Row, find-row, at-row, no-row}
+use Rattle.paper.specs.Machine.{Row, find-row}
 use Rattle.paper.specs.Bytes.{every, among}
 use Rattle.laws.specs.Tests.{everyAt, and-left, and-right, or-else}
 use Rattle.laws.specs.RowTests.{at-rows}

@@ -1,16 +1,15 @@
 -- A statement from its first item and its rest, and a line from its statements.
-use Prim.Native.Nat.{ℕ, zero, suc, _+_, _*_, _-_, _≤_, _<_}
+use Prim.Native.Nat.{ℕ, suc, _+_, _-_, _≤_, _<_}
 use native.Mathlib.Omega.{arith}
-use native.Mathlib.Nat.{add-zero}
 use mathlib.Core.Path.{_≡_, refl, subst, sym, ap, _∙_}
-use mathlib.Core.Bool.{Bool, true, false}
-use mathlib.Core.List.{List, [], _∷_, _++_, append-nil, append-assoc}
-use lib.ListN.{length, take, drop, set, length-append, length-drop}
+use mathlib.Core.Bool.{Bool, true}
+use mathlib.Core.List.{List, [], _∷_, _++_}
+use lib.ListN.{length, drop, set, length-drop}
 use lib.Seq.{sets, drop-drop, set-set, set-comm}
 use Rattle.paper.specs.Tokens.{Token}
 use Rattle.paper.specs.Names.{name-bytes, add-names}
 use Rattle.paper.specs.Items.{Item, scan}
-use Rattle.paper.specs.Machine.{Taken, Run, left, done, bad, and-taken, read}
+use Rattle.paper.specs.Machine.{Run, done, and-taken, read}
 use Rattle.paper.specs.Machine.{take as takes-item}
 use Rattle.paper.specs.MachineLaws.{all-taken}
 use Rattle.paper.specs.Frames.{want-statement}
@@ -21,10 +20,10 @@ use Rattle.laws.specs.Names.{names-added, name-bytes-append, adds-append}
 use Rattle.operands.specs.Draft.{low, written, after, draft, still, with-offsets}
 use Rattle.operands.specs.NameLaws.{new-append}
 use Rattle.operands.specs.DraftLaws.{Starts, statement-offsets, statement-draft, offsets-append}
-use Rattle.operands.specs.Says.{Env, env, Mem, mem, spot, known, items-at, taken, item-of, Asks, Marks, Wrote}
+use Rattle.operands.specs.Says.{Env, env, Mem, mem, spot, known, items-at, taken, Asks, Wrote}
 use Rattle.operands.specs.Laws.{out-then, count-then, tokens-append, wrote-then, taken-bad, read-take}
-use Rattle.rests.specs.Ends.{Goes, Closes, Halts, Reads}
-use Rattle.rests.specs.EndLaws.{taken-append, taken-left}
+use Rattle.rests.specs.Ends.{Halts, Reads}
+use Rattle.rests.specs.EndLaws.{taken-left}
 use Rattle.reader.specs.Lines.{Lined, Began, Follows, Finishes, States, Tells}
 use Rattle.operands.specs.declared.Spot.{Spot}
 use Rattle.operands.specs.declared.Step.{Step}

@@ -1,8 +1,8 @@
 -- What the readers of statements and of a whole line say.
-use Prim.Native.Nat.{ℕ, _+_, _*_, _≤_, _<_}
+use Prim.Native.Nat.{ℕ, _+_, _≤_, _<_}
 use mathlib.Core.Path.{_≡_}
-use mathlib.Core.Bool.{Bool, true, false}
-use mathlib.Core.List.{List, [], _∷_, _++_}
+use mathlib.Core.Bool.{true, false}
+use mathlib.Core.List.{List, [], _∷_}
 use lib.Dec.{eqb}
 use lib.ListN.{length, drop}
 use lib.Seq.{sets}
@@ -11,7 +11,7 @@ use Rattle.paper.specs.Names.{name-bytes, add-names}
 use Rattle.paper.specs.Bytes.{pick}
 use Rattle.paper.specs.Classes.{remark}
 use Rattle.paper.specs.Items.{Item, raw-at}
-use Rattle.paper.specs.Machine.{Taken, Run, left, done, bad, read}
+use Rattle.paper.specs.Machine.{Taken, left, done, read}
 use Rattle.paper.specs.MachineLaws.{all-taken}
 use Rattle.paper.specs.Frames.{want-statement}
 use Rattle.paper.specs.Grammar.{Gives, look-in-range}

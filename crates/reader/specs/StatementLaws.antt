@@ -1,27 +1,25 @@
 -- A statement's first item, the raw text after REM and DATA, and the rest that follows the first item.
-use Prim.Native.Nat.{ℕ, zero, suc, _+_, _*_, _-_, _≤_, _<_}
-use native.Mathlib.Nat.{add-zero}
+use Prim.Native.Nat.{ℕ, suc, _+_, _*_, _-_, _≤_, _<_}
 use native.Mathlib.Omega.{arith}
 use mathlib.Core.Path.{_≡_, refl, subst, sym, ap, _∙_}
-use mathlib.Core.Bool.{Bool, true, false, not}
-use mathlib.Core.List.{List, [], _∷_, _++_, append-nil, append-assoc}
+use mathlib.Core.Bool.{Bool, true, false}
+use mathlib.Core.List.{List, [], _∷_, append-nil}
 use lib.Dec.{eqb}
 use borrow.Author.Tests.{ne-eqb, eq-eqb, eqb-true, eqb-false}
-use lib.ListN.{length, take, drop, getD, set, length-append, length-drop}
+use lib.ListN.{length, take, drop, getD, set, length-drop}
 use lib.Seq.{sets, take-all, length-take-le}
 use Rattle.paper.specs.Bytes.{pick}
-use Rattle.paper.specs.Classes.{line-end, raw-end, raw-text, unfit, remark}
+use Rattle.paper.specs.Classes.{raw-end, raw-text, unfit, remark}
 use Rattle.paper.specs.Tokens.{Token, statement, assigned, operator, raw, unreadable, class}
-use Rattle.paper.specs.Names.{names-in, name-bytes, number-of, add-name, add-names}
+use Rattle.paper.specs.Names.{number-of, add-name, add-names}
 use Rattle.paper.specs.Items.{Item, item, opens, raw-at, variable-at}
-use Rattle.paper.specs.Machine.{leave, refuse, took, refused, step-act, Taken, Run, left, done, bad, and-taken, step, go-on, read}
+use Rattle.paper.specs.Machine.{refuse, refused, step-act, left, bad, and-taken, step, go-on, read}
 use Rattle.paper.specs.Machine.{take as takes-item}
 use Rattle.paper.specs.Frames.{want-statement, want-raw-text, want-raw-end}
 use Rattle.paper.specs.Grammar.{Gives, itself, given, look, look-in-range}
 use Rattle.paper.specs.Line.{begins?}
 use Rattle.paper.specs.WellFormed.{tokens-of}
-use Rattle.paper.specs.Open.{all-Bytes, all-Words, all-Tokens, all-Machine, all-Grammar}
-use Rattle.laws.specs.Names.{names-added}
+use Rattle.paper.specs.Open.{all-Bytes, all-Words, all-Tokens}
 use Rattle.items.specs.Sees.{Sees, token-at}
 use Rattle.items.specs.Kinds.{raw-seen}
 use Rattle.items.specs.ScanLaws.{items-of-raw, raw-within, raw-ending}
@@ -29,17 +27,16 @@ use Rattle.items.specs.declared.Item.{Item as Found}
 use Rattle.items.specs.declared.RawText.{RawText}
 use Rattle.names.specs.Answers.{Numbers}
 use Rattle.names.specs.declared.Numbered.{Numbered}
-use Rattle.operands.specs.Draft.{low, written, after, draft, still}
-use Rattle.operands.specs.DraftLaws.{no-bool, still-more, still-none}
-use Rattle.operands.specs.NameLaws.{new-same}
+use Rattle.operands.specs.Draft.{low, written, after, draft}
+use Rattle.operands.specs.DraftLaws.{still-more, still-none}
 use Rattle.operands.specs.ClassLaws.{own-of, statement-by-class}
-use Rattle.operands.specs.Says.{Env, env, Mem, mem, spot, known, items-at, taken, item-of, Asks, Next, Marks, Wrote}
-use Rattle.operands.specs.Laws.{out-then, count-then, wrote-then, row-take, row-refuse, read-front, read-take}
+use Rattle.operands.specs.Says.{Env, env, Mem, mem, spot, known, items-at, taken, item-of, Asks, Next, Wrote}
+use Rattle.operands.specs.Laws.{wrote-then, row-take, row-refuse}
 use Rattle.operands.specs.TookLaws.{wrote-bytes, asks-after, one-byte, no-name, no-start}
 use Rattle.operands.specs.SeesLaws.{next-of}
-use Rattle.operands.specs.LeafLaws.{NameSeen, spelling, name-facts, wrote-name, asks-name, assigned-draft, assigned-after}
+use Rattle.operands.specs.LeafLaws.{spelling, name-facts, wrote-name, asks-name, assigned-draft, assigned-after}
 use Rattle.operands.specs.declared.Spot.{Spot}
-use Rattle.rests.specs.Ends.{Goes, Closes, Halts, Reads, Ends}
+use Rattle.rests.specs.Ends.{Closes, Halts, Reads, Ends}
 use Rattle.rests.specs.EndLaws.{reads-last, reads-stop, ends-refuse}
 use Rattle.rests.specs.Stacks.{Begins, begins-with, begins-not, step-refused}
 use Rattle.grammar.specs.Stack.{stack, gives-of, Steps}
@@ -49,7 +46,7 @@ use Rattle.reader.specs.Lines.{Began, rest-items}
 use Rattle.reader.specs.LineLaws.{part-items, part-asks}
 use Rattle.rests.specs.Rows.{raw-text-row, raw-end-row, raw-end-unfit}
 use Rattle.rests.specs.declared.Ended.{Ended}
-use Rattle.rests.specs.declared.Ended.the-variants.{More, Last, Refused}
+use Rattle.rests.specs.declared.Ended.the-variants.{Last, Refused}
 
 -- ---- raw text
 

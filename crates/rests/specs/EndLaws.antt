@@ -8,12 +8,12 @@ use lib.ListN.{set}
 use Rattle.paper.specs.Classes.{line-end}
 use Rattle.paper.specs.Tokens.{Token, operator, class}
 use Rattle.paper.specs.Items.{Item, opens}
-use Rattle.paper.specs.Machine.{took, refused, Taken, Run, left, done, bad, and-taken, step, go-on, read}
+use Rattle.paper.specs.Machine.{took, refused, Taken, Run, left, bad, and-taken, step, go-on, read}
 use Rattle.paper.specs.MachineLaws.{all-taken, seq, read-append}
 use Rattle.paper.specs.Frames.{want-statement, want-after-then}
 use Rattle.paper.specs.Grammar.{Gives, itself, given, look, look-item, look-in-range}
 use Rattle.paper.specs.WellFormed.{tokens-of}
-use Rattle.operands.specs.Draft.{draft, still}
+use Rattle.operands.specs.Draft.{still}
 use Rattle.operands.specs.DraftLaws.{still-append, still-more, still-none}
 use Rattle.operands.specs.Says.{Env, Mem, mem, spot, items-at, taken, item-of, Asks, Next, Wrote, Took, Got, Says}
 use Rattle.operands.specs.Laws.{tokens-append, wrote-none, wrote-then, ran-then, taken-bad}
@@ -22,7 +22,7 @@ use Rattle.operands.specs.ClassLaws.{own-of, operator-by-class, end-by-class}
 use Rattle.rests.specs.Ends.{Goes, Closes, Halts, Reads, Ends}
 use Rattle.operands.specs.declared.Spot.{Spot}
 use Rattle.operands.specs.declared.Step.{Step}
-use Rattle.operands.specs.declared.Step.the-variants.{Done, Refused as Halted}
+use Rattle.operands.specs.declared.Step.the-variants.{Refused as Halted}
 use Rattle.rests.specs.declared.Ended.{Ended}
 use Rattle.rests.specs.declared.Ended.the-variants.{More, Last, Refused}
 

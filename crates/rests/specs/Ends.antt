@@ -1,11 +1,10 @@
 -- What a reader of a statement's rest says: another statement follows, the line ends, or a refusal.
-use Prim.Native.Nat.{ℕ, _+_, _*_, _≤_, _<_}
+use Prim.Native.Nat.{ℕ, _≤_}
 use mathlib.Core.Path.{_≡_}
-use mathlib.Core.Bool.{Bool, true, false}
-use mathlib.Core.List.{List, [], _∷_, _++_}
-use lib.ListN.{length}
+use mathlib.Core.Bool.{true, false}
+use mathlib.Core.List.{List, [], _∷_}
 use Rattle.paper.specs.Items.{Item}
-use Rattle.paper.specs.Machine.{Taken, Run, left, done, bad, read}
+use Rattle.paper.specs.Machine.{Taken, left, bad, read}
 use Rattle.paper.specs.MachineLaws.{all-taken}
 use Rattle.paper.specs.Frames.{want-statement}
 use Rattle.paper.specs.Grammar.{Gives, look-in-range}

@@ -3,24 +3,23 @@ use Prim.Native.Nat.{ℕ, zero, suc, _+_, _*_, _-_, _≤_, _<_}
 use native.Mathlib.Omega.{arith}
 use mathlib.Core.Path.{_≡_, refl, subst, sym, ap, _∙_}
 use mathlib.Core.Bool.{Bool, true, false}
-use mathlib.Core.List.{List, [], _∷_, _++_, append-nil}
+use mathlib.Core.List.{List, [], _∷_, append-nil}
 use lib.Dec.{T, eqb}
 use borrow.Author.Tests.{ne-eqb}
-use lib.ListN.{length, getD, set}
+use lib.ListN.{getD, set}
 use Rattle.paper.specs.Bytes.{pick, same, among}
 use Rattle.paper.specs.Classes.{line-end, colon, then-word, number}
 use Rattle.paper.specs.Frames.{want-statement, want-after-then, want-end, want-operand}
 use Rattle.paper.specs.Tokens.{Token, out-of-range?, class}
 use Rattle.paper.specs.Items.{Item, opens}
-use Rattle.paper.specs.Machine.{take, took, refused, step-act, step}
+use Rattle.paper.specs.Machine.{take, took, step-act, step}
 use Rattle.paper.specs.Grammar.{Gives, itself, for-strings, as-prefix, put, look, look-in-range}
 use Rattle.laws.specs.Classes.{class-low}
 use Rattle.items.specs.Sees.{token-at}
-use Rattle.grammar.specs.Stack.{stack, gives-of, Steps}
-use Rattle.grammar.specs.declared.Step.{Step as Act}
+use Rattle.grammar.specs.Stack.{stack, gives-of}
 use Rattle.grammar.specs.declared.Step.the-variants as act
 use Rattle.operands.specs.ClassLaws.{own-of, in-range-by-class}
-use Rattle.operands.specs.Says.{Env, env, Mem, mem, spot, items-at, item-of, Asks, Next, Took, Got, Says, Counts}
+use Rattle.operands.specs.Says.{Env, env, Mem, mem, spot, items-at, item-of, Asks, Next, Took, Says, Counts}
 use Rattle.operands.specs.Sees.{Shows}
 use Rattle.operands.specs.TookLaws.{sign?, shifted, took-put, took-own, took-prefix, took-compare}
 use Rattle.operands.specs.declared.Spot.{Spot}
@@ -29,7 +28,7 @@ use Rattle.operands.specs.declared.Step.{Step}
 use Rattle.operands.specs.declared.Step.the-variants.{Done, Refused as Halted}
 use Rattle.rests.specs.Ends.{Reads, Ends}
 use Rattle.rests.specs.EndLaws.{reads-same, ends-then, ends-first, ends-step, ends-refuse, ends-last, reads-none, took-opener, then-statement}
-use Rattle.rests.specs.Stacks.{inner?, final?, good?, fine?, stepped?, stepped, not-taken, at-colon, at-end, at-then, at-other, fine-own, fine-sign, good-below, step-near, step-far, step-refused}
+use Rattle.rests.specs.Stacks.{inner?, final?, good?, fine?, stepped?, stepped, not-taken, at-colon, at-end, at-then, at-other, good-below, step-near, step-far, step-refused}
 use Rattle.rests.specs.Rows.{after-then-number, after-then-same}
 use Rattle.rests.specs.declared.Ended.{Ended}
 use Rattle.rests.specs.declared.Ended.the-variants.{More, Last, Refused}

@@ -1,16 +1,14 @@
 -- The rows of the grammar that the readers of statements are proved by.
-use Prim.Native.Nat.{ℕ, _≤_, _<_}
-use native.Mathlib.Omega.{arith}
-use mathlib.Core.Path.{_≡_, refl, ap, sym, subst, _∙_}
+use Prim.Native.Nat.{ℕ}
+use mathlib.Core.Path.{_≡_, refl}
 use mathlib.Core.Bool.{Bool, true, false}
-use mathlib.Core.List.{List, [], _∷_, _++_}
+use mathlib.Core.List.{[], _∷_}
 use lib.Dec.{eqb}
-use borrow.Author.Tests.{ne-eqb, eqb-true}
-use Rattle.paper.specs.Bytes.{pick}
-use Rattle.paper.specs.Classes.{line-end, raw-end, raw-text, number, quoted, numeric-variable, string-variable, array, open-sign, close-sign, comma, colon, semicolon, equals, comparison, plus-minus, factor-sign, not-word, or-and, goto-gosub, to-word, step-word, then-word, string-function, function-of-string, function-of-number, remark, let-word, first-numeric, first-array, first-string, if-word, for-word, next-word, on-word, dim-word, read-input, print-word, poke-word, jump, restore-word, alone}
-use Rattle.paper.specs.Frames.{want-statement, want-after-then, want-end, want-raw-text, want-raw-end, want-operand, want-more-terms, want-array-open, want-second, want-close, want-function-open, want-string, want-substring, want-string-comparison, want-number-assigned, want-string-assigned, want-let-target, want-then, want-for-variable, want-for-equals, want-to, want-step, want-next-variable, want-goto-gosub, want-more-lines, want-dim, want-dim-array-open, want-dim-string-open, want-more-dims, want-plain-variable, want-more-variables, want-print-list, want-print-comparison, want-print-separator, want-poke-comma, want-restore-number}
-use Rattle.paper.specs.Machine.{Act, take, leave, refuse, Row, row, at-row}
-use Rattle.paper.specs.Grammar.{Gives, itself, for-strings, as-prefix, put, look}
+use borrow.Author.Tests.{ne-eqb}
+use Rattle.paper.specs.Classes.{raw-end, raw-text, number, remark, let-word, first-numeric, first-array, first-string, if-word, for-word, next-word, on-word, dim-word, read-input, print-word, poke-word, jump, restore-word, alone}
+use Rattle.paper.specs.Frames.{want-statement, want-after-then, want-end, want-raw-text, want-raw-end, want-operand, want-more-terms, want-array-open, want-second, want-substring, want-number-assigned, want-string-assigned, want-let-target, want-then, want-for-variable, want-for-equals, want-to, want-step, want-next-variable, want-goto-gosub, want-more-lines, want-dim, want-plain-variable, want-print-list, want-poke-comma, want-restore-number}
+use Rattle.paper.specs.Machine.{take, refuse, row, at-row}
+use Rattle.paper.specs.Grammar.{itself, look}
 use Rattle.paper.specs.Open.{all-Bytes, all-Machine, all-Grammar}
 
 pub after-then-number : look want-after-then number ≡ take itself (want-end ∷ [])

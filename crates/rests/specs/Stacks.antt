@@ -2,7 +2,7 @@
 use Prim.Native.Nat.{ℕ, _≤_, _<_}
 use native.Mathlib.Omega.{arith}
 use mathlib.Core.Path.{_≡_, refl, subst, sym, ap, _∙_}
-use mathlib.Core.Bool.{Bool, true, false, not, _&&_, _||_}
+use mathlib.Core.Bool.{Bool, true, false, not, _&&_}
 use mathlib.Core.List.{List, [], _∷_, _++_, append-nil}
 use lib.Dec.{T, eqb, leb, ltb, eqb→eq}
 use borrow.Author.Tests.{eq-eqb, ne-eqb, leb-true, le-leb, lt-leb, lt-ltb}
@@ -11,12 +11,12 @@ use Rattle.paper.specs.Classes.{line-end, colon, then-word, remark}
 use Rattle.paper.specs.Frames.{want-statement, want-after-then, want-end, want-raw-text, want-raw-end, want-let-target, want-then}
 use Rattle.paper.specs.Tokens.{out-of-range?, class}
 use Rattle.paper.specs.Items.{Item}
-use Rattle.paper.specs.Machine.{Act, take, leave, refuse, Row, Step, took, over, refused, step-act, step}
+use Rattle.paper.specs.Machine.{Act, take, leave, refuse, took, over, refused, step-act, step}
 use Rattle.paper.specs.Grammar.{Gives, itself, for-strings, as-prefix, put, grammar, may-be-empty, look, look-item, if-in-range, look-in-range}
 use Rattle.paper.specs.Open.{all-Bytes, all-Machine, all-Grammar}
 use Rattle.laws.specs.Tests.{and-left, and-right, and-both, is-true, or-else}
 use Rattle.laws.specs.Names.{same-eq}
-use Rattle.operands.specs.TookLaws.{sign?, Sign, sign}
+use Rattle.operands.specs.TookLaws.{sign?, sign}
 use Rattle.laws.specs.RowTests.{at-rows}
 
 -- ---- the tests

@@ -1,13 +1,13 @@
 -- Numbers put one after the other, and the two calls where the record has all its counts and where it lacks one.
 use Prim.Native.Nat.{ℕ, _≤_, _<_}
-use mathlib.Core.Path.{_≡_, refl, sym, ap, _∙_}
+use mathlib.Core.Path.{_≡_, sym, ap, _∙_}
 use mathlib.Core.Bool.{Bool}
 use mathlib.Core.List.{List, [], _∷_}
 use lib.ListN.{length, getD, set}
 use lib.Seq.{sets}
 use borrow.Author.Tests.{lt-ltb, le-ltb}
 use Rattle.paper.specs.Bytes.{pick}
-use Rattle.paper.specs.Calls.{State, refusal, not-listed, enter, list}
+use Rattle.paper.specs.Calls.{refusal, not-listed, enter, list}
 use Rattle.paper.specs.Calls.{Entered as Outcome, Listed as Written-out}
 use Rattle.entries.specs.declared.Editor.{Editor}
 use Rattle.entries.specs.declared.Entered.{Entered}

@@ -1,22 +1,19 @@
 -- Texts written one after the other, and the texts of single tokens.
-use Prim.Native.Nat.{ℕ, zero, suc, min, _+_, _-_, _*_, _/_, _%_, _≤_, _<_}
+use Prim.Native.Nat.{ℕ, zero, suc, min, _+_, _-_, _≤_, _<_}
 use native.Mathlib.Omega.{arith}
-use native.Mathlib.Nat.{add-zero}
 use mathlib.Core.Path.{_≡_, refl, subst, sym, ap, ap₂, _∙_}
 use mathlib.Core.Bool.{Bool, true, false, not}
-use mathlib.Core.List.{List, [], _∷_, _++_, append-nil, append-assoc}
-use lib.Dec.{T, eqb, leb, ltb, leb→le}
+use mathlib.Core.List.{List, [], _∷_, _++_, append-nil}
+use lib.Dec.{T, leb, leb→le}
 use lib.ListN.{length, take, drop, getD, set, length-append, length-take, length-drop}
 use lib.Seq.{sets, take-all, drop-drop, length-take-le}
-use borrow.Author.Tests.{le-leb, lt-leb, lt-ltb, le-ltb}
 use Rattle.paper.specs.Bytes.{pick, bytes, same, every, blank}
 use Rattle.paper.specs.Classes.{unfit}
 use Rattle.paper.specs.Words.{Word, word, word-of, statements, operators, read-operators, functions, word-operator?}
 use Rattle.paper.specs.Tokens.{Token, statement, assigned, operator, variable, constant, string, raw}
 use Rattle.paper.specs.Constants.{constant-text}
 use Rattle.paper.specs.Names.{names-in, less-open}
-use Rattle.paper.specs.Line.{line-number}
-use Rattle.paper.specs.Listing.{decimal, operator-text, token-text, body-text}
+use Rattle.paper.specs.Listing.{operator-text, token-text, body-text}
 use Rattle.paper.specs.Open.{all-Bytes, all-Words}
 use Rattle.buffers.specs.Sets.{sets-append, sets-out, sets-more}
 use Rattle.constants.specs.Texts.{six-here}
@@ -34,7 +31,7 @@ use Rattle.names.specs.declared.Name.{Name}
 use Rattle.pieces.specs.declared.Piece.{Piece}
 use Rattle.pieces.specs.declared.Piece.the-variants as Piece′
 use Rattle.pieces.specs.Pieces.{tokens-of-piece}
-use Rattle.texts.specs.Texts.{piece-text, Writes, zeros}
+use Rattle.texts.specs.Texts.{piece-text, Writes}
 use Rattle.laws.specs.Classes.{word-passes}
 use Rattle.pieces.specs.WellFormed.{same-is}
 

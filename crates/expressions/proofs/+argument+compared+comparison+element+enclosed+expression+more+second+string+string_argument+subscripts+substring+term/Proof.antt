@@ -1,5 +1,5 @@
 use native.Mathlib.Omega.{arith}
-use mathlib.Core.Path.{_≡_, refl, sym, ap, _∙_}
+use mathlib.Core.Path.{refl, sym, ap, _∙_}
 use mathlib.Core.Bool.{false}
 use mathlib.Core.List.{[], _∷_}
 use Prim.Native.Nat.{_+_, _*_, _-_}
@@ -7,7 +7,7 @@ use lib.ListN.{length}
 use Rattle.paper.specs.Classes.{quoted as quoted-class, string-variable, string-function, numeric-variable, array, open-sign, close-sign, comma, plus-minus, not-word, function-of-string, function-of-number}
 use Rattle.paper.specs.Frames.{want-operand, want-more-terms, want-array-open, want-second, want-close, want-function-open, want-string, want-substring, want-string-comparison}
 use Rattle.paper.specs.Grammar.{look, itself}
-use Rattle.operands.specs.Laws.{says-then, says-first, says-done, takes, takes-last, leaves, refuses, alike, counts}
+use Rattle.operands.specs.Laws.{says-then, says-first, takes, takes-last, leaves, refuses, alike, counts}
 use Rattle.operands.specs.TookLaws.{shifted, took-put, took-own, took-prefix, took-compare, hit-put, expects-put, expects-own, sign}
 use Rattle.operands.specs.Rows.{operand-sign, operand-not, operand-number, operand-numeric, operand-array, operand-open, operand-of-string, operand-of-number, operand-quoted, operand-string, operand-function, operand-else, string-quoted, string-string, string-function-row, string-else, close-row, close-else, function-open-row, function-open-else, array-open-row, array-open-else, second-comma, second-close, second-else, substring-open, substring-else, more-row, more-else, joins-sign, compare-row, compare-else, compares-sign}
 use borrow.Author.Needs.{needs}

@@ -1,5 +1,5 @@
-use borrow.Author.Tests.{eq-eqb, ne-eqb}
-use Rattle.operands.specs.Tests.{joins?, compares?}
+use borrow.Author.Tests.{ne-eqb}
+use Rattle.operands.specs.Tests.{joins?}
 use Rattle.expressions.proofs.joins.Statement.{statement}
 use Rattle.expressions.proofs.joins.Tie as tie
 use Rattle.expressions.proofs.joins.Reads as reads

@@ -1,9 +1,8 @@
 use native.Mathlib.Omega.{arith}
-use mathlib.Core.Path.{refl, sym, ap, _∙_}
-use lib.ListN.{length-drop}
-use Rattle.fitting.proofs.Checking.{At, fail, fail-short, fail-holds, pass-one, fail-one}
+use mathlib.Core.Path.{refl}
+use Rattle.fitting.proofs.Checking.{pass-one, fail-one}
 use Rattle.pieces.specs.Pieces.{tokens-of-piece, size-of}
-use Rattle.paper.specs.Tokens.{statement as the-word, assigned, variable, constant, string, class, as-read, operator-class, read-as}
+use Rattle.paper.specs.Tokens.{constant, class, as-read}
 use lib.ListN.{take, drop}
 use Rattle.pieces.specs.GivenLaws.{a-constant-plain}
 use Rattle.fitting.proofs.Checking.{fail-wrong, right-holds, right-long}

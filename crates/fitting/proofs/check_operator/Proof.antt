@@ -1,6 +1,6 @@
 use native.Mathlib.Omega.{arith}
 use Rattle.laws.specs.Classes.{operator-low}
-use Rattle.fitting.proofs.Checking.{At, pass-operator, fail-given, fail-operator}
+use Rattle.fitting.proofs.Checking.{pass-operator, fail-given, fail-operator}
 use borrow.Author.Needs.{needs}
 use Rattle.fitting.proofs.check_operator.Statement.{statement}
 use Rattle.fitting.proofs.check_operator.Tie as tie

@@ -3,9 +3,9 @@ use Rattle.paper.specs.Names.{names-in, less-open}
 use native.Mathlib.Omega.{arith}
 use mathlib.Core.Path.{refl, sym, ap, _∙_}
 use lib.ListN.{length-drop}
-use Rattle.fitting.proofs.Checking.{At, fail, fail-short, fail-holds, pass-one, fail-one}
+use Rattle.fitting.proofs.Checking.{fail-short, fail-holds, pass-one, fail-one}
 use Rattle.pieces.specs.Pieces.{tokens-of-piece, size-of}
-use Rattle.paper.specs.Tokens.{statement as the-word, assigned, variable, constant, string, class, as-read, operator-class, read-as}
+use Rattle.paper.specs.Tokens.{assigned, class, as-read}
 use lib.ListN.{take, getD}
 use lib.Dec.{T-not}
 use mathlib.Core.List.{[]}

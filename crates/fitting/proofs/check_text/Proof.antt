@@ -1,9 +1,6 @@
 use native.Mathlib.Omega.{arith}
-use mathlib.Core.Path.{refl, sym, ap, _∙_}
-use lib.ListN.{length-drop}
-use Rattle.fitting.proofs.Checking.{At, fail, fail-short, fail-holds, pass-one, fail-one}
-use Rattle.pieces.specs.Pieces.{tokens-of-piece, size-of}
-use Rattle.paper.specs.Tokens.{statement as the-word, assigned, variable, constant, string, class, as-read, operator-class, read-as}
+use Rattle.fitting.proofs.Checking.{fail-short}
+use Rattle.pieces.specs.Pieces.{size-of}
 use Rattle.laws.specs.Classes.{statement-low}
 use Rattle.fitting.proofs.Checking.{pass-text, fail-text}
 use borrow.Author.Needs.{needs}

@@ -1,9 +1,9 @@
 use native.Mathlib.Omega.{arith}
-use mathlib.Core.Path.{refl, sym, ap, _∙_}
+use mathlib.Core.Path.{refl}
 use lib.ListN.{length-drop}
-use Rattle.fitting.proofs.Checking.{At, fail, fail-short, fail-holds, pass-one, fail-one}
+use Rattle.fitting.proofs.Checking.{fail-short, pass-one, fail-one}
 use Rattle.pieces.specs.Pieces.{tokens-of-piece, size-of}
-use Rattle.paper.specs.Tokens.{statement as the-word, assigned, variable, constant, string, class, as-read, operator-class, read-as}
+use Rattle.paper.specs.Tokens.{statement as the-word, class, as-read}
 use Rattle.pieces.specs.GivenLaws.{a-statement-plain}
 use Rattle.laws.specs.Classes.{statement-low}
 use borrow.Author.Needs.{needs}

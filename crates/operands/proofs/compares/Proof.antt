@@ -1,5 +1,5 @@
-use borrow.Author.Tests.{eq-eqb, ne-eqb}
-use Rattle.operands.specs.Tests.{joins?, compares?}
+use borrow.Author.Tests.{ne-eqb}
+use Rattle.operands.specs.Tests.{compares?}
 use Rattle.operands.proofs.compares.Statement.{statement}
 use Rattle.operands.proofs.compares.Tie as tie
 use Rattle.operands.proofs.compares.Reads as reads

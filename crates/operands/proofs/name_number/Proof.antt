@@ -1,15 +1,13 @@
 use native.Mathlib.Omega.{arith}
 use Prim.Native.Nat.{ℕ, _-_}
-use mathlib.Core.Path.{_≡_, refl, sym, subst, ap, _∙_}
-use mathlib.Core.Bool.{true, false}
-use mathlib.Core.List.{List, []}
-use lib.ListN.{length, take, drop}
+use mathlib.Core.Path.{_≡_, sym, subst}
+use mathlib.Core.Bool.{true}
+use mathlib.Core.List.{List}
+use lib.ListN.{take}
 use Rattle.paper.specs.Names.{names-in}
 use Rattle.laws.specs.Names.{plain-name}
 use Rattle.items.specs.ScanLaws.{sees}
-use Rattle.operands.specs.KindLaws.{own-seen, is-quoted}
-use Rattle.operands.specs.SeesLaws.{next-of}
-use Rattle.operands.specs.LeafLaws.{low-of, name-facts, took-variable, took-quoted, counts-inside, counts-outside, name-part, numbers-as, number-written, six-part}
+use Rattle.operands.specs.LeafLaws.{name-facts, name-part, numbers-as}
 use borrow.Author.Needs.{needs}
 use Rattle.operands.proofs.name_number.Statement.{statement}
 use Rattle.operands.proofs.name_number.Tie as tie

@@ -1,15 +1,8 @@
-use native.Mathlib.Omega.{arith}
-use Prim.Native.Nat.{ℕ, _-_}
-use mathlib.Core.Path.{_≡_, refl, sym, subst, ap, _∙_}
-use mathlib.Core.Bool.{true, false}
-use mathlib.Core.List.{List, []}
-use lib.ListN.{length, take, drop}
-use Rattle.paper.specs.Names.{names-in}
-use Rattle.laws.specs.Names.{plain-name}
+use Prim.Native.Nat.{_-_}
+use mathlib.Core.Path.{sym, _∙_}
 use Rattle.items.specs.ScanLaws.{sees}
-use Rattle.operands.specs.KindLaws.{own-seen, is-quoted}
+use Rattle.operands.specs.KindLaws.{own-seen}
 use Rattle.operands.specs.SeesLaws.{next-of}
-use Rattle.operands.specs.LeafLaws.{low-of, name-facts, took-variable, took-quoted, counts-inside, counts-outside, name-part, numbers-as, number-written, six-part}
 use borrow.Author.Needs.{needs}
 use Rattle.operands.proofs.see.Statement.{statement}
 use Rattle.operands.proofs.see.Tie as tie

@@ -1,5 +1,5 @@
 use native.Mathlib.Omega.{arith}
-use mathlib.Core.Path.{_≡_, refl, sym, ap, _∙_}
+use mathlib.Core.Path.{refl, sym}
 use Rattle.rests.specs.Moves.{seen-low, good-deep, moves-term, moves-no-term, moves-refused}
 use borrow.Author.Needs.{needs}
 use Rattle.rests.proofs.advance.Statement.{statement}

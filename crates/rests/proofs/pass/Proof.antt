@@ -1,5 +1,5 @@
 use native.Mathlib.Omega.{arith}
-use mathlib.Core.Path.{_≡_, refl, sym, ap, _∙_}
+use mathlib.Core.Path.{sym, ap, _∙_}
 use mathlib.Core.Bool.{false}
 use Rattle.rests.specs.Stacks.{fine-own, fine-sign}
 use Rattle.rests.specs.Moves.{given-byte, passes-constant, passes-other, given-itself, took-given}

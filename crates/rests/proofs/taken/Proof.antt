@@ -1,5 +1,3 @@
-use native.Mathlib.Omega.{arith}
-use mathlib.Core.Path.{_≡_, refl, sym, ap, _∙_}
 use Rattle.rests.specs.Moves.{taking, taken-colon, taken-last, then-passed, taken-then, taken-fine, taken-on, taken-far}
 use borrow.Author.Needs.{needs}
 use Rattle.rests.proofs.taken.Statement.{statement}

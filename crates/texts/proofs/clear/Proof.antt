@@ -1,6 +1,5 @@
 use borrow.Author.Tests.{le-leb, lt-leb}
 use Rattle.spellings.specs.Tables.{cleared}
-use borrow.Author.Needs.{needs}
 use Rattle.texts.proofs.clear.Statement.{statement}
 use Rattle.texts.proofs.clear.Tie as tie
 

@@ -1,5 +1,4 @@
 use native.Mathlib.Omega.{arith}
-use mathlib.Core.Path.{refl}
 use Rattle.paper.specs.Line.{line-number}
 use Rattle.texts.proofs.HeadLaws.{zeros-few, beside, head-text}
 use borrow.Author.Needs.{needs}

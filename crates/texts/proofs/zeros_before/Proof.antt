@@ -1,6 +1,5 @@
 use borrow.Author.Tests.{le-leb, lt-leb}
 use Rattle.texts.specs.Texts.{zeros}
-use borrow.Author.Needs.{needs}
 use Rattle.texts.proofs.zeros_before.Statement.{statement}
 use Rattle.texts.proofs.zeros_before.Tie as tie
 

@@ -2,7 +2,7 @@
 use native.Mathlib.Omega.{arith}
 use Prim.Native.Nat.{_-_, _≤_}
 use mathlib.Core.Path.{_≡_}
-use lib.ListN.{length, drop, getD}
+use lib.ListN.{drop}
 use lib.Seq.{slice}
 use Rattle.paper.specs.Constants.{trimmed}
 use Rattle.constants.specs.Texts.{digits-here}

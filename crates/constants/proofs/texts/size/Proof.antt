@@ -1,7 +1,6 @@
 -- `size` meets its contract: with and without a power of ten.
 use borrow.Author.Needs.{needs}
 use native.Mathlib.Omega.{arith}
-use mathlib.Core.Path.{ap, _∙_}
 use borrow.Author.Tests.{eq-eqb, ne-eqb}
 use Rattle.constants.specs.Texts.{size-of}
 use Rattle.constants.proofs.texts.size.Statement.{statement}

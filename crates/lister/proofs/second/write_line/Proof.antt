@@ -4,7 +4,6 @@ use mathlib.Core.Path.{_≡_, refl, sym, _∙_}
 use lib.ListN.{length, take}
 use Rattle.paper.specs.Names.{names-in}
 use Rattle.lister.proofs.PassLaws.{formed-long, Writing, writing-first, writing-holds, writing-fits, writing-next, writing-done, body-fits, size-some}
-use borrow.Author.Needs.{needs}
 use Rattle.lister.proofs.second.write_line.Statement.{statement}
 use Rattle.lister.proofs.second.write_line.Tie as tie
 

@@ -1,8 +1,8 @@
 -- `leading` meets its contract. The invariant: the digits passed are all zero, and those from here on have the rest of the run.
 use native.Mathlib.Omega.{arith}
 use Prim.Native.Nat.{_+_, _-_, _≤_}
-use mathlib.Core.Path.{_≡_, refl}
-use lib.ListN.{length, drop}
+use mathlib.Core.Path.{_≡_}
+use lib.ListN.{drop}
 use Rattle.paper.specs.Bytes.{run}
 use Rattle.numerals.specs.Numerals.{digits-in, nought?}
 use Rattle.numerals.proofs.Places.{count, one-more, no-more, all-noughts}

@@ -1,4 +1,4 @@
-use mathlib.Core.Path.{_≡_, sym, ap, _∙_}
+use mathlib.Core.Path.{sym, ap}
 use Rattle.operands.specs.KindLaws.{name-length}
 use borrow.Author.Needs.{needs}
 use Rattle.operands.proofs.kinds.name_length.Statement.{statement}

@@ -1,4 +1,4 @@
-use mathlib.Core.Path.{_≡_, sym, ap, _∙_}
+use mathlib.Core.Path.{sym, ap, _∙_}
 use Rattle.operands.specs.KindLaws.{numeral-of}
 use borrow.Author.Needs.{needs}
 use Rattle.operands.proofs.kinds.numeral_of.Statement.{statement}
