@@ -141,8 +141,8 @@ pub text-size : {ds text : List ℕ} {x : Layout} {r : ℕ} → Shaped ds text x
 text-size {ds} {text} {x} {r} h l e = e ∙ sym (ap length (h .text-is) ∙ laid-size x ds (h .ordered) l)
 
 -- nothing is written past the end
-pub text-out : {ds text : List ℕ} {x : Layout} {r n : ℕ} (old : List ℕ) → Shaped ds text x → length ds ≡ 10 → r ≡ size-of x → length old < n → (r ≡ length text) × (old ≡ sets old n text)
-text-out {text = text} {n = n} old h l e o = (text-size h l e, sym (sets-out old n text (omega arith)))
+pub text-out : {ds text : List ℕ} {x : Layout} {r n : ℕ} (old : List ℕ) → Shaped ds text x → length ds ≡ 10 → r ≡ size-of x → length old ≤ n → (r ≡ length text) × (old ≡ sets old n text)
+text-out {text = text} {n = n} old h l e o = (text-size h l e, sym (sets-out old n text o))
 
 -- all parts are written
 pub text-in : {ds text : List ℕ} {x : Layout} {n p w r : ℕ} {old l1 l2 new : List ℕ} → Shaped ds text x

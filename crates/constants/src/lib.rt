@@ -54,7 +54,7 @@ pub fn write_text(s: &[u8], at: usize, out: &mut [u8], n: usize) -> usize
     ensures { λ r. ⌜ (r ≡ length (constant-text (six-here (now (s .entry)) at))) × (now (out .exit) ≡ sets (now (out .entry)) n (constant-text (six-here (now (s .entry)) at))) ⌝ }
 {
     let layout = texts::laid_out(s, at);
-    if out.len() < n {
+    if out.len() <= n {
         return texts::size(layout);
     }
     let point = texts::write_whole(s, at, layout, out, n);

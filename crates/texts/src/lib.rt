@@ -1,6 +1,7 @@
 // The text of a piece, and of a line's number.
 use pieces::FIRST_VARIABLE;
 use pieces::Piece;
+use spellings::table;
 use tokens::Part;
 use tokens::Source;
 use tokens::StatementToken;
@@ -15,7 +16,6 @@ ghost use Rattle.paper.specs.Tokens.{statement, operator};
 ghost use Rattle.paper.specs.Names.{names-in, less-open};
 ghost use Rattle.paper.specs.Line.{line-number};
 ghost use Rattle.paper.specs.Listing.{decimal, token-text};
-ghost use Rattle.spellings.specs.Tables.{cleared};
 ghost use Rattle.names.specs.Standing.{all-cleared};
 ghost use Rattle.tokens.specs.Tables.{fixed-words};
 ghost use Rattle.tokens.specs.Parts.{bytes-at};
@@ -28,13 +28,6 @@ const WORDS_SIZE: usize = 355;
 // The blank.
 const BLANK: u8 = b' ';
 
-// A byte with its top bit cleared.
-fn clear(b: u8) -> u8
-    ensures { λ r. ⌜ r ≡ cleared b ⌝ }
-{
-    if 128 <= b { b - 128 } else { b }
-}
-
 // Writes bytes with their top bits cleared to a place, as many as fit.
 fn write_cleared(out: &mut [u8], n: usize, src: &[u8])
     requires { ⌜ n ≤ 2 ^ 63 ⌝ }
@@ -42,7 +35,7 @@ fn write_cleared(out: &mut [u8], n: usize, src: &[u8])
 {
     let mut i: usize = 0;
     while i < src.len() {
-        buffers::put(out, n + i, clear(src[i]));
+        buffers::put(out, n + i, table::clear(src[i]));
         i += 1;
     }
 }
