@@ -18,7 +18,7 @@ ghost use mathlib.Core.List.{List, [], _∷_};
 ghost use Prim.Native.Nat.{ℕ, _+_, _*_, _≤_};
 ghost use lib.Dec.{T};
 ghost use lib.ListN.{length};
-ghost use Rattle.paper.specs.Frames.{want-after-then};
+ghost use Rattle.paper.specs.Frames.{want-operand, want-after-then};
 ghost use Rattle.paper.specs.Machine.{took, step};
 ghost use Rattle.paper.specs.Grammar.{look};
 ghost use Rattle.grammar.specs.Stack.{stack, gives-of};
@@ -158,7 +158,30 @@ fn taken(
     }
 }
 
-// One step: a term, if one is wanted next, or else one item.
+// The most opening parentheses for which terms are read by their own reader, which calls itself for each of them.
+const FEW: usize = 2;
+
+// Whether more than a few opening parentheses stand in a text.
+fn nests(part: &[u8]) -> bool {
+    let mut n: usize = 0;
+    let mut i = 0;
+    while i < part.len() {
+        if part[i] == b'(' {
+            n += 1;
+        }
+        i += 1;
+    }
+    FEW < n
+}
+
+// Whether a frame is a term's and its own reader is to read it: in a text that nests the table reads it, which needs no deeper a call.
+fn by_term(frame: u8, nested: bool) -> bool
+    ensures { λ r. ⌜ (r ≡ true → frame ≡ want-operand) ⌝ }
+{
+    if nested { false } else { frame == WANT_OPERAND }
+}
+
+// One step: a term, if its own reader is to read it, or else one item.
 fn advance(
     part: &[u8],
     offset: usize,
@@ -168,12 +191,13 @@ fn advance(
     fresh: &mut [u8],
     frames: &mut [u8],
     depth: usize,
+    nested: bool,
 ) -> Moved
     requires { ⌜ (Asks (env (now part) offset (now names)) q (mem (now line) (now fresh))) × (T (good? (stack (now frames) depth))) × (depth + 8 ≤ length (now frames)) ⌝ }
     ensures { λ r. ⌜ Moves (stack (now (frames .entry)) depth) false depth (env (now (part .entry)) offset (now (names .entry))) q (mem (now (line .entry)) (now (fresh .entry))) (mem (now (line .exit)) (now (fresh .exit))) (now (frames .exit)) r ⌝ }
 {
     let below = depth - 1;
-    if frames[below] == WANT_OPERAND {
+    if by_term(frames[below], nested) {
         return match term(part, offset, q, line, names, fresh) {
             Step::Done(p) => Moved::On(p, below),
             Step::Refused(k, p) => Moved::Refused(k, p),
@@ -205,8 +229,9 @@ pub fn follow(
 {
     let mut q = start;
     let mut depth = wanted;
+    let nested = nests(part);
     loop {
-        match advance(part, offset, q, line, names, fresh, frames, depth) {
+        match advance(part, offset, q, line, names, fresh, frames, depth, nested) {
             Moved::On(p, d) => {
                 q = p;
                 depth = d;

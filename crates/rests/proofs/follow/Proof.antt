@@ -10,16 +10,19 @@ use Rattle.rests.proofs.follow.Statement.{statement}
 use Rattle.rests.proofs.follow.Tie as tie
 
 abbrev Inv-loop : tie.InvT-loop
-Inv-loop part offset line₀ names fresh₀ frames₀ wanted q₀ depth₀ line fresh frames q depth = (length line ≡ length line₀) × (length fresh ≡ length fresh₀) × (length frames ≡ length frames₀) × Following (stack frames₀ wanted) (env part offset names) q₀ (mem line₀ fresh₀) (stack frames depth) depth q (mem line fresh)
+Inv-loop part offset line₀ names fresh₀ frames₀ wanted q₀ depth₀ nested line fresh frames q depth = (length line ≡ length line₀) × (length fresh ≡ length fresh₀) × (length frames ≡ length frames₀) × Following (stack frames₀ wanted) (env part offset names) q₀ (mem line₀ fresh₀) (stack frames depth) depth q (mem line fresh)
 
 abbrev μ-loop : tie.MeasureT-loop
-μ-loop part offset line₀ names fresh₀ frames₀ wanted q₀ depth₀ line fresh frames q depth = depth + 9 * (length part - q .at)
+μ-loop part offset line₀ names fresh₀ frames₀ wanted q₀ depth₀ nested line fresh frames q depth = depth + 9 * (length part - q .at)
+
+nests-requires : tie.Need-nests-requires Inv-loop μ-loop
+nests-requires c κs = search needs
 
 loop-holds : tie.Need-loop-holds Inv-loop μ-loop
-loop-holds c = (refl, refl, refl, following-first (c .before .before .before .before .before .pre .0) (c .before .before .before .before .before .pre .1) (c .before .before .before .before .before .pre .2))
+loop-holds c = (refl, refl, refl, following-first (c .before .before .before .before .before .before .pre .0) (c .before .before .before .before .before .before .pre .1) (c .before .before .before .before .before .before .pre .2))
 
 advance-requires : tie.Need-advance-requires Inv-loop μ-loop
-advance-requires c κs = (c .before .before .before .loop .inv .3 .asks, c .before .before .before .loop .inv .3 .good, omega (arith, c .before .before .before .loop .inv .3 .shallow, c .before .before .before .loop .inv .3 .asks .within, c .before .before .before .loop .inv .3 .asks .short, c .before .before .before .loop .inv .2, c .before .before .before .before .before .before .before .before .before .pre .3))
+advance-requires c κs = (c .before .before .before .loop .inv .3 .asks, c .before .before .before .loop .inv .3 .good, omega (arith, c .before .before .before .loop .inv .3 .shallow, c .before .before .before .loop .inv .3 .asks .within, c .before .before .before .loop .inv .3 .asks .short, c .before .before .before .loop .inv .2, c .before .before .before .before .before .before .before .before .before .before .pre .3))
 
 enum-known-p : tie.Need-enum-known-p Inv-loop μ-loop
 enum-known-p c = search needs
@@ -81,6 +84,7 @@ follow-spec =
     (tie.spec
     Inv-loop
     μ-loop
+    nests-requires
     loop-holds
     advance-requires
     enum-known-p
