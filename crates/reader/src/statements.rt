@@ -184,9 +184,14 @@ pub fn statements(text: &[u8], q: Spot, line: &mut [u8], names: &[u8], fresh: &m
     requires { ⌜ Asks (env (now text) 0 (now names)) q (mem (now line) (now fresh)) ⌝ }
     ensures { λ r. ⌜ Tells (env (now (text .entry)) 0 (now (names .entry))) q (mem (now (line .entry)) (now (fresh .entry))) (mem (now (line .exit)) (now (fresh .exit))) r ⌝ }
 {
-    match statement(text, q, line, names, fresh) {
-        Ended::More(p) => statements(text, p, line, names, fresh),
-        Ended::Last(p) => Step::Done(p),
-        Ended::Refused(k, p) => Step::Refused(k, p),
+    let mut p = q;
+    loop {
+        match statement(text, p, line, names, fresh) {
+            Ended::More(next) => {
+                p = next;
+            }
+            Ended::Last(end) => return Step::Done(end),
+            Ended::Refused(k, place) => return Step::Refused(k, place),
+        }
     }
 }
