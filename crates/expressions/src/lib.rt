@@ -1,4 +1,5 @@
 // Readers of expressions, terms, strings and subscripts: each reads on in a part of the text, writes tokens to the line and adds names.
+use operands::Seen;
 use operands::Spot;
 use operands::Step;
 use operands::compares;
@@ -14,9 +15,12 @@ use operands::variable;
 use tokens::OperatorToken;
 use tokens::class;
 ghost use mathlib.Core.Path.{_≡_};
+ghost use mathlib.Core.Bool.{false};
 ghost use mathlib.Core.List.{[], _∷_};
+ghost use Rattle.paper.specs.Classes.{plus-minus, not-word};
 ghost use Rattle.paper.specs.Frames.{want-operand, want-more-terms, want-array-open, want-second, want-close, want-function-open, want-string, want-substring, want-string-comparison};
 ghost use Rattle.operands.specs.Says.{env, mem, Asks, Says};
+ghost use Rattle.operands.specs.Sees.{Shows};
 ghost use Rattle.operands.specs.Tests.{joins?};
 
 // Whether an item of a class joins terms.
@@ -33,7 +37,7 @@ fn joins(class: u8) -> bool
     }
 }
 
-// An expression: a term, and what is joined to it.
+// An expression: terms, each joined to the one before it.
 fn expression(
     part: &[u8],
     offset: usize,
@@ -45,33 +49,22 @@ fn expression(
     requires { ⌜ Asks (env (now part) offset (now names)) q (mem (now line) (now fresh)) ⌝ }
     ensures { λ r. ⌜ Says (want-operand ∷ want-more-terms ∷ []) (env (now (part .entry)) offset (now (names .entry))) q (mem (now (line .entry)) (now (fresh .entry))) (mem (now (line .exit)) (now (fresh .exit))) r ⌝ }
 {
-    match term(part, offset, q, line, names, fresh) {
-        Step::Done(p) => more(part, offset, p, line, names, fresh),
-        Step::Refused(k, p) => Step::Refused(k, p),
-    }
-}
-
-// What is joined to a term: an operator and an expression, or nothing.
-fn more(
-    part: &[u8],
-    offset: usize,
-    q: Spot,
-    line: &mut [u8],
-    names: &[u8],
-    fresh: &mut [u8],
-) -> Step
-    requires { ⌜ Asks (env (now part) offset (now names)) q (mem (now line) (now fresh)) ⌝ }
-    ensures { λ r. ⌜ Says (want-more-terms ∷ []) (env (now (part .entry)) offset (now (names .entry))) q (mem (now (line .entry)) (now (fresh .entry))) (mem (now (line .exit)) (now (fresh .exit))) r ⌝ }
-{
-    let at = q.at;
-    let seen = see(part, at, false);
-    let it = seen.item;
-    let end = it.end;
-    if joins(seen.class) {
-        let p = token(line, q, end, seen.own);
-        expression(part, offset, p, line, names, fresh)
-    } else {
-        Step::Done(q)
+    let mut p = q;
+    loop {
+        match term(part, offset, p, line, names, fresh) {
+            Step::Done(next) => {
+                let at = next.at;
+                let seen = see(part, at, false);
+                let it = seen.item;
+                let end = it.end;
+                if joins(seen.class) {
+                    p = token(line, next, end, seen.own);
+                } else {
+                    return Step::Done(next);
+                }
+            }
+            Step::Refused(k, place) => return Step::Refused(k, place),
+        }
     }
 }
 
@@ -318,33 +311,24 @@ fn string(
     }
 }
 
-// A term: its prefixes, and then an operand or two strings compared.
-pub fn term(
+// What a term has after its prefixes, of which the first item was seen: an operand or two strings compared.
+fn operand(
     part: &[u8],
     offset: usize,
+    seen: Seen,
     q: Spot,
     line: &mut [u8],
     names: &[u8],
     fresh: &mut [u8],
 ) -> Step
-    requires { ⌜ Asks (env (now part) offset (now names)) q (mem (now line) (now fresh)) ⌝ }
+    requires { ⌜ (Asks (env (now part) offset (now names)) q (mem (now line) (now fresh))) × (Shows (now part) (q .at) false seen) × (seen .class ≡ plus-minus → ⊥) × (seen .class ≡ not-word → ⊥) ⌝ }
     ensures { λ r. ⌜ Says (want-operand ∷ []) (env (now (part .entry)) offset (now (names .entry))) q (mem (now (line .entry)) (now (fresh .entry))) (mem (now (line .exit)) (now (fresh .exit))) r ⌝ }
 {
-    let at = q.at;
-    let seen = see(part, at, false);
     let it = seen.item;
     let end = it.end;
     let place = offset + it.at;
     let found = seen.class;
     match found {
-        class::PLUS_MINUS => {
-            let p = token(line, q, end, prefix_operator(seen.own));
-            term(part, offset, p, line, names, fresh)
-        }
-        class::NOT_WORD => {
-            let p = token(line, q, end, seen.own);
-            term(part, offset, p, line, names, fresh)
-        }
         class::NUMBER => constant(part, offset, it, q, line, names, fresh),
         class::NUMERIC_VARIABLE => Step::Done(variable(part, offset, it, q, line, names, fresh)),
         class::ARRAY => {
@@ -367,5 +351,36 @@ pub fn term(
         class::STRING_VARIABLE => compared(part, offset, q, line, names, fresh),
         class::STRING_FUNCTION => compared(part, offset, q, line, names, fresh),
         _ => Step::Refused(4, place),
+    }
+}
+
+// A term: its prefixes, and then an operand or two strings compared.
+pub fn term(
+    part: &[u8],
+    offset: usize,
+    q: Spot,
+    line: &mut [u8],
+    names: &[u8],
+    fresh: &mut [u8],
+) -> Step
+    requires { ⌜ Asks (env (now part) offset (now names)) q (mem (now line) (now fresh)) ⌝ }
+    ensures { λ r. ⌜ Says (want-operand ∷ []) (env (now (part .entry)) offset (now (names .entry))) q (mem (now (line .entry)) (now (fresh .entry))) (mem (now (line .exit)) (now (fresh .exit))) r ⌝ }
+{
+    let mut p = q;
+    loop {
+        let at = p.at;
+        let seen = see(part, at, false);
+        let it = seen.item;
+        let end = it.end;
+        let found = seen.class;
+        match found {
+            class::PLUS_MINUS => {
+                p = token(line, p, end, prefix_operator(seen.own));
+            }
+            class::NOT_WORD => {
+                p = token(line, p, end, seen.own);
+            }
+            _ => return operand(part, offset, seen, p, line, names, fresh),
+        }
     }
 }

@@ -1,5 +1,5 @@
 use native.Mathlib.Omega.{arith}
-use mathlib.Core.Path.{refl, sym, ap, _∙_}
+use mathlib.Core.Path.{_≡_, refl, sym, ap, _∙_}
 use mathlib.Core.Bool.{false}
 use mathlib.Core.List.{[], _∷_}
 use Prim.Native.Nat.{_+_, _*_, _-_}
@@ -7,108 +7,110 @@ use lib.ListN.{length}
 use Rattle.paper.specs.Classes.{quoted as quoted-class, string-variable, string-function, numeric-variable, array, open-sign, close-sign, comma, plus-minus, not-word, function-of-string, function-of-number}
 use Rattle.paper.specs.Frames.{want-operand, want-more-terms, want-array-open, want-second, want-close, want-function-open, want-string, want-substring, want-string-comparison}
 use Rattle.paper.specs.Grammar.{look, itself}
+use Rattle.operands.specs.Says.{env, mem}
 use Rattle.operands.specs.Laws.{says-then, says-first, takes, takes-last, leaves, refuses, alike, counts}
 use Rattle.operands.specs.TookLaws.{shifted, took-put, took-own, took-prefix, took-compare, hit-put, expects-put, expects-own, sign}
-use Rattle.operands.specs.Rows.{operand-sign, operand-not, operand-number, operand-numeric, operand-array, operand-open, operand-of-string, operand-of-number, operand-quoted, operand-string, operand-function, operand-else, string-quoted, string-string, string-function-row, string-else, close-row, close-else, function-open-row, function-open-else, array-open-row, array-open-else, second-comma, second-close, second-else, substring-open, substring-else, more-row, more-else, joins-sign, compare-row, compare-else, compares-sign}
+use Rattle.operands.specs.Rows.{operand-sign, operand-not, operand-number, operand-numeric, operand-array, operand-open, operand-of-string, operand-of-number, operand-quoted, operand-string, operand-function, operand-else, string-quoted, string-string, string-function-row, string-else, close-row, close-else, function-open-row, function-open-else, array-open-row, array-open-else, second-comma, second-close, second-else, substring-open, substring-else, more-else, joins-sign, compare-row, compare-else, compares-sign}
+use Rattle.expressions.specs.Onward.{Onward, onward-first, onward-takes, onward-joins}
 use borrow.Author.Needs.{needs}
 use Prim.Native.Nat.{ℕ, _<_}
 use borrow.Fn.Kinds.{In}
 use borrow.Fn.PlainCycle.{Measures, is, falls, and}
 use Rattle.expressions.proofs.argument.Reads as argument
 use Rattle.expressions.proofs.argument.Kinds as argument-kinds
-use Rattle.expressions.proofs.+argument+compared+comparison+element+enclosed+expression+more+second+string+string_argument+subscripts+substring+term.Lts-argument as argument-lts
+use Rattle.expressions.proofs.+argument+compared+comparison+element+enclosed+expression+operand+second+string+string_argument+subscripts+substring+term.Lts-argument as argument-lts
 use Rattle.expressions.proofs.compared.Reads as compared
 use Rattle.expressions.proofs.compared.Kinds as compared-kinds
-use Rattle.expressions.proofs.+argument+compared+comparison+element+enclosed+expression+more+second+string+string_argument+subscripts+substring+term.Lts-compared as compared-lts
+use Rattle.expressions.proofs.+argument+compared+comparison+element+enclosed+expression+operand+second+string+string_argument+subscripts+substring+term.Lts-compared as compared-lts
 use Rattle.expressions.proofs.comparison.Reads as comparison
 use Rattle.expressions.proofs.comparison.Kinds as comparison-kinds
-use Rattle.expressions.proofs.+argument+compared+comparison+element+enclosed+expression+more+second+string+string_argument+subscripts+substring+term.Lts-comparison as comparison-lts
+use Rattle.expressions.proofs.+argument+compared+comparison+element+enclosed+expression+operand+second+string+string_argument+subscripts+substring+term.Lts-comparison as comparison-lts
 use Rattle.expressions.proofs.element.Reads as element
 use Rattle.expressions.proofs.element.Kinds as element-kinds
-use Rattle.expressions.proofs.+argument+compared+comparison+element+enclosed+expression+more+second+string+string_argument+subscripts+substring+term.Lts-element as element-lts
+use Rattle.expressions.proofs.+argument+compared+comparison+element+enclosed+expression+operand+second+string+string_argument+subscripts+substring+term.Lts-element as element-lts
 use Rattle.expressions.proofs.enclosed.Reads as enclosed
 use Rattle.expressions.proofs.enclosed.Kinds as enclosed-kinds
-use Rattle.expressions.proofs.+argument+compared+comparison+element+enclosed+expression+more+second+string+string_argument+subscripts+substring+term.Lts-enclosed as enclosed-lts
+use Rattle.expressions.proofs.+argument+compared+comparison+element+enclosed+expression+operand+second+string+string_argument+subscripts+substring+term.Lts-enclosed as enclosed-lts
 use Rattle.expressions.proofs.expression.Reads as expression
 use Rattle.expressions.proofs.expression.Kinds as expression-kinds
-use Rattle.expressions.proofs.+argument+compared+comparison+element+enclosed+expression+more+second+string+string_argument+subscripts+substring+term.Lts-expression as expression-lts
-use Rattle.expressions.proofs.more.Reads as more
-use Rattle.expressions.proofs.more.Kinds as more-kinds
-use Rattle.expressions.proofs.+argument+compared+comparison+element+enclosed+expression+more+second+string+string_argument+subscripts+substring+term.Lts-more as more-lts
+use Rattle.expressions.proofs.+argument+compared+comparison+element+enclosed+expression+operand+second+string+string_argument+subscripts+substring+term.Lts-expression as expression-lts
+use Rattle.expressions.proofs.operand.Reads as operand
+use Rattle.expressions.proofs.operand.Kinds as operand-kinds
+use Rattle.expressions.proofs.+argument+compared+comparison+element+enclosed+expression+operand+second+string+string_argument+subscripts+substring+term.Lts-operand as operand-lts
 use Rattle.expressions.proofs.second.Reads as second
 use Rattle.expressions.proofs.second.Kinds as second-kinds
-use Rattle.expressions.proofs.+argument+compared+comparison+element+enclosed+expression+more+second+string+string_argument+subscripts+substring+term.Lts-second as second-lts
+use Rattle.expressions.proofs.+argument+compared+comparison+element+enclosed+expression+operand+second+string+string_argument+subscripts+substring+term.Lts-second as second-lts
 use Rattle.expressions.proofs.string.Reads as string
 use Rattle.expressions.proofs.string.Kinds as string-kinds
-use Rattle.expressions.proofs.+argument+compared+comparison+element+enclosed+expression+more+second+string+string_argument+subscripts+substring+term.Lts-string as string-lts
+use Rattle.expressions.proofs.+argument+compared+comparison+element+enclosed+expression+operand+second+string+string_argument+subscripts+substring+term.Lts-string as string-lts
 use Rattle.expressions.proofs.string_argument.Reads as string-argument
 use Rattle.expressions.proofs.string_argument.Kinds as string-argument-kinds
-use Rattle.expressions.proofs.+argument+compared+comparison+element+enclosed+expression+more+second+string+string_argument+subscripts+substring+term.Lts-string_argument as string-argument-lts
+use Rattle.expressions.proofs.+argument+compared+comparison+element+enclosed+expression+operand+second+string+string_argument+subscripts+substring+term.Lts-string_argument as string-argument-lts
 use Rattle.expressions.proofs.subscripts.Reads as subscripts
 use Rattle.expressions.proofs.subscripts.Kinds as subscripts-kinds
-use Rattle.expressions.proofs.+argument+compared+comparison+element+enclosed+expression+more+second+string+string_argument+subscripts+substring+term.Lts-subscripts as subscripts-lts
+use Rattle.expressions.proofs.+argument+compared+comparison+element+enclosed+expression+operand+second+string+string_argument+subscripts+substring+term.Lts-subscripts as subscripts-lts
 use Rattle.expressions.proofs.substring.Reads as substring
 use Rattle.expressions.proofs.substring.Kinds as substring-kinds
-use Rattle.expressions.proofs.+argument+compared+comparison+element+enclosed+expression+more+second+string+string_argument+subscripts+substring+term.Lts-substring as substring-lts
+use Rattle.expressions.proofs.+argument+compared+comparison+element+enclosed+expression+operand+second+string+string_argument+subscripts+substring+term.Lts-substring as substring-lts
 use Rattle.expressions.proofs.term.Reads as term
 use Rattle.expressions.proofs.term.Kinds as term-kinds
-use Rattle.expressions.proofs.+argument+compared+comparison+element+enclosed+expression+more+second+string+string_argument+subscripts+substring+term.Lts-term as term-lts
+use Rattle.expressions.proofs.+argument+compared+comparison+element+enclosed+expression+operand+second+string+string_argument+subscripts+substring+term.Lts-term as term-lts
+use Rattle.expressions.proofs.joins.Reads as joins-reads
 use Rattle.operands.proofs.compares.Reads as compares-reads
 use Rattle.operands.proofs.constant.Reads as constant-reads
 use Rattle.operands.proofs.expect.Reads as expect-reads
 use Rattle.operands.proofs.expect_as.Reads as expect-as-reads
-use Rattle.expressions.proofs.joins.Reads as joins-reads
 use Rattle.operands.proofs.prefix_operator.Reads as prefix-operator-reads
 use Rattle.operands.proofs.quoted.Reads as quoted-reads
 use Rattle.operands.proofs.see.Reads as see-reads
 use Rattle.operands.proofs.string_operator.Reads as string-operator-reads
 use Rattle.operands.proofs.token.Reads as token-reads
 use Rattle.operands.proofs.variable.Reads as variable-reads
-use Rattle.expressions.proofs.+argument+compared+comparison+element+enclosed+expression+more+second+string+string_argument+subscripts+substring+term.{
+use Rattle.expressions.proofs.+argument+compared+comparison+element+enclosed+expression+operand+second+string+string_argument+subscripts+substring+term.{
   statement,
 }
-use Rattle.expressions.proofs.+argument+compared+comparison+element+enclosed+expression+more+second+string+string_argument+subscripts+substring+term.Tie.{
+use Rattle.expressions.proofs.+argument+compared+comparison+element+enclosed+expression+operand+second+string+string_argument+subscripts+substring+term.Tie.{
   close,
 }
 
 abbrev μ-argument : Measures 4 argument-kinds.ps ℕ
-μ-argument κs a = 5 * (length (a .0 .now) - a .1 .1 .0 .at) + 0
+μ-argument κs a = 6 * (length (a .0 .now) - a .1 .1 .0 .at) + 0
 
 abbrev μ-compared : Measures 4 compared-kinds.ps ℕ
-μ-compared κs a = 5 * (length (a .0 .now) - a .1 .1 .0 .at) + 1
+μ-compared κs a = 6 * (length (a .0 .now) - a .1 .1 .0 .at) + 1
 
 abbrev μ-comparison : Measures 4 comparison-kinds.ps ℕ
-μ-comparison κs a = 5 * (length (a .0 .now) - a .1 .1 .0 .at) + 0
+μ-comparison κs a = 6 * (length (a .0 .now) - a .1 .1 .0 .at) + 0
 
 abbrev μ-element : Measures 4 element-kinds.ps ℕ
-μ-element κs a = 5 * (length (a .0 .now) - a .1 .1 .0 .at) + 0
+μ-element κs a = 6 * (length (a .0 .now) - a .1 .1 .0 .at) + 0
 
 abbrev μ-enclosed : Measures 4 enclosed-kinds.ps ℕ
-μ-enclosed κs a = 5 * (length (a .0 .now) - a .1 .1 .0 .at) + 4
+μ-enclosed κs a = 6 * (length (a .0 .now) - a .1 .1 .0 .at) + 5
 
 abbrev μ-expression : Measures 4 expression-kinds.ps ℕ
-μ-expression κs a = 5 * (length (a .0 .now) - a .1 .1 .0 .at) + 3
+μ-expression κs a = 6 * (length (a .0 .now) - a .1 .1 .0 .at) + 4
 
-abbrev μ-more : Measures 4 more-kinds.ps ℕ
-μ-more κs a = 5 * (length (a .0 .now) - a .1 .1 .0 .at) + 0
+abbrev μ-operand : Measures 4 operand-kinds.ps ℕ
+μ-operand κs a = 6 * (length (a .0 .now) - a .1 .1 .1 .0 .at) + 2
 
 abbrev μ-second : Measures 4 second-kinds.ps ℕ
-μ-second κs a = 5 * (length (a .0 .now) - a .1 .1 .0 .at) + 0
+μ-second κs a = 6 * (length (a .0 .now) - a .1 .1 .0 .at) + 0
 
 abbrev μ-string : Measures 4 string-kinds.ps ℕ
-μ-string κs a = 5 * (length (a .0 .now) - a .1 .1 .0 .at) + 0
+μ-string κs a = 6 * (length (a .0 .now) - a .1 .1 .0 .at) + 0
 
 abbrev μ-string-argument : Measures 4 string-argument-kinds.ps ℕ
-μ-string-argument κs a = 5 * (length (a .0 .now) - a .1 .1 .0 .at) + 0
+μ-string-argument κs a = 6 * (length (a .0 .now) - a .1 .1 .0 .at) + 0
 
 abbrev μ-subscripts : Measures 4 subscripts-kinds.ps ℕ
-μ-subscripts κs a = 5 * (length (a .0 .now) - a .1 .1 .0 .at) + 4
+μ-subscripts κs a = 6 * (length (a .0 .now) - a .1 .1 .0 .at) + 5
 
 abbrev μ-substring : Measures 4 substring-kinds.ps ℕ
-μ-substring κs a = 5 * (length (a .0 .now) - a .1 .1 .0 .at) + 0
+μ-substring κs a = 6 * (length (a .0 .now) - a .1 .1 .0 .at) + 0
 
 abbrev μ-term : Measures 4 term-kinds.ps ℕ
-μ-term κs a = 5 * (length (a .0 .now) - a .1 .1 .0 .at) + 2
+μ-term κs a = 6 * (length (a .0 .now) - a .1 .1 .0 .at) + 3
 
 abbrev argument-at : ℕ → In 4 argument-kinds.ps
 argument-at t = and 4 argument-kinds.ps (is 4 argument-kinds.ps μ-argument t) argument.Pre
@@ -153,11 +155,11 @@ abbrev expression-below : ℕ → In 4 expression-kinds.ps
 expression-below t =
     and 4 expression-kinds.ps (falls 4 expression-kinds.ps _<_ μ-expression t) expression.Pre
 
-abbrev more-at : ℕ → In 4 more-kinds.ps
-more-at t = and 4 more-kinds.ps (is 4 more-kinds.ps μ-more t) more.Pre
+abbrev operand-at : ℕ → In 4 operand-kinds.ps
+operand-at t = and 4 operand-kinds.ps (is 4 operand-kinds.ps μ-operand t) operand.Pre
 
-abbrev more-below : ℕ → In 4 more-kinds.ps
-more-below t = and 4 more-kinds.ps (falls 4 more-kinds.ps _<_ μ-more t) more.Pre
+abbrev operand-below : ℕ → In 4 operand-kinds.ps
+operand-below t = and 4 operand-kinds.ps (falls 4 operand-kinds.ps _<_ μ-operand t) operand.Pre
 
 abbrev second-at : ℕ → In 4 second-kinds.ps
 second-at t = and 4 second-kinds.ps (is 4 second-kinds.ps μ-second t) second.Pre
@@ -352,59 +354,182 @@ enclosed-same-length-4 t c = search needs
 enclosed-returns-2 : (t : ℕ) → enclosed-lts.Need-returns-2 (expression-below t, expression.Post, expect-reads.Asked, expect-reads.Learnt) (enclosed-at t) enclosed.Post
 enclosed-returns-2 t c = says-first (want-close ∷ []) (c .before .before .before .before .before .before .before .expression .ensures) (c .before .k .given .1)
 
-expression-term-requires : (t : ℕ) → expression-lts.Need-term-requires (term-below t, term.Post, more-below t, more.Post) (expression-at t) expression.Post
-expression-term-requires t c κs = (omega arith, c .before .before .before .before .before .before .pre .1)
+abbrev expression-Inv-loop : expression-lts.InvT-loop
+expression-Inv-loop part offset line₀ names fresh₀ p₀ line fresh p = (length line ≡ length line₀) × (length fresh ≡ length fresh₀) × Onward (want-operand ∷ want-more-terms ∷ []) (env part offset names) p₀ (mem line₀ fresh₀) p (mem line fresh)
 
-expression-enum-known-p : (t : ℕ) → expression-lts.Need-enum-known-p (term-below t, term.Post, more-below t, more.Post) (expression-at t) expression.Post
-expression-enum-known-p t c = search needs
+abbrev expression-μ-loop : expression-lts.MeasureT-loop
+expression-μ-loop part offset line₀ names fresh₀ p₀ line fresh p = length part - p .at
 
-expression-more-requires : (t : ℕ) → expression-lts.Need-more-requires (term-below t, term.Post, more-below t, more.Post) (expression-at t) expression.Post
-expression-more-requires t c κs = (omega (arith, ((c .before .before .before .before .before .before .before .before .before .term .ensures) .got _ (c .before .before .before .p .given .1)) .ahead, ((c .before .before .before .before .before .before .before .before .before .term .ensures) .got _ (c .before .before .before .p .given .1)) .asks .within), ((c .before .before .before .before .before .before .before .before .before .term .ensures) .got _ (c .before .before .before .p .given .1)) .asks)
+expression-loop-holds : (t : ℕ) → expression-lts.Need-loop-holds (term-below t, term.Post, see-reads.Asked, see-reads.Learnt, joins-reads.Asked, joins-reads.Learnt, token-reads.Asked, token-reads.Learnt) (expression-at t) expression.Post expression-Inv-loop expression-μ-loop
+expression-loop-holds t c = (refl, refl, onward-first (c .before .before .before .before .pre .1))
 
-expression-enum-known-k : (t : ℕ) → expression-lts.Need-enum-known-k (term-below t, term.Post, more-below t, more.Post) (expression-at t) expression.Post
+expression-term-requires : (t : ℕ) → expression-lts.Need-term-requires (term-below t, term.Post, see-reads.Asked, see-reads.Learnt, joins-reads.Asked, joins-reads.Learnt, token-reads.Asked, token-reads.Learnt) (expression-at t) expression.Post expression-Inv-loop expression-μ-loop
+expression-term-requires t c κs = (omega (arith, c .before .before .before .before .before .before .before .pre .0, c .before .before .loop .inv .2 .ahead, c .before .before .loop .inv .2 .asks .within), c .before .before .loop .inv .2 .asks)
+
+expression-enum-known-next : (t : ℕ) → expression-lts.Need-enum-known-next (term-below t, term.Post, see-reads.Asked, see-reads.Learnt, joins-reads.Asked, joins-reads.Learnt, token-reads.Asked, token-reads.Learnt) (expression-at t) expression.Post expression-Inv-loop expression-μ-loop
+expression-enum-known-next t c = search needs
+
+expression-see-requires : (t : ℕ) → expression-lts.Need-see-requires (term-below t, term.Post, see-reads.Asked, see-reads.Learnt, joins-reads.Asked, joins-reads.Learnt, token-reads.Asked, token-reads.Learnt) (expression-at t) expression.Post expression-Inv-loop expression-μ-loop
+expression-see-requires t c κs = (c .before .before .before .before .before .before .before .term .ensures .got _ (c .before .next .given .1)) .asks .within
+
+expression-joins-requires : (t : ℕ) → expression-lts.Need-joins-requires (term-below t, term.Post, see-reads.Asked, see-reads.Learnt, joins-reads.Asked, joins-reads.Learnt, token-reads.Asked, token-reads.Learnt) (expression-at t) expression.Post expression-Inv-loop expression-μ-loop
+expression-joins-requires t c κs = search needs
+
+expression-token-requires : (t : ℕ) → expression-lts.Need-token-requires (term-below t, term.Post, see-reads.Asked, see-reads.Learnt, joins-reads.Asked, joins-reads.Learnt, token-reads.Asked, token-reads.Learnt) (expression-at t) expression.Post expression-Inv-loop expression-μ-loop
+expression-token-requires t c κs = omega (arith, (c .before .before .before .before .before .before .before .before .before .before .before .before .term .ensures .got _ (c .before .before .before .before .before .before .next .given .1)) .asks .few, (c .before .before .before .before .before .before .before .before .before .before .before .before .term .ensures .got _ (c .before .before .before .before .before .before .next .given .1)) .asks .short, (c .before .before .before .before .before .before .before .before .before .before .before .before .term .ensures .got _ (c .before .before .before .before .before .before .next .given .1)) .asks .within)
+
+expression-loop-less : (t : ℕ) → expression-lts.Need-loop-less (term-below t, term.Post, see-reads.Asked, see-reads.Learnt, joins-reads.Asked, joins-reads.Learnt, token-reads.Asked, token-reads.Learnt) (expression-at t) expression.Post expression-Inv-loop expression-μ-loop
+expression-loop-less t c = omega (arith, (c .before .before .before .before .before .before .before .before .before .before .before .before .before .before .before .term .ensures .got _ (c .before .before .before .before .before .before .before .before .before .next .given .1)) .ahead, (took-own (c .before .before .before .before .before .before .before .see .result .class) (joins-sign (c .before .before .before .before .before .before .before .see .result .class) (sym (c .before .before .before .before .before .joins .ensures) ∙ c .before .before .before .before .if1 .taken)) ((c .before .before .before .before .before .before .before .before .before .before .before .before .before .before .before .term .ensures .got _ (c .before .before .before .before .before .before .before .before .before .next .given .1)) .asks) (c .before .before .before .before .before .before .before .see .ensures .next _ _) (sym (c .before .before .before .before .before .before .before .see .ensures .class)) (c .before .before .before .before .before .before .before .see .ensures .own) (c .before .before .token .ensures .0) (c .before .before .token .ensures .1)) .pass .ahead, (took-own (c .before .before .before .before .before .before .before .see .result .class) (joins-sign (c .before .before .before .before .before .before .before .see .result .class) (sym (c .before .before .before .before .before .joins .ensures) ∙ c .before .before .before .before .if1 .taken)) ((c .before .before .before .before .before .before .before .before .before .before .before .before .before .before .before .term .ensures .got _ (c .before .before .before .before .before .before .before .before .before .next .given .1)) .asks) (c .before .before .before .before .before .before .before .see .ensures .next _ _) (sym (c .before .before .before .before .before .before .before .see .ensures .class)) (c .before .before .before .before .before .before .before .see .ensures .own) (c .before .before .token .ensures .0) (c .before .before .token .ensures .1)) .pass .asks .within)
+
+expression-loop-again : (t : ℕ) → expression-lts.Need-loop-again (term-below t, term.Post, see-reads.Asked, see-reads.Learnt, joins-reads.Asked, joins-reads.Learnt, token-reads.Asked, token-reads.Learnt) (expression-at t) expression.Post expression-Inv-loop expression-μ-loop
+expression-loop-again t c = (c .before .before .token .kept .0 ∙ c .before .before .before .before .before .before .before .before .before .before .before .before .before .before .before .term .kept .1 .1 .1 .0 ∙ c .before .before .before .before .before .before .before .before .before .before .before .before .before .before .before .before .before .before .loop .inv .0, c .before .before .before .before .before .before .before .before .before .before .before .before .before .before .before .term .kept .1 .1 .1 .1 .1 .0 ∙ c .before .before .before .before .before .before .before .before .before .before .before .before .before .before .before .before .before .before .loop .inv .1, onward-joins (c .before .before .before .before .before .before .before .see .result .class) (sym (c .before .before .before .before .before .joins .ensures) ∙ c .before .before .before .before .if1 .taken) (sym (c .before .before .before .before .before .before .before .see .ensures .class)) (c .before .before .before .before .before .before .before .before .before .before .before .before .before .before .before .before .before .before .loop .inv .2) (c .before .before .before .before .before .before .before .before .before .before .before .before .before .before .before .term .ensures .got _ (c .before .before .before .before .before .before .before .before .before .next .given .1)) (took-own (c .before .before .before .before .before .before .before .see .result .class) (joins-sign (c .before .before .before .before .before .before .before .see .result .class) (sym (c .before .before .before .before .before .joins .ensures) ∙ c .before .before .before .before .if1 .taken)) ((c .before .before .before .before .before .before .before .before .before .before .before .before .before .before .before .term .ensures .got _ (c .before .before .before .before .before .before .before .before .before .next .given .1)) .asks) (c .before .before .before .before .before .before .before .see .ensures .next _ _) (sym (c .before .before .before .before .before .before .before .see .ensures .class)) (c .before .before .before .before .before .before .before .see .ensures .own) (c .before .before .token .ensures .0) (c .before .before .token .ensures .1)))
+
+expression-same-length : (t : ℕ) → expression-lts.Need-same-length (term-below t, term.Post, see-reads.Asked, see-reads.Learnt, joins-reads.Asked, joins-reads.Learnt, token-reads.Asked, token-reads.Learnt) (expression-at t) expression.Post expression-Inv-loop expression-μ-loop
+expression-same-length t c = c .before .before .before .before .before .before .before .before .before .before .before .term .kept .1 .1 .1 .0 ∙ c .before .before .before .before .before .before .before .before .before .before .before .before .before .before .loop .inv .0
+
+expression-same-length-2 : (t : ℕ) → expression-lts.Need-same-length-2 (term-below t, term.Post, see-reads.Asked, see-reads.Learnt, joins-reads.Asked, joins-reads.Learnt, token-reads.Asked, token-reads.Learnt) (expression-at t) expression.Post expression-Inv-loop expression-μ-loop
+expression-same-length-2 t c = c .before .before .before .before .before .before .before .before .before .before .before .term .kept .1 .1 .1 .1 .1 .0 ∙ c .before .before .before .before .before .before .before .before .before .before .before .before .before .before .loop .inv .1
+
+expression-returns : (t : ℕ) → expression-lts.Need-returns (term-below t, term.Post, see-reads.Asked, see-reads.Learnt, joins-reads.Asked, joins-reads.Learnt, token-reads.Asked, token-reads.Learnt) (expression-at t) expression.Post expression-Inv-loop expression-μ-loop
+expression-returns t c = c .before .before .before .before .before .before .before .before .before .before .before .before .before .before .loop .inv .2 .goes _ _ (says-then (c .before .before .before .before .before .before .before .before .before .before .before .term .ensures .got _ (c .before .before .before .before .before .next .given .1)) (leaves want-more-terms ((c .before .before .before .before .before .before .before .before .before .before .before .term .ensures .got _ (c .before .before .before .before .before .next .given .1)) .asks) (c .before .before .before .see .ensures .next _ _) (ap (look want-more-terms) (sym (c .before .before .before .see .ensures .class)) ∙ more-else (c .before .before .before .see .result .class) (sym (c .before .joins .ensures) ∙ c .if1 .left))))
+
+expression-enum-known-k : (t : ℕ) → expression-lts.Need-enum-known-k (term-below t, term.Post, see-reads.Asked, see-reads.Learnt, joins-reads.Asked, joins-reads.Learnt, token-reads.Asked, token-reads.Learnt) (expression-at t) expression.Post expression-Inv-loop expression-μ-loop
 expression-enum-known-k t c = search needs
 
-expression-same-length : (t : ℕ) → expression-lts.Need-same-length (term-below t, term.Post, more-below t, more.Post) (expression-at t) expression.Post
-expression-same-length t c = search needs
+expression-same-length-3 : (t : ℕ) → expression-lts.Need-same-length-3 (term-below t, term.Post, see-reads.Asked, see-reads.Learnt, joins-reads.Asked, joins-reads.Learnt, token-reads.Asked, token-reads.Learnt) (expression-at t) expression.Post expression-Inv-loop expression-μ-loop
+expression-same-length-3 t c = c .before .before .before .before .before .before .before .term .kept .1 .1 .1 .0 ∙ c .before .before .before .before .before .before .before .before .before .before .loop .inv .0
 
-expression-same-length-2 : (t : ℕ) → expression-lts.Need-same-length-2 (term-below t, term.Post, more-below t, more.Post) (expression-at t) expression.Post
-expression-same-length-2 t c = search needs
+expression-same-length-4 : (t : ℕ) → expression-lts.Need-same-length-4 (term-below t, term.Post, see-reads.Asked, see-reads.Learnt, joins-reads.Asked, joins-reads.Learnt, token-reads.Asked, token-reads.Learnt) (expression-at t) expression.Post expression-Inv-loop expression-μ-loop
+expression-same-length-4 t c = c .before .before .before .before .before .before .before .term .kept .1 .1 .1 .1 .1 .0 ∙ c .before .before .before .before .before .before .before .before .before .before .loop .inv .1
 
-expression-returns : (t : ℕ) → expression-lts.Need-returns (term-below t, term.Post, more-below t, more.Post) (expression-at t) expression.Post
-expression-returns t c = says-then ((c .before .before .before .before .before .before .before .before .before .before .before .before .before .before .term .ensures) .got _ (c .before .before .before .before .before .before .before .before .p .given .1)) (c .before .before .before .before .more .ensures)
+expression-returns-2 : (t : ℕ) → expression-lts.Need-returns-2 (term-below t, term.Post, see-reads.Asked, see-reads.Learnt, joins-reads.Asked, joins-reads.Learnt, token-reads.Asked, token-reads.Learnt) (expression-at t) expression.Post expression-Inv-loop expression-μ-loop
+expression-returns-2 t c = c .before .before .before .before .before .before .before .before .before .before .loop .inv .2 .goes _ _ (says-first (want-more-terms ∷ []) (c .before .before .before .before .before .before .before .term .ensures) (c .before .k .given .1))
 
-expression-same-length-3 : (t : ℕ) → expression-lts.Need-same-length-3 (term-below t, term.Post, more-below t, more.Post) (expression-at t) expression.Post
-expression-same-length-3 t c = search needs
+operand-add-place : (t : ℕ) → operand-lts.Need-add-place (constant-reads.Asked, constant-reads.Learnt, variable-reads.Asked, variable-reads.Learnt, element-below t, element.Post, token-reads.Asked, token-reads.Learnt, enclosed-below t, enclosed.Post, string-argument-below t, string-argument.Post, argument-below t, argument.Post, compared-below t, compared.Post) (operand-at t) operand.Post
+operand-add-place t c = omega (arith, (c .before .before .before .before .before .before .pre .1 .1 .next 0 []) .spans, (c .before .before .before .before .before .before .pre .1 .1 .next 0 []) .within, c .before .before .before .before .before .before .pre .1 .0 .short)
 
-expression-same-length-4 : (t : ℕ) → expression-lts.Need-same-length-4 (term-below t, term.Post, more-below t, more.Post) (expression-at t) expression.Post
-expression-same-length-4 t c = search needs
+operand-constant-requires : (t : ℕ) → operand-lts.Need-constant-requires (constant-reads.Asked, constant-reads.Learnt, variable-reads.Asked, variable-reads.Learnt, element-below t, element.Post, token-reads.Asked, token-reads.Learnt, enclosed-below t, enclosed.Post, string-argument-below t, string-argument.Post, argument-below t, argument.Post, compared-below t, compared.Post) (operand-at t) operand.Post
+operand-constant-requires t c κs = ((c .before .before .before .before .before .before .before .before .before .pre .1 .0), (false, ((c .before .before .before .before .before .before .before .before .before .pre .1 .1 .sees), (sym (c .before .before .before .before .before .before .before .before .before .pre .1 .1 .class) ∙ c .before .before .match .keys1))))
 
-expression-returns-2 : (t : ℕ) → expression-lts.Need-returns-2 (term-below t, term.Post, more-below t, more.Post) (expression-at t) expression.Post
-expression-returns-2 t c = says-first (want-more-terms ∷ []) (c .before .before .before .before .before .before .before .term .ensures) (c .before .k .given .1)
+operand-variable-requires : (t : ℕ) → operand-lts.Need-variable-requires (constant-reads.Asked, constant-reads.Learnt, variable-reads.Asked, variable-reads.Learnt, element-below t, element.Post, token-reads.Asked, token-reads.Learnt, enclosed-below t, enclosed.Post, string-argument-below t, string-argument.Post, argument-below t, argument.Post, compared-below t, compared.Post) (operand-at t) operand.Post
+operand-variable-requires t c κs = ((c .before .before .before .before .before .before .before .before .before .pre .1 .0), (c .before .before .before .before .before .before .before .before .before .pre .1 .1 .sees), omega (arith, (sym (c .before .before .before .before .before .before .before .before .before .pre .1 .1 .class) ∙ c .before .before .match .keys2)), omega (arith, (sym (c .before .before .before .before .before .before .before .before .before .pre .1 .1 .class) ∙ c .before .before .match .keys2)))
 
-more-see-requires : (t : ℕ) → more-lts.Need-see-requires (see-reads.Asked, see-reads.Learnt, joins-reads.Asked, joins-reads.Learnt, token-reads.Asked, token-reads.Learnt, expression-below t, expression.Post) (more-at t) more.Post
-more-see-requires t c κs = c .before .before .before .before .pre .1 .within
+operand-variable-requires-2 : (t : ℕ) → operand-lts.Need-variable-requires-2 (constant-reads.Asked, constant-reads.Learnt, variable-reads.Asked, variable-reads.Learnt, element-below t, element.Post, token-reads.Asked, token-reads.Learnt, enclosed-below t, enclosed.Post, string-argument-below t, string-argument.Post, argument-below t, argument.Post, compared-below t, compared.Post) (operand-at t) operand.Post
+operand-variable-requires-2 t c κs = ((c .before .before .before .before .before .before .before .before .before .pre .1 .0), (c .before .before .before .before .before .before .before .before .before .pre .1 .1 .sees), omega (arith, (sym (c .before .before .before .before .before .before .before .before .before .pre .1 .1 .class) ∙ c .before .before .match .keys3)), omega (arith, (sym (c .before .before .before .before .before .before .before .before .before .pre .1 .1 .class) ∙ c .before .before .match .keys3)))
 
-more-joins-requires : (t : ℕ) → more-lts.Need-joins-requires (see-reads.Asked, see-reads.Learnt, joins-reads.Asked, joins-reads.Learnt, token-reads.Asked, token-reads.Learnt, expression-below t, expression.Post) (more-at t) more.Post
-more-joins-requires t c κs = search needs
+operand-element-requires : (t : ℕ) → operand-lts.Need-element-requires (constant-reads.Asked, constant-reads.Learnt, variable-reads.Asked, variable-reads.Learnt, element-below t, element.Post, token-reads.Asked, token-reads.Learnt, enclosed-below t, enclosed.Post, string-argument-below t, string-argument.Post, argument-below t, argument.Post, compared-below t, compared.Post) (operand-at t) operand.Post
+operand-element-requires t c κs = (omega (arith, (c .before .before .before .before .before .before .variable2 .ensures) .pass .ahead, (c .before .before .before .before .before .before .variable2 .ensures) .pass .asks .within), (c .before .before .before .before .before .before .variable2 .ensures) .pass .asks)
 
-more-token-requires : (t : ℕ) → more-lts.Need-token-requires (see-reads.Asked, see-reads.Learnt, joins-reads.Asked, joins-reads.Learnt, token-reads.Asked, token-reads.Learnt, expression-below t, expression.Post) (more-at t) more.Post
-more-token-requires t c κs = omega (arith, c .before .before .before .before .before .before .before .before .before .pre .1 .few, c .before .before .before .before .before .before .before .before .before .pre .1 .short, c .before .before .before .before .before .before .before .before .before .pre .1 .within)
+operand-token-requires : (t : ℕ) → operand-lts.Need-token-requires (constant-reads.Asked, constant-reads.Learnt, variable-reads.Asked, variable-reads.Learnt, element-below t, element.Post, token-reads.Asked, token-reads.Learnt, enclosed-below t, enclosed.Post, string-argument-below t, string-argument.Post, argument-below t, argument.Post, compared-below t, compared.Post) (operand-at t) operand.Post
+operand-token-requires t c κs = omega (arith, c .before .before .before .before .before .before .before .before .pre .1 .0 .few, c .before .before .before .before .before .before .before .before .pre .1 .0 .short, c .before .before .before .before .before .before .before .before .pre .1 .0 .within)
 
-more-expression-requires : (t : ℕ) → more-lts.Need-expression-requires (see-reads.Asked, see-reads.Learnt, joins-reads.Asked, joins-reads.Learnt, token-reads.Asked, token-reads.Learnt, expression-below t, expression.Post) (more-at t) more.Post
-more-expression-requires t c κs = (omega (arith, (took-own (c .before .before .before .before .before .before .before .before .before .see .result .class) (joins-sign (c .before .before .before .before .before .before .before .before .before .see .result .class) (sym (c .before .before .before .before .before .before .before .joins .ensures) ∙ c .before .before .before .before .before .before .if1 .taken)) (c .before .before .before .before .before .before .before .before .before .before .before .before .before .before .pre .1) (c .before .before .before .before .before .before .before .before .before .see .ensures .next _ _) (sym (c .before .before .before .before .before .before .before .before .before .see .ensures .class)) (c .before .before .before .before .before .before .before .before .before .see .ensures .own) (c .before .before .before .before .token .ensures .0) (c .before .before .before .before .token .ensures .1)) .pass .ahead, (took-own (c .before .before .before .before .before .before .before .before .before .see .result .class) (joins-sign (c .before .before .before .before .before .before .before .before .before .see .result .class) (sym (c .before .before .before .before .before .before .before .joins .ensures) ∙ c .before .before .before .before .before .before .if1 .taken)) (c .before .before .before .before .before .before .before .before .before .before .before .before .before .before .pre .1) (c .before .before .before .before .before .before .before .before .before .see .ensures .next _ _) (sym (c .before .before .before .before .before .before .before .before .before .see .ensures .class)) (c .before .before .before .before .before .before .before .before .before .see .ensures .own) (c .before .before .before .before .token .ensures .0) (c .before .before .before .before .token .ensures .1)) .pass .asks .within), (took-own (c .before .before .before .before .before .before .before .before .before .see .result .class) (joins-sign (c .before .before .before .before .before .before .before .before .before .see .result .class) (sym (c .before .before .before .before .before .before .before .joins .ensures) ∙ c .before .before .before .before .before .before .if1 .taken)) (c .before .before .before .before .before .before .before .before .before .before .before .before .before .before .pre .1) (c .before .before .before .before .before .before .before .before .before .see .ensures .next _ _) (sym (c .before .before .before .before .before .before .before .before .before .see .ensures .class)) (c .before .before .before .before .before .before .before .before .before .see .ensures .own) (c .before .before .before .before .token .ensures .0) (c .before .before .before .before .token .ensures .1)) .pass .asks)
+operand-enclosed-requires : (t : ℕ) → operand-lts.Need-enclosed-requires (constant-reads.Asked, constant-reads.Learnt, variable-reads.Asked, variable-reads.Learnt, element-below t, element.Post, token-reads.Asked, token-reads.Learnt, enclosed-below t, enclosed.Post, string-argument-below t, string-argument.Post, argument-below t, argument.Post, compared-below t, compared.Post) (operand-at t) operand.Post
+operand-enclosed-requires t c κs = (omega (arith, (took-own open-sign refl (c .before .before .before .before .before .before .before .before .before .before .before .before .before .pre .1 .0) (c .before .before .before .before .before .before .before .before .before .before .before .before .before .pre .1 .1 .next _ _) (sym (c .before .before .before .before .before .before .before .before .before .before .before .before .before .pre .1 .1 .class) ∙ c .before .before .before .before .before .before .match .keys4) (c .before .before .before .before .before .before .before .before .before .before .before .before .before .pre .1 .1 .own) (c .before .before .before .before .token .ensures .0) (c .before .before .before .before .token .ensures .1)) .pass .ahead, (took-own open-sign refl (c .before .before .before .before .before .before .before .before .before .before .before .before .before .pre .1 .0) (c .before .before .before .before .before .before .before .before .before .before .before .before .before .pre .1 .1 .next _ _) (sym (c .before .before .before .before .before .before .before .before .before .before .before .before .before .pre .1 .1 .class) ∙ c .before .before .before .before .before .before .match .keys4) (c .before .before .before .before .before .before .before .before .before .before .before .before .before .pre .1 .1 .own) (c .before .before .before .before .token .ensures .0) (c .before .before .before .before .token .ensures .1)) .pass .asks .within), (took-own open-sign refl (c .before .before .before .before .before .before .before .before .before .before .before .before .before .pre .1 .0) (c .before .before .before .before .before .before .before .before .before .before .before .before .before .pre .1 .1 .next _ _) (sym (c .before .before .before .before .before .before .before .before .before .before .before .before .before .pre .1 .1 .class) ∙ c .before .before .before .before .before .before .match .keys4) (c .before .before .before .before .before .before .before .before .before .before .before .before .before .pre .1 .1 .own) (c .before .before .before .before .token .ensures .0) (c .before .before .before .before .token .ensures .1)) .pass .asks)
 
-more-same-length : (t : ℕ) → more-lts.Need-same-length (see-reads.Asked, see-reads.Learnt, joins-reads.Asked, joins-reads.Learnt, token-reads.Asked, token-reads.Learnt, expression-below t, expression.Post) (more-at t) more.Post
-more-same-length t c = search needs
+operand-token-requires-2 : (t : ℕ) → operand-lts.Need-token-requires-2 (constant-reads.Asked, constant-reads.Learnt, variable-reads.Asked, variable-reads.Learnt, element-below t, element.Post, token-reads.Asked, token-reads.Learnt, enclosed-below t, enclosed.Post, string-argument-below t, string-argument.Post, argument-below t, argument.Post, compared-below t, compared.Post) (operand-at t) operand.Post
+operand-token-requires-2 t c κs = omega (arith, c .before .before .before .before .before .before .before .before .pre .1 .0 .few, c .before .before .before .before .before .before .before .before .pre .1 .0 .short, c .before .before .before .before .before .before .before .before .pre .1 .0 .within)
 
-more-same-length-2 : (t : ℕ) → more-lts.Need-same-length-2 (see-reads.Asked, see-reads.Learnt, joins-reads.Asked, joins-reads.Learnt, token-reads.Asked, token-reads.Learnt, expression-below t, expression.Post) (more-at t) more.Post
-more-same-length-2 t c = search needs
+operand-string-argument-requires : (t : ℕ) → operand-lts.Need-string-argument-requires (constant-reads.Asked, constant-reads.Learnt, variable-reads.Asked, variable-reads.Learnt, element-below t, element.Post, token-reads.Asked, token-reads.Learnt, enclosed-below t, enclosed.Post, string-argument-below t, string-argument.Post, argument-below t, argument.Post, compared-below t, compared.Post) (operand-at t) operand.Post
+operand-string-argument-requires t c κs = (omega (arith, (took-own function-of-string refl (c .before .before .before .before .before .before .before .before .before .before .before .before .before .pre .1 .0) (c .before .before .before .before .before .before .before .before .before .before .before .before .before .pre .1 .1 .next _ _) (sym (c .before .before .before .before .before .before .before .before .before .before .before .before .before .pre .1 .1 .class) ∙ c .before .before .before .before .before .before .match .keys5) (c .before .before .before .before .before .before .before .before .before .before .before .before .before .pre .1 .1 .own) (c .before .before .before .before .token2 .ensures .0) (c .before .before .before .before .token2 .ensures .1)) .pass .ahead, (took-own function-of-string refl (c .before .before .before .before .before .before .before .before .before .before .before .before .before .pre .1 .0) (c .before .before .before .before .before .before .before .before .before .before .before .before .before .pre .1 .1 .next _ _) (sym (c .before .before .before .before .before .before .before .before .before .before .before .before .before .pre .1 .1 .class) ∙ c .before .before .before .before .before .before .match .keys5) (c .before .before .before .before .before .before .before .before .before .before .before .before .before .pre .1 .1 .own) (c .before .before .before .before .token2 .ensures .0) (c .before .before .before .before .token2 .ensures .1)) .pass .asks .within), (took-own function-of-string refl (c .before .before .before .before .before .before .before .before .before .before .before .before .before .pre .1 .0) (c .before .before .before .before .before .before .before .before .before .before .before .before .before .pre .1 .1 .next _ _) (sym (c .before .before .before .before .before .before .before .before .before .before .before .before .before .pre .1 .1 .class) ∙ c .before .before .before .before .before .before .match .keys5) (c .before .before .before .before .before .before .before .before .before .before .before .before .before .pre .1 .1 .own) (c .before .before .before .before .token2 .ensures .0) (c .before .before .before .before .token2 .ensures .1)) .pass .asks)
 
-more-returns : (t : ℕ) → more-lts.Need-returns (see-reads.Asked, see-reads.Learnt, joins-reads.Asked, joins-reads.Learnt, token-reads.Asked, token-reads.Learnt, expression-below t, expression.Post) (more-at t) more.Post
-more-returns t c = takes want-more-terms (c .before .before .before .before .before .before .before .before .before .before .before .before .before .before .see .result .class) (want-operand ∷ want-more-terms ∷ []) (more-row (c .before .before .before .before .before .before .before .before .before .before .before .before .before .before .see .result .class) (sym (c .before .before .before .before .before .before .before .before .before .before .before .before .joins .ensures) ∙ c .before .before .before .before .before .before .before .before .before .before .before .if1 .taken)) (sign (c .before .before .before .before .before .before .before .before .before .before .before .before .before .before .see .result .class) (joins-sign (c .before .before .before .before .before .before .before .before .before .before .before .before .before .before .see .result .class) (sym (c .before .before .before .before .before .before .before .before .before .before .before .before .joins .ensures) ∙ c .before .before .before .before .before .before .before .before .before .before .before .if1 .taken)) .range) (sym (c .before .before .before .before .before .before .before .before .before .before .before .before .before .before .see .ensures .class)) (took-own (c .before .before .before .before .before .before .before .before .before .before .before .before .before .before .see .result .class) (joins-sign (c .before .before .before .before .before .before .before .before .before .before .before .before .before .before .see .result .class) (sym (c .before .before .before .before .before .before .before .before .before .before .before .before .joins .ensures) ∙ c .before .before .before .before .before .before .before .before .before .before .before .if1 .taken)) (c .before .before .before .before .before .before .before .before .before .before .before .before .before .before .before .before .before .before .before .pre .1) (c .before .before .before .before .before .before .before .before .before .before .before .before .before .before .see .ensures .next _ _) (sym (c .before .before .before .before .before .before .before .before .before .before .before .before .before .before .see .ensures .class)) (c .before .before .before .before .before .before .before .before .before .before .before .before .before .before .see .ensures .own) (c .before .before .before .before .before .before .before .before .before .token .ensures .0) (c .before .before .before .before .before .before .before .before .before .token .ensures .1)) (c .before .before .before .before .expression .ensures)
+operand-token-requires-3 : (t : ℕ) → operand-lts.Need-token-requires-3 (constant-reads.Asked, constant-reads.Learnt, variable-reads.Asked, variable-reads.Learnt, element-below t, element.Post, token-reads.Asked, token-reads.Learnt, enclosed-below t, enclosed.Post, string-argument-below t, string-argument.Post, argument-below t, argument.Post, compared-below t, compared.Post) (operand-at t) operand.Post
+operand-token-requires-3 t c κs = omega (arith, c .before .before .before .before .before .before .before .before .pre .1 .0 .few, c .before .before .before .before .before .before .before .before .pre .1 .0 .short, c .before .before .before .before .before .before .before .before .pre .1 .0 .within)
 
-more-returns-2 : (t : ℕ) → more-lts.Need-returns-2 (see-reads.Asked, see-reads.Learnt, joins-reads.Asked, joins-reads.Learnt, token-reads.Asked, token-reads.Learnt, expression-below t, expression.Post) (more-at t) more.Post
-more-returns-2 t c = leaves want-more-terms (c .before .before .before .before .before .before .before .before .pre .1) (c .before .before .before .see .ensures .next _ _) (ap (look want-more-terms) (sym (c .before .before .before .see .ensures .class)) ∙ more-else (c .before .before .before .see .result .class) (sym (c .before .joins .ensures) ∙ c .if1 .left))
+operand-argument-requires : (t : ℕ) → operand-lts.Need-argument-requires (constant-reads.Asked, constant-reads.Learnt, variable-reads.Asked, variable-reads.Learnt, element-below t, element.Post, token-reads.Asked, token-reads.Learnt, enclosed-below t, enclosed.Post, string-argument-below t, string-argument.Post, argument-below t, argument.Post, compared-below t, compared.Post) (operand-at t) operand.Post
+operand-argument-requires t c κs = (omega (arith, (took-own function-of-number refl (c .before .before .before .before .before .before .before .before .before .before .before .before .before .pre .1 .0) (c .before .before .before .before .before .before .before .before .before .before .before .before .before .pre .1 .1 .next _ _) (sym (c .before .before .before .before .before .before .before .before .before .before .before .before .before .pre .1 .1 .class) ∙ c .before .before .before .before .before .before .match .keys6) (c .before .before .before .before .before .before .before .before .before .before .before .before .before .pre .1 .1 .own) (c .before .before .before .before .token3 .ensures .0) (c .before .before .before .before .token3 .ensures .1)) .pass .ahead, (took-own function-of-number refl (c .before .before .before .before .before .before .before .before .before .before .before .before .before .pre .1 .0) (c .before .before .before .before .before .before .before .before .before .before .before .before .before .pre .1 .1 .next _ _) (sym (c .before .before .before .before .before .before .before .before .before .before .before .before .before .pre .1 .1 .class) ∙ c .before .before .before .before .before .before .match .keys6) (c .before .before .before .before .before .before .before .before .before .before .before .before .before .pre .1 .1 .own) (c .before .before .before .before .token3 .ensures .0) (c .before .before .before .before .token3 .ensures .1)) .pass .asks .within), (took-own function-of-number refl (c .before .before .before .before .before .before .before .before .before .before .before .before .before .pre .1 .0) (c .before .before .before .before .before .before .before .before .before .before .before .before .before .pre .1 .1 .next _ _) (sym (c .before .before .before .before .before .before .before .before .before .before .before .before .before .pre .1 .1 .class) ∙ c .before .before .before .before .before .before .match .keys6) (c .before .before .before .before .before .before .before .before .before .before .before .before .before .pre .1 .1 .own) (c .before .before .before .before .token3 .ensures .0) (c .before .before .before .before .token3 .ensures .1)) .pass .asks)
+
+operand-compared-requires : (t : ℕ) → operand-lts.Need-compared-requires (constant-reads.Asked, constant-reads.Learnt, variable-reads.Asked, variable-reads.Learnt, element-below t, element.Post, token-reads.Asked, token-reads.Learnt, enclosed-below t, enclosed.Post, string-argument-below t, string-argument.Post, argument-below t, argument.Post, compared-below t, compared.Post) (operand-at t) operand.Post
+operand-compared-requires t c κs = (omega arith, c .before .before .before .before .before .before .before .before .before .pre .1 .0)
+
+operand-compared-requires-2 : (t : ℕ) → operand-lts.Need-compared-requires-2 (constant-reads.Asked, constant-reads.Learnt, variable-reads.Asked, variable-reads.Learnt, element-below t, element.Post, token-reads.Asked, token-reads.Learnt, enclosed-below t, enclosed.Post, string-argument-below t, string-argument.Post, argument-below t, argument.Post, compared-below t, compared.Post) (operand-at t) operand.Post
+operand-compared-requires-2 t c κs = (omega arith, c .before .before .before .before .before .before .before .before .before .pre .1 .0)
+
+operand-compared-requires-3 : (t : ℕ) → operand-lts.Need-compared-requires-3 (constant-reads.Asked, constant-reads.Learnt, variable-reads.Asked, variable-reads.Learnt, element-below t, element.Post, token-reads.Asked, token-reads.Learnt, enclosed-below t, enclosed.Post, string-argument-below t, string-argument.Post, argument-below t, argument.Post, compared-below t, compared.Post) (operand-at t) operand.Post
+operand-compared-requires-3 t c κs = (omega arith, c .before .before .before .before .before .before .before .before .before .pre .1 .0)
+
+operand-same-length : (t : ℕ) → operand-lts.Need-same-length (constant-reads.Asked, constant-reads.Learnt, variable-reads.Asked, variable-reads.Learnt, element-below t, element.Post, token-reads.Asked, token-reads.Learnt, enclosed-below t, enclosed.Post, string-argument-below t, string-argument.Post, argument-below t, argument.Post, compared-below t, compared.Post) (operand-at t) operand.Post
+operand-same-length t c = search needs
+
+operand-same-length-2 : (t : ℕ) → operand-lts.Need-same-length-2 (constant-reads.Asked, constant-reads.Learnt, variable-reads.Asked, variable-reads.Learnt, element-below t, element.Post, token-reads.Asked, token-reads.Learnt, enclosed-below t, enclosed.Post, string-argument-below t, string-argument.Post, argument-below t, argument.Post, compared-below t, compared.Post) (operand-at t) operand.Post
+operand-same-length-2 t c = search needs
+
+operand-returns : (t : ℕ) → operand-lts.Need-returns (constant-reads.Asked, constant-reads.Learnt, variable-reads.Asked, variable-reads.Learnt, element-below t, element.Post, token-reads.Asked, token-reads.Learnt, enclosed-below t, enclosed.Post, string-argument-below t, string-argument.Post, argument-below t, argument.Post, compared-below t, compared.Post) (operand-at t) operand.Post
+operand-returns t c = counts want-operand operand-number (c .before .before .before .before .before .before .before .before .before .before .before .before .before .before .pre .1 .1 .next _ _) (sym (c .before .before .before .before .before .before .before .before .before .before .before .before .before .before .pre .1 .1 .class) ∙ c .before .before .before .before .before .before .before .match .keys1) (c .before .before .before .before .constant .ensures false (c .before .before .before .before .before .before .before .before .before .before .before .before .before .before .pre .1 .1 .sees) (sym (c .before .before .before .before .before .before .before .before .before .before .before .before .before .before .pre .1 .1 .class) ∙ c .before .before .before .before .before .before .before .match .keys1))
+
+operand-same-length-3 : (t : ℕ) → operand-lts.Need-same-length-3 (constant-reads.Asked, constant-reads.Learnt, variable-reads.Asked, variable-reads.Learnt, element-below t, element.Post, token-reads.Asked, token-reads.Learnt, enclosed-below t, enclosed.Post, string-argument-below t, string-argument.Post, argument-below t, argument.Post, compared-below t, compared.Post) (operand-at t) operand.Post
+operand-same-length-3 t c = search needs
+
+operand-same-length-4 : (t : ℕ) → operand-lts.Need-same-length-4 (constant-reads.Asked, constant-reads.Learnt, variable-reads.Asked, variable-reads.Learnt, element-below t, element.Post, token-reads.Asked, token-reads.Learnt, enclosed-below t, enclosed.Post, string-argument-below t, string-argument.Post, argument-below t, argument.Post, compared-below t, compared.Post) (operand-at t) operand.Post
+operand-same-length-4 t c = search needs
+
+operand-returns-2 : (t : ℕ) → operand-lts.Need-returns-2 (constant-reads.Asked, constant-reads.Learnt, variable-reads.Asked, variable-reads.Learnt, element-below t, element.Post, token-reads.Asked, token-reads.Learnt, enclosed-below t, enclosed.Post, string-argument-below t, string-argument.Post, argument-below t, argument.Post, compared-below t, compared.Post) (operand-at t) operand.Post
+operand-returns-2 t c = takes-last want-operand numeric-variable operand-numeric refl (sym (c .before .before .before .before .before .before .before .before .before .before .before .before .before .before .pre .1 .1 .class) ∙ c .before .before .before .before .before .before .before .match .keys2) (c .before .before .before .before .variable .ensures)
+
+operand-same-length-5 : (t : ℕ) → operand-lts.Need-same-length-5 (constant-reads.Asked, constant-reads.Learnt, variable-reads.Asked, variable-reads.Learnt, element-below t, element.Post, token-reads.Asked, token-reads.Learnt, enclosed-below t, enclosed.Post, string-argument-below t, string-argument.Post, argument-below t, argument.Post, compared-below t, compared.Post) (operand-at t) operand.Post
+operand-same-length-5 t c = search needs
+
+operand-same-length-6 : (t : ℕ) → operand-lts.Need-same-length-6 (constant-reads.Asked, constant-reads.Learnt, variable-reads.Asked, variable-reads.Learnt, element-below t, element.Post, token-reads.Asked, token-reads.Learnt, enclosed-below t, enclosed.Post, string-argument-below t, string-argument.Post, argument-below t, argument.Post, compared-below t, compared.Post) (operand-at t) operand.Post
+operand-same-length-6 t c = search needs
+
+operand-returns-3 : (t : ℕ) → operand-lts.Need-returns-3 (constant-reads.Asked, constant-reads.Learnt, variable-reads.Asked, variable-reads.Learnt, element-below t, element.Post, token-reads.Asked, token-reads.Learnt, enclosed-below t, enclosed.Post, string-argument-below t, string-argument.Post, argument-below t, argument.Post, compared-below t, compared.Post) (operand-at t) operand.Post
+operand-returns-3 t c = takes want-operand array (want-array-open ∷ want-operand ∷ want-more-terms ∷ want-second ∷ []) operand-array refl (sym (c .before .before .before .before .before .before .before .before .before .before .before .before .before .before .before .before .before .before .before .before .before .pre .1 .1 .class) ∙ c .before .before .before .before .before .before .before .before .before .before .before .before .before .before .match .keys3) (c .before .before .before .before .before .before .before .before .before .before .before .variable2 .ensures) (c .before .before .before .before .element .ensures)
+
+operand-same-length-7 : (t : ℕ) → operand-lts.Need-same-length-7 (constant-reads.Asked, constant-reads.Learnt, variable-reads.Asked, variable-reads.Learnt, element-below t, element.Post, token-reads.Asked, token-reads.Learnt, enclosed-below t, enclosed.Post, string-argument-below t, string-argument.Post, argument-below t, argument.Post, compared-below t, compared.Post) (operand-at t) operand.Post
+operand-same-length-7 t c = search needs
+
+operand-same-length-8 : (t : ℕ) → operand-lts.Need-same-length-8 (constant-reads.Asked, constant-reads.Learnt, variable-reads.Asked, variable-reads.Learnt, element-below t, element.Post, token-reads.Asked, token-reads.Learnt, enclosed-below t, enclosed.Post, string-argument-below t, string-argument.Post, argument-below t, argument.Post, compared-below t, compared.Post) (operand-at t) operand.Post
+operand-same-length-8 t c = search needs
+
+operand-returns-4 : (t : ℕ) → operand-lts.Need-returns-4 (constant-reads.Asked, constant-reads.Learnt, variable-reads.Asked, variable-reads.Learnt, element-below t, element.Post, token-reads.Asked, token-reads.Learnt, enclosed-below t, enclosed.Post, string-argument-below t, string-argument.Post, argument-below t, argument.Post, compared-below t, compared.Post) (operand-at t) operand.Post
+operand-returns-4 t c = takes want-operand open-sign (want-operand ∷ want-more-terms ∷ want-close ∷ []) operand-open refl (sym (c .before .before .before .before .before .before .before .before .before .before .before .before .before .before .before .before .before .before .pre .1 .1 .class) ∙ c .before .before .before .before .before .before .before .before .before .before .before .match .keys4) (took-own open-sign refl (c .before .before .before .before .before .before .before .before .before .before .before .before .before .before .before .before .before .before .pre .1 .0) (c .before .before .before .before .before .before .before .before .before .before .before .before .before .before .before .before .before .before .pre .1 .1 .next _ _) (sym (c .before .before .before .before .before .before .before .before .before .before .before .before .before .before .before .before .before .before .pre .1 .1 .class) ∙ c .before .before .before .before .before .before .before .before .before .before .before .match .keys4) (c .before .before .before .before .before .before .before .before .before .before .before .before .before .before .before .before .before .before .pre .1 .1 .own) (c .before .before .before .before .before .before .before .before .before .token .ensures .0) (c .before .before .before .before .before .before .before .before .before .token .ensures .1)) (c .before .before .before .before .enclosed .ensures)
+
+operand-same-length-9 : (t : ℕ) → operand-lts.Need-same-length-9 (constant-reads.Asked, constant-reads.Learnt, variable-reads.Asked, variable-reads.Learnt, element-below t, element.Post, token-reads.Asked, token-reads.Learnt, enclosed-below t, enclosed.Post, string-argument-below t, string-argument.Post, argument-below t, argument.Post, compared-below t, compared.Post) (operand-at t) operand.Post
+operand-same-length-9 t c = search needs
+
+operand-same-length-10 : (t : ℕ) → operand-lts.Need-same-length-10 (constant-reads.Asked, constant-reads.Learnt, variable-reads.Asked, variable-reads.Learnt, element-below t, element.Post, token-reads.Asked, token-reads.Learnt, enclosed-below t, enclosed.Post, string-argument-below t, string-argument.Post, argument-below t, argument.Post, compared-below t, compared.Post) (operand-at t) operand.Post
+operand-same-length-10 t c = search needs
+
+operand-returns-5 : (t : ℕ) → operand-lts.Need-returns-5 (constant-reads.Asked, constant-reads.Learnt, variable-reads.Asked, variable-reads.Learnt, element-below t, element.Post, token-reads.Asked, token-reads.Learnt, enclosed-below t, enclosed.Post, string-argument-below t, string-argument.Post, argument-below t, argument.Post, compared-below t, compared.Post) (operand-at t) operand.Post
+operand-returns-5 t c = takes want-operand function-of-string (want-function-open ∷ want-string ∷ want-close ∷ []) operand-of-string refl (sym (c .before .before .before .before .before .before .before .before .before .before .before .before .before .before .before .before .before .before .pre .1 .1 .class) ∙ c .before .before .before .before .before .before .before .before .before .before .before .match .keys5) (took-own function-of-string refl (c .before .before .before .before .before .before .before .before .before .before .before .before .before .before .before .before .before .before .pre .1 .0) (c .before .before .before .before .before .before .before .before .before .before .before .before .before .before .before .before .before .before .pre .1 .1 .next _ _) (sym (c .before .before .before .before .before .before .before .before .before .before .before .before .before .before .before .before .before .before .pre .1 .1 .class) ∙ c .before .before .before .before .before .before .before .before .before .before .before .match .keys5) (c .before .before .before .before .before .before .before .before .before .before .before .before .before .before .before .before .before .before .pre .1 .1 .own) (c .before .before .before .before .before .before .before .before .before .token2 .ensures .0) (c .before .before .before .before .before .before .before .before .before .token2 .ensures .1)) (c .before .before .before .before .string-argument .ensures)
+
+operand-same-length-11 : (t : ℕ) → operand-lts.Need-same-length-11 (constant-reads.Asked, constant-reads.Learnt, variable-reads.Asked, variable-reads.Learnt, element-below t, element.Post, token-reads.Asked, token-reads.Learnt, enclosed-below t, enclosed.Post, string-argument-below t, string-argument.Post, argument-below t, argument.Post, compared-below t, compared.Post) (operand-at t) operand.Post
+operand-same-length-11 t c = search needs
+
+operand-same-length-12 : (t : ℕ) → operand-lts.Need-same-length-12 (constant-reads.Asked, constant-reads.Learnt, variable-reads.Asked, variable-reads.Learnt, element-below t, element.Post, token-reads.Asked, token-reads.Learnt, enclosed-below t, enclosed.Post, string-argument-below t, string-argument.Post, argument-below t, argument.Post, compared-below t, compared.Post) (operand-at t) operand.Post
+operand-same-length-12 t c = search needs
+
+operand-returns-6 : (t : ℕ) → operand-lts.Need-returns-6 (constant-reads.Asked, constant-reads.Learnt, variable-reads.Asked, variable-reads.Learnt, element-below t, element.Post, token-reads.Asked, token-reads.Learnt, enclosed-below t, enclosed.Post, string-argument-below t, string-argument.Post, argument-below t, argument.Post, compared-below t, compared.Post) (operand-at t) operand.Post
+operand-returns-6 t c = takes want-operand function-of-number (want-function-open ∷ want-operand ∷ want-more-terms ∷ want-close ∷ []) operand-of-number refl (sym (c .before .before .before .before .before .before .before .before .before .before .before .before .before .before .before .before .before .before .pre .1 .1 .class) ∙ c .before .before .before .before .before .before .before .before .before .before .before .match .keys6) (took-own function-of-number refl (c .before .before .before .before .before .before .before .before .before .before .before .before .before .before .before .before .before .before .pre .1 .0) (c .before .before .before .before .before .before .before .before .before .before .before .before .before .before .before .before .before .before .pre .1 .1 .next _ _) (sym (c .before .before .before .before .before .before .before .before .before .before .before .before .before .before .before .before .before .before .pre .1 .1 .class) ∙ c .before .before .before .before .before .before .before .before .before .before .before .match .keys6) (c .before .before .before .before .before .before .before .before .before .before .before .before .before .before .before .before .before .before .pre .1 .1 .own) (c .before .before .before .before .before .before .before .before .before .token3 .ensures .0) (c .before .before .before .before .before .before .before .before .before .token3 .ensures .1)) (c .before .before .before .before .argument .ensures)
+
+operand-same-length-13 : (t : ℕ) → operand-lts.Need-same-length-13 (constant-reads.Asked, constant-reads.Learnt, variable-reads.Asked, variable-reads.Learnt, element-below t, element.Post, token-reads.Asked, token-reads.Learnt, enclosed-below t, enclosed.Post, string-argument-below t, string-argument.Post, argument-below t, argument.Post, compared-below t, compared.Post) (operand-at t) operand.Post
+operand-same-length-13 t c = search needs
+
+operand-same-length-14 : (t : ℕ) → operand-lts.Need-same-length-14 (constant-reads.Asked, constant-reads.Learnt, variable-reads.Asked, variable-reads.Learnt, element-below t, element.Post, token-reads.Asked, token-reads.Learnt, enclosed-below t, enclosed.Post, string-argument-below t, string-argument.Post, argument-below t, argument.Post, compared-below t, compared.Post) (operand-at t) operand.Post
+operand-same-length-14 t c = search needs
+
+operand-returns-7 : (t : ℕ) → operand-lts.Need-returns-7 (constant-reads.Asked, constant-reads.Learnt, variable-reads.Asked, variable-reads.Learnt, element-below t, element.Post, token-reads.Asked, token-reads.Learnt, enclosed-below t, enclosed.Post, string-argument-below t, string-argument.Post, argument-below t, argument.Post, compared-below t, compared.Post) (operand-at t) operand.Post
+operand-returns-7 t c = alike want-operand want-string quoted-class itself [] (want-string-comparison ∷ []) operand-quoted string-quoted refl (c .before .before .before .before .before .before .before .before .before .before .before .before .before .before .pre .1 .1 .next _ _) (sym (c .before .before .before .before .before .before .before .before .before .before .before .before .before .before .pre .1 .1 .class) ∙ c .before .before .before .before .before .before .before .match .keys7) (c .before .before .before .before .compared .ensures)
+
+operand-same-length-15 : (t : ℕ) → operand-lts.Need-same-length-15 (constant-reads.Asked, constant-reads.Learnt, variable-reads.Asked, variable-reads.Learnt, element-below t, element.Post, token-reads.Asked, token-reads.Learnt, enclosed-below t, enclosed.Post, string-argument-below t, string-argument.Post, argument-below t, argument.Post, compared-below t, compared.Post) (operand-at t) operand.Post
+operand-same-length-15 t c = search needs
+
+operand-same-length-16 : (t : ℕ) → operand-lts.Need-same-length-16 (constant-reads.Asked, constant-reads.Learnt, variable-reads.Asked, variable-reads.Learnt, element-below t, element.Post, token-reads.Asked, token-reads.Learnt, enclosed-below t, enclosed.Post, string-argument-below t, string-argument.Post, argument-below t, argument.Post, compared-below t, compared.Post) (operand-at t) operand.Post
+operand-same-length-16 t c = search needs
+
+operand-returns-8 : (t : ℕ) → operand-lts.Need-returns-8 (constant-reads.Asked, constant-reads.Learnt, variable-reads.Asked, variable-reads.Learnt, element-below t, element.Post, token-reads.Asked, token-reads.Learnt, enclosed-below t, enclosed.Post, string-argument-below t, string-argument.Post, argument-below t, argument.Post, compared-below t, compared.Post) (operand-at t) operand.Post
+operand-returns-8 t c = alike want-operand want-string string-variable itself (want-substring ∷ []) (want-string-comparison ∷ []) operand-string string-string refl (c .before .before .before .before .before .before .before .before .before .before .before .before .before .before .pre .1 .1 .next _ _) (sym (c .before .before .before .before .before .before .before .before .before .before .before .before .before .before .pre .1 .1 .class) ∙ c .before .before .before .before .before .before .before .match .keys8) (c .before .before .before .before .compared2 .ensures)
+
+operand-same-length-17 : (t : ℕ) → operand-lts.Need-same-length-17 (constant-reads.Asked, constant-reads.Learnt, variable-reads.Asked, variable-reads.Learnt, element-below t, element.Post, token-reads.Asked, token-reads.Learnt, enclosed-below t, enclosed.Post, string-argument-below t, string-argument.Post, argument-below t, argument.Post, compared-below t, compared.Post) (operand-at t) operand.Post
+operand-same-length-17 t c = search needs
+
+operand-same-length-18 : (t : ℕ) → operand-lts.Need-same-length-18 (constant-reads.Asked, constant-reads.Learnt, variable-reads.Asked, variable-reads.Learnt, element-below t, element.Post, token-reads.Asked, token-reads.Learnt, enclosed-below t, enclosed.Post, string-argument-below t, string-argument.Post, argument-below t, argument.Post, compared-below t, compared.Post) (operand-at t) operand.Post
+operand-same-length-18 t c = search needs
+
+operand-returns-9 : (t : ℕ) → operand-lts.Need-returns-9 (constant-reads.Asked, constant-reads.Learnt, variable-reads.Asked, variable-reads.Learnt, element-below t, element.Post, token-reads.Asked, token-reads.Learnt, enclosed-below t, enclosed.Post, string-argument-below t, string-argument.Post, argument-below t, argument.Post, compared-below t, compared.Post) (operand-at t) operand.Post
+operand-returns-9 t c = alike want-operand want-string string-function itself (want-function-open ∷ want-operand ∷ want-more-terms ∷ want-close ∷ []) (want-string-comparison ∷ []) operand-function string-function-row refl (c .before .before .before .before .before .before .before .before .before .before .before .before .before .before .pre .1 .1 .next _ _) (sym (c .before .before .before .before .before .before .before .before .before .before .before .before .before .before .pre .1 .1 .class) ∙ c .before .before .before .before .before .before .before .match .keys9) (c .before .before .before .before .compared3 .ensures)
+
+operand-returns-10 : (t : ℕ) → operand-lts.Need-returns-10 (constant-reads.Asked, constant-reads.Learnt, variable-reads.Asked, variable-reads.Learnt, element-below t, element.Post, token-reads.Asked, token-reads.Learnt, enclosed-below t, enclosed.Post, string-argument-below t, string-argument.Post, argument-below t, argument.Post, compared-below t, compared.Post) (operand-at t) operand.Post
+operand-returns-10 t c = refuses want-operand _ (c .before .before .before .before .before .before .before .pre .1 .1 .next _ _) (ap (look want-operand) (sym (c .before .before .before .before .before .before .before .pre .1 .1 .class)) ∙ operand-else (c .before .before .before .before .before .before .before .args .seen .class) (c .before .before .before .before .before .before .before .pre .1 .2) (c .before .before .before .before .before .before .before .pre .1 .3) (c .match .rest .0 .0 .0 .0 .0 .0 .0 .0 .1) (c .match .rest .0 .0 .0 .0 .0 .0 .0 .1) (c .match .rest .0 .0 .0 .0 .0 .0 .1) (c .match .rest .0 .0 .0 .0 .0 .1) (c .match .rest .0 .0 .0 .0 .1) (c .match .rest .0 .0 .0 .1) (c .match .rest .0 .0 .1) (c .match .rest .0 .1) (c .match .rest .1)) refl
 
 second-see-requires : (t : ℕ) → second-lts.Need-see-requires (see-reads.Asked, see-reads.Learnt, token-reads.Asked, token-reads.Learnt, enclosed-below t, enclosed.Post) (second-at t) second.Post
 second-see-requires t c κs = c .before .before .before .before .pre .1 .within
@@ -586,171 +711,54 @@ substring-returns t c = takes want-substring open-sign (want-operand ∷ want-mo
 substring-returns-2 : (t : ℕ) → substring-lts.Need-returns-2 (see-reads.Asked, see-reads.Learnt, token-reads.Asked, token-reads.Learnt, subscripts-below t, subscripts.Post) (substring-at t) substring.Post
 substring-returns-2 t c = leaves want-substring (c .before .before .before .before .before .before .before .pre .1) (c .before .before .see .ensures .next _ _) (ap (look want-substring) (sym (c .before .before .see .ensures .class)) ∙ substring-else (c .before .before .see .result .class) (c .match .rest .1))
 
-term-see-requires : (t : ℕ) → term-lts.Need-see-requires (see-reads.Asked, see-reads.Learnt, prefix-operator-reads.Asked, prefix-operator-reads.Learnt, token-reads.Asked, token-reads.Learnt, term-below t, term.Post, constant-reads.Asked, constant-reads.Learnt, variable-reads.Asked, variable-reads.Learnt, element-below t, element.Post, enclosed-below t, enclosed.Post, string-argument-below t, string-argument.Post, argument-below t, argument.Post, compared-below t, compared.Post) (term-at t) term.Post
-term-see-requires t c κs = c .before .before .before .before .pre .1 .within
+abbrev term-Inv-loop : term-lts.InvT-loop
+term-Inv-loop part offset line₀ names fresh₀ p₀ line fresh p = (length line ≡ length line₀) × (length fresh ≡ length fresh₀) × Onward (want-operand ∷ []) (env part offset names) p₀ (mem line₀ fresh₀) p (mem line fresh)
 
-term-add-place : (t : ℕ) → term-lts.Need-add-place (see-reads.Asked, see-reads.Learnt, prefix-operator-reads.Asked, prefix-operator-reads.Learnt, token-reads.Asked, token-reads.Learnt, term-below t, term.Post, constant-reads.Asked, constant-reads.Learnt, variable-reads.Asked, variable-reads.Learnt, element-below t, element.Post, enclosed-below t, enclosed.Post, string-argument-below t, string-argument.Post, argument-below t, argument.Post, compared-below t, compared.Post) (term-at t) term.Post
-term-add-place t c = omega (arith, (c .before .before .see .ensures .next 0 []) .spans, (c .before .before .see .ensures .next 0 []) .within, c .before .before .before .before .before .before .before .pre .1 .short)
+abbrev term-μ-loop : term-lts.MeasureT-loop
+term-μ-loop part offset line₀ names fresh₀ p₀ line fresh p = length part - p .at
 
-term-prefix-operator-requires : (t : ℕ) → term-lts.Need-prefix-operator-requires (see-reads.Asked, see-reads.Learnt, prefix-operator-reads.Asked, prefix-operator-reads.Learnt, token-reads.Asked, token-reads.Learnt, term-below t, term.Post, constant-reads.Asked, constant-reads.Learnt, variable-reads.Asked, variable-reads.Learnt, element-below t, element.Post, enclosed-below t, enclosed.Post, string-argument-below t, string-argument.Post, argument-below t, argument.Post, compared-below t, compared.Post) (term-at t) term.Post
+term-loop-holds : (t : ℕ) → term-lts.Need-loop-holds (see-reads.Asked, see-reads.Learnt, prefix-operator-reads.Asked, prefix-operator-reads.Learnt, token-reads.Asked, token-reads.Learnt, operand-below t, operand.Post) (term-at t) term.Post term-Inv-loop term-μ-loop
+term-loop-holds t c = (refl, refl, onward-first (c .before .before .before .before .pre .1))
+
+term-see-requires : (t : ℕ) → term-lts.Need-see-requires (see-reads.Asked, see-reads.Learnt, prefix-operator-reads.Asked, prefix-operator-reads.Learnt, token-reads.Asked, token-reads.Learnt, operand-below t, operand.Post) (term-at t) term.Post term-Inv-loop term-μ-loop
+term-see-requires t c κs = c .loop .inv .2 .asks .within
+
+term-prefix-operator-requires : (t : ℕ) → term-lts.Need-prefix-operator-requires (see-reads.Asked, see-reads.Learnt, prefix-operator-reads.Asked, prefix-operator-reads.Learnt, token-reads.Asked, token-reads.Learnt, operand-below t, operand.Post) (term-at t) term.Post term-Inv-loop term-μ-loop
 term-prefix-operator-requires t c κs = search needs
 
-term-token-requires : (t : ℕ) → term-lts.Need-token-requires (see-reads.Asked, see-reads.Learnt, prefix-operator-reads.Asked, prefix-operator-reads.Learnt, token-reads.Asked, token-reads.Learnt, term-below t, term.Post, constant-reads.Asked, constant-reads.Learnt, variable-reads.Asked, variable-reads.Learnt, element-below t, element.Post, enclosed-below t, enclosed.Post, string-argument-below t, string-argument.Post, argument-below t, argument.Post, compared-below t, compared.Post) (term-at t) term.Post
-term-token-requires t c κs = omega (arith, c .before .before .before .before .before .before .before .before .before .before .pre .1 .few, c .before .before .before .before .before .before .before .before .before .before .pre .1 .short, c .before .before .before .before .before .before .before .before .before .before .pre .1 .within)
+term-token-requires : (t : ℕ) → term-lts.Need-token-requires (see-reads.Asked, see-reads.Learnt, prefix-operator-reads.Asked, prefix-operator-reads.Learnt, token-reads.Asked, token-reads.Learnt, operand-below t, operand.Post) (term-at t) term.Post term-Inv-loop term-μ-loop
+term-token-requires t c κs = omega (arith, c .before .before .before .before .before .loop .inv .2 .asks .few, c .before .before .before .before .before .loop .inv .2 .asks .short, c .before .before .before .before .before .loop .inv .2 .asks .within)
 
-term-term-requires : (t : ℕ) → term-lts.Need-term-requires (see-reads.Asked, see-reads.Learnt, prefix-operator-reads.Asked, prefix-operator-reads.Learnt, token-reads.Asked, token-reads.Learnt, term-below t, term.Post, constant-reads.Asked, constant-reads.Learnt, variable-reads.Asked, variable-reads.Learnt, element-below t, element.Post, enclosed-below t, enclosed.Post, string-argument-below t, string-argument.Post, argument-below t, argument.Post, compared-below t, compared.Post) (term-at t) term.Post
-term-term-requires t c κs = (omega (arith, (took-prefix plus-minus refl (c .before .before .before .before .before .before .before .before .before .before .before .before .before .before .before .pre .1) (c .before .before .before .before .before .before .before .before .before .before .see .ensures .next _ _) (sym (c .before .before .before .before .before .before .before .before .before .before .see .ensures .class) ∙ c .before .before .before .before .before .before .before .match .keys1) (c .before .before .before .before .before .prefix-operator .ensures ∙ ap (shifted 0x10) (c .before .before .before .before .before .before .before .before .before .before .see .ensures .own)) (c .before .before .before .before .token .ensures .0) (c .before .before .before .before .token .ensures .1)) .pass .ahead, (took-prefix plus-minus refl (c .before .before .before .before .before .before .before .before .before .before .before .before .before .before .before .pre .1) (c .before .before .before .before .before .before .before .before .before .before .see .ensures .next _ _) (sym (c .before .before .before .before .before .before .before .before .before .before .see .ensures .class) ∙ c .before .before .before .before .before .before .before .match .keys1) (c .before .before .before .before .before .prefix-operator .ensures ∙ ap (shifted 0x10) (c .before .before .before .before .before .before .before .before .before .before .see .ensures .own)) (c .before .before .before .before .token .ensures .0) (c .before .before .before .before .token .ensures .1)) .pass .asks .within), (took-prefix plus-minus refl (c .before .before .before .before .before .before .before .before .before .before .before .before .before .before .before .pre .1) (c .before .before .before .before .before .before .before .before .before .before .see .ensures .next _ _) (sym (c .before .before .before .before .before .before .before .before .before .before .see .ensures .class) ∙ c .before .before .before .before .before .before .before .match .keys1) (c .before .before .before .before .before .prefix-operator .ensures ∙ ap (shifted 0x10) (c .before .before .before .before .before .before .before .before .before .before .see .ensures .own)) (c .before .before .before .before .token .ensures .0) (c .before .before .before .before .token .ensures .1)) .pass .asks)
+term-loop-less : (t : ℕ) → term-lts.Need-loop-less (see-reads.Asked, see-reads.Learnt, prefix-operator-reads.Asked, prefix-operator-reads.Learnt, token-reads.Asked, token-reads.Learnt, operand-below t, operand.Post) (term-at t) term.Post term-Inv-loop term-μ-loop
+term-loop-less t c = omega (arith, (took-prefix plus-minus refl (c .before .before .before .before .before .before .before .before .loop .inv .2 .asks) (c .before .before .before .before .before .before .before .see .ensures .next _ _) (sym (c .before .before .before .before .before .before .before .see .ensures .class) ∙ c .before .before .before .before .before .match .keys1) (c .before .before .before .prefix-operator .ensures ∙ ap (shifted 0x10) (c .before .before .before .before .before .before .before .see .ensures .own)) (c .before .before .token .ensures .0) (c .before .before .token .ensures .1)) .pass .ahead, (took-prefix plus-minus refl (c .before .before .before .before .before .before .before .before .loop .inv .2 .asks) (c .before .before .before .before .before .before .before .see .ensures .next _ _) (sym (c .before .before .before .before .before .before .before .see .ensures .class) ∙ c .before .before .before .before .before .match .keys1) (c .before .before .before .prefix-operator .ensures ∙ ap (shifted 0x10) (c .before .before .before .before .before .before .before .see .ensures .own)) (c .before .before .token .ensures .0) (c .before .before .token .ensures .1)) .pass .asks .within)
 
-term-token-requires-2 : (t : ℕ) → term-lts.Need-token-requires-2 (see-reads.Asked, see-reads.Learnt, prefix-operator-reads.Asked, prefix-operator-reads.Learnt, token-reads.Asked, token-reads.Learnt, term-below t, term.Post, constant-reads.Asked, constant-reads.Learnt, variable-reads.Asked, variable-reads.Learnt, element-below t, element.Post, enclosed-below t, enclosed.Post, string-argument-below t, string-argument.Post, argument-below t, argument.Post, compared-below t, compared.Post) (term-at t) term.Post
-term-token-requires-2 t c κs = omega (arith, c .before .before .before .before .before .before .before .before .before .pre .1 .few, c .before .before .before .before .before .before .before .before .before .pre .1 .short, c .before .before .before .before .before .before .before .before .before .pre .1 .within)
+term-loop-again : (t : ℕ) → term-lts.Need-loop-again (see-reads.Asked, see-reads.Learnt, prefix-operator-reads.Asked, prefix-operator-reads.Learnt, token-reads.Asked, token-reads.Learnt, operand-below t, operand.Post) (term-at t) term.Post term-Inv-loop term-μ-loop
+term-loop-again t c = (c .before .before .token .kept .0 ∙ c .before .before .before .before .before .before .before .before .loop .inv .0, c .before .before .before .before .before .before .before .before .loop .inv .1, onward-takes want-operand plus-minus operand-sign refl (sym (c .before .before .before .before .before .before .before .see .ensures .class) ∙ c .before .before .before .before .before .match .keys1) (c .before .before .before .before .before .before .before .before .loop .inv .2) (took-prefix plus-minus refl (c .before .before .before .before .before .before .before .before .loop .inv .2 .asks) (c .before .before .before .before .before .before .before .see .ensures .next _ _) (sym (c .before .before .before .before .before .before .before .see .ensures .class) ∙ c .before .before .before .before .before .match .keys1) (c .before .before .before .prefix-operator .ensures ∙ ap (shifted 0x10) (c .before .before .before .before .before .before .before .see .ensures .own)) (c .before .before .token .ensures .0) (c .before .before .token .ensures .1)))
 
-term-term-requires-2 : (t : ℕ) → term-lts.Need-term-requires-2 (see-reads.Asked, see-reads.Learnt, prefix-operator-reads.Asked, prefix-operator-reads.Learnt, token-reads.Asked, token-reads.Learnt, term-below t, term.Post, constant-reads.Asked, constant-reads.Learnt, variable-reads.Asked, variable-reads.Learnt, element-below t, element.Post, enclosed-below t, enclosed.Post, string-argument-below t, string-argument.Post, argument-below t, argument.Post, compared-below t, compared.Post) (term-at t) term.Post
-term-term-requires-2 t c κs = (omega (arith, (took-own not-word refl (c .before .before .before .before .before .before .before .before .before .before .before .before .before .before .pre .1) (c .before .before .before .before .before .before .before .before .before .see .ensures .next _ _) (sym (c .before .before .before .before .before .before .before .before .before .see .ensures .class) ∙ c .before .before .before .before .before .before .match .keys2) (c .before .before .before .before .before .before .before .before .before .see .ensures .own) (c .before .before .before .before .token2 .ensures .0) (c .before .before .before .before .token2 .ensures .1)) .pass .ahead, (took-own not-word refl (c .before .before .before .before .before .before .before .before .before .before .before .before .before .before .pre .1) (c .before .before .before .before .before .before .before .before .before .see .ensures .next _ _) (sym (c .before .before .before .before .before .before .before .before .before .see .ensures .class) ∙ c .before .before .before .before .before .before .match .keys2) (c .before .before .before .before .before .before .before .before .before .see .ensures .own) (c .before .before .before .before .token2 .ensures .0) (c .before .before .before .before .token2 .ensures .1)) .pass .asks .within), (took-own not-word refl (c .before .before .before .before .before .before .before .before .before .before .before .before .before .before .pre .1) (c .before .before .before .before .before .before .before .before .before .see .ensures .next _ _) (sym (c .before .before .before .before .before .before .before .before .before .see .ensures .class) ∙ c .before .before .before .before .before .before .match .keys2) (c .before .before .before .before .before .before .before .before .before .see .ensures .own) (c .before .before .before .before .token2 .ensures .0) (c .before .before .before .before .token2 .ensures .1)) .pass .asks)
+term-token-requires-2 : (t : ℕ) → term-lts.Need-token-requires-2 (see-reads.Asked, see-reads.Learnt, prefix-operator-reads.Asked, prefix-operator-reads.Learnt, token-reads.Asked, token-reads.Learnt, operand-below t, operand.Post) (term-at t) term.Post term-Inv-loop term-μ-loop
+term-token-requires-2 t c κs = omega (arith, c .before .before .before .before .loop .inv .2 .asks .few, c .before .before .before .before .loop .inv .2 .asks .short, c .before .before .before .before .loop .inv .2 .asks .within)
 
-term-constant-requires : (t : ℕ) → term-lts.Need-constant-requires (see-reads.Asked, see-reads.Learnt, prefix-operator-reads.Asked, prefix-operator-reads.Learnt, token-reads.Asked, token-reads.Learnt, term-below t, term.Post, constant-reads.Asked, constant-reads.Learnt, variable-reads.Asked, variable-reads.Learnt, element-below t, element.Post, enclosed-below t, enclosed.Post, string-argument-below t, string-argument.Post, argument-below t, argument.Post, compared-below t, compared.Post) (term-at t) term.Post
-term-constant-requires t c κs = ((c .before .before .before .before .before .before .before .before .before .before .pre .1), (false, ((c .before .before .before .before .before .see .ensures .sees), (sym (c .before .before .before .before .before .see .ensures .class) ∙ c .before .before .match .keys3))))
+term-loop-less-2 : (t : ℕ) → term-lts.Need-loop-less-2 (see-reads.Asked, see-reads.Learnt, prefix-operator-reads.Asked, prefix-operator-reads.Learnt, token-reads.Asked, token-reads.Learnt, operand-below t, operand.Post) (term-at t) term.Post term-Inv-loop term-μ-loop
+term-loop-less-2 t c = omega (arith, (took-own not-word refl (c .before .before .before .before .before .before .before .loop .inv .2 .asks) (c .before .before .before .before .before .before .see .ensures .next _ _) (sym (c .before .before .before .before .before .before .see .ensures .class) ∙ c .before .before .before .before .match .keys2) (c .before .before .before .before .before .before .see .ensures .own) (c .before .before .token2 .ensures .0) (c .before .before .token2 .ensures .1)) .pass .ahead, (took-own not-word refl (c .before .before .before .before .before .before .before .loop .inv .2 .asks) (c .before .before .before .before .before .before .see .ensures .next _ _) (sym (c .before .before .before .before .before .before .see .ensures .class) ∙ c .before .before .before .before .match .keys2) (c .before .before .before .before .before .before .see .ensures .own) (c .before .before .token2 .ensures .0) (c .before .before .token2 .ensures .1)) .pass .asks .within)
 
-term-variable-requires : (t : ℕ) → term-lts.Need-variable-requires (see-reads.Asked, see-reads.Learnt, prefix-operator-reads.Asked, prefix-operator-reads.Learnt, token-reads.Asked, token-reads.Learnt, term-below t, term.Post, constant-reads.Asked, constant-reads.Learnt, variable-reads.Asked, variable-reads.Learnt, element-below t, element.Post, enclosed-below t, enclosed.Post, string-argument-below t, string-argument.Post, argument-below t, argument.Post, compared-below t, compared.Post) (term-at t) term.Post
-term-variable-requires t c κs = ((c .before .before .before .before .before .before .before .before .before .before .pre .1), (c .before .before .before .before .before .see .ensures .sees), omega (arith, (sym (c .before .before .before .before .before .see .ensures .class) ∙ c .before .before .match .keys4)), omega (arith, (sym (c .before .before .before .before .before .see .ensures .class) ∙ c .before .before .match .keys4)))
+term-loop-again-2 : (t : ℕ) → term-lts.Need-loop-again-2 (see-reads.Asked, see-reads.Learnt, prefix-operator-reads.Asked, prefix-operator-reads.Learnt, token-reads.Asked, token-reads.Learnt, operand-below t, operand.Post) (term-at t) term.Post term-Inv-loop term-μ-loop
+term-loop-again-2 t c = (c .before .before .token2 .kept .0 ∙ c .before .before .before .before .before .before .before .loop .inv .0, c .before .before .before .before .before .before .before .loop .inv .1, onward-takes want-operand not-word operand-not refl (sym (c .before .before .before .before .before .before .see .ensures .class) ∙ c .before .before .before .before .match .keys2) (c .before .before .before .before .before .before .before .loop .inv .2) (took-own not-word refl (c .before .before .before .before .before .before .before .loop .inv .2 .asks) (c .before .before .before .before .before .before .see .ensures .next _ _) (sym (c .before .before .before .before .before .before .see .ensures .class) ∙ c .before .before .before .before .match .keys2) (c .before .before .before .before .before .before .see .ensures .own) (c .before .before .token2 .ensures .0) (c .before .before .token2 .ensures .1)))
 
-term-variable-requires-2 : (t : ℕ) → term-lts.Need-variable-requires-2 (see-reads.Asked, see-reads.Learnt, prefix-operator-reads.Asked, prefix-operator-reads.Learnt, token-reads.Asked, token-reads.Learnt, term-below t, term.Post, constant-reads.Asked, constant-reads.Learnt, variable-reads.Asked, variable-reads.Learnt, element-below t, element.Post, enclosed-below t, enclosed.Post, string-argument-below t, string-argument.Post, argument-below t, argument.Post, compared-below t, compared.Post) (term-at t) term.Post
-term-variable-requires-2 t c κs = ((c .before .before .before .before .before .before .before .before .before .before .pre .1), (c .before .before .before .before .before .see .ensures .sees), omega (arith, (sym (c .before .before .before .before .before .see .ensures .class) ∙ c .before .before .match .keys5)), omega (arith, (sym (c .before .before .before .before .before .see .ensures .class) ∙ c .before .before .match .keys5)))
+term-operand-requires : (t : ℕ) → term-lts.Need-operand-requires (see-reads.Asked, see-reads.Learnt, prefix-operator-reads.Asked, prefix-operator-reads.Learnt, token-reads.Asked, token-reads.Learnt, operand-below t, operand.Post) (term-at t) term.Post term-Inv-loop term-μ-loop
+term-operand-requires t c κs = (omega (arith, c .before .before .before .before .before .before .before .before .before .before .pre .0, c .before .before .before .before .before .loop .inv .2 .ahead, c .before .before .before .before .before .loop .inv .2 .asks .within), (c .before .before .before .before .before .loop .inv .2 .asks, c .before .before .before .before .see .ensures, c .before .before .match .rest .0 .1, c .before .before .match .rest .1))
 
-term-element-requires : (t : ℕ) → term-lts.Need-element-requires (see-reads.Asked, see-reads.Learnt, prefix-operator-reads.Asked, prefix-operator-reads.Learnt, token-reads.Asked, token-reads.Learnt, term-below t, term.Post, constant-reads.Asked, constant-reads.Learnt, variable-reads.Asked, variable-reads.Learnt, element-below t, element.Post, enclosed-below t, enclosed.Post, string-argument-below t, string-argument.Post, argument-below t, argument.Post, compared-below t, compared.Post) (term-at t) term.Post
-term-element-requires t c κs = (omega (arith, (c .before .before .before .before .before .before .variable2 .ensures) .pass .ahead, (c .before .before .before .before .before .before .variable2 .ensures) .pass .asks .within), (c .before .before .before .before .before .before .variable2 .ensures) .pass .asks)
+term-same-length : (t : ℕ) → term-lts.Need-same-length (see-reads.Asked, see-reads.Learnt, prefix-operator-reads.Asked, prefix-operator-reads.Learnt, token-reads.Asked, token-reads.Learnt, operand-below t, operand.Post) (term-at t) term.Post term-Inv-loop term-μ-loop
+term-same-length t c = c .before .before .before .before .operand .kept .1 .1 .1 .1 .0 ∙ c .before .before .before .before .before .before .before .before .before .before .loop .inv .0
 
-term-token-requires-3 : (t : ℕ) → term-lts.Need-token-requires-3 (see-reads.Asked, see-reads.Learnt, prefix-operator-reads.Asked, prefix-operator-reads.Learnt, token-reads.Asked, token-reads.Learnt, term-below t, term.Post, constant-reads.Asked, constant-reads.Learnt, variable-reads.Asked, variable-reads.Learnt, element-below t, element.Post, enclosed-below t, enclosed.Post, string-argument-below t, string-argument.Post, argument-below t, argument.Post, compared-below t, compared.Post) (term-at t) term.Post
-term-token-requires-3 t c κs = omega (arith, c .before .before .before .before .before .before .before .before .before .pre .1 .few, c .before .before .before .before .before .before .before .before .before .pre .1 .short, c .before .before .before .before .before .before .before .before .before .pre .1 .within)
+term-same-length-2 : (t : ℕ) → term-lts.Need-same-length-2 (see-reads.Asked, see-reads.Learnt, prefix-operator-reads.Asked, prefix-operator-reads.Learnt, token-reads.Asked, token-reads.Learnt, operand-below t, operand.Post) (term-at t) term.Post term-Inv-loop term-μ-loop
+term-same-length-2 t c = c .before .before .before .before .operand .kept .1 .1 .1 .1 .1 .1 .0 ∙ c .before .before .before .before .before .before .before .before .before .before .loop .inv .1
 
-term-enclosed-requires : (t : ℕ) → term-lts.Need-enclosed-requires (see-reads.Asked, see-reads.Learnt, prefix-operator-reads.Asked, prefix-operator-reads.Learnt, token-reads.Asked, token-reads.Learnt, term-below t, term.Post, constant-reads.Asked, constant-reads.Learnt, variable-reads.Asked, variable-reads.Learnt, element-below t, element.Post, enclosed-below t, enclosed.Post, string-argument-below t, string-argument.Post, argument-below t, argument.Post, compared-below t, compared.Post) (term-at t) term.Post
-term-enclosed-requires t c κs = (omega (arith, (took-own open-sign refl (c .before .before .before .before .before .before .before .before .before .before .before .before .before .before .pre .1) (c .before .before .before .before .before .before .before .before .before .see .ensures .next _ _) (sym (c .before .before .before .before .before .before .before .before .before .see .ensures .class) ∙ c .before .before .before .before .before .before .match .keys6) (c .before .before .before .before .before .before .before .before .before .see .ensures .own) (c .before .before .before .before .token3 .ensures .0) (c .before .before .before .before .token3 .ensures .1)) .pass .ahead, (took-own open-sign refl (c .before .before .before .before .before .before .before .before .before .before .before .before .before .before .pre .1) (c .before .before .before .before .before .before .before .before .before .see .ensures .next _ _) (sym (c .before .before .before .before .before .before .before .before .before .see .ensures .class) ∙ c .before .before .before .before .before .before .match .keys6) (c .before .before .before .before .before .before .before .before .before .see .ensures .own) (c .before .before .before .before .token3 .ensures .0) (c .before .before .before .before .token3 .ensures .1)) .pass .asks .within), (took-own open-sign refl (c .before .before .before .before .before .before .before .before .before .before .before .before .before .before .pre .1) (c .before .before .before .before .before .before .before .before .before .see .ensures .next _ _) (sym (c .before .before .before .before .before .before .before .before .before .see .ensures .class) ∙ c .before .before .before .before .before .before .match .keys6) (c .before .before .before .before .before .before .before .before .before .see .ensures .own) (c .before .before .before .before .token3 .ensures .0) (c .before .before .before .before .token3 .ensures .1)) .pass .asks)
+term-returns : (t : ℕ) → term-lts.Need-returns (see-reads.Asked, see-reads.Learnt, prefix-operator-reads.Asked, prefix-operator-reads.Learnt, token-reads.Asked, token-reads.Learnt, operand-below t, operand.Post) (term-at t) term.Post term-Inv-loop term-μ-loop
+term-returns t c = c .before .before .before .before .before .before .before .before .before .before .loop .inv .2 .goes _ _ (c .before .before .before .before .operand .ensures)
 
-term-token-requires-4 : (t : ℕ) → term-lts.Need-token-requires-4 (see-reads.Asked, see-reads.Learnt, prefix-operator-reads.Asked, prefix-operator-reads.Learnt, token-reads.Asked, token-reads.Learnt, term-below t, term.Post, constant-reads.Asked, constant-reads.Learnt, variable-reads.Asked, variable-reads.Learnt, element-below t, element.Post, enclosed-below t, enclosed.Post, string-argument-below t, string-argument.Post, argument-below t, argument.Post, compared-below t, compared.Post) (term-at t) term.Post
-term-token-requires-4 t c κs = omega (arith, c .before .before .before .before .before .before .before .before .before .pre .1 .few, c .before .before .before .before .before .before .before .before .before .pre .1 .short, c .before .before .before .before .before .before .before .before .before .pre .1 .within)
-
-term-string-argument-requires : (t : ℕ) → term-lts.Need-string-argument-requires (see-reads.Asked, see-reads.Learnt, prefix-operator-reads.Asked, prefix-operator-reads.Learnt, token-reads.Asked, token-reads.Learnt, term-below t, term.Post, constant-reads.Asked, constant-reads.Learnt, variable-reads.Asked, variable-reads.Learnt, element-below t, element.Post, enclosed-below t, enclosed.Post, string-argument-below t, string-argument.Post, argument-below t, argument.Post, compared-below t, compared.Post) (term-at t) term.Post
-term-string-argument-requires t c κs = (omega (arith, (took-own function-of-string refl (c .before .before .before .before .before .before .before .before .before .before .before .before .before .before .pre .1) (c .before .before .before .before .before .before .before .before .before .see .ensures .next _ _) (sym (c .before .before .before .before .before .before .before .before .before .see .ensures .class) ∙ c .before .before .before .before .before .before .match .keys7) (c .before .before .before .before .before .before .before .before .before .see .ensures .own) (c .before .before .before .before .token4 .ensures .0) (c .before .before .before .before .token4 .ensures .1)) .pass .ahead, (took-own function-of-string refl (c .before .before .before .before .before .before .before .before .before .before .before .before .before .before .pre .1) (c .before .before .before .before .before .before .before .before .before .see .ensures .next _ _) (sym (c .before .before .before .before .before .before .before .before .before .see .ensures .class) ∙ c .before .before .before .before .before .before .match .keys7) (c .before .before .before .before .before .before .before .before .before .see .ensures .own) (c .before .before .before .before .token4 .ensures .0) (c .before .before .before .before .token4 .ensures .1)) .pass .asks .within), (took-own function-of-string refl (c .before .before .before .before .before .before .before .before .before .before .before .before .before .before .pre .1) (c .before .before .before .before .before .before .before .before .before .see .ensures .next _ _) (sym (c .before .before .before .before .before .before .before .before .before .see .ensures .class) ∙ c .before .before .before .before .before .before .match .keys7) (c .before .before .before .before .before .before .before .before .before .see .ensures .own) (c .before .before .before .before .token4 .ensures .0) (c .before .before .before .before .token4 .ensures .1)) .pass .asks)
-
-term-token-requires-5 : (t : ℕ) → term-lts.Need-token-requires-5 (see-reads.Asked, see-reads.Learnt, prefix-operator-reads.Asked, prefix-operator-reads.Learnt, token-reads.Asked, token-reads.Learnt, term-below t, term.Post, constant-reads.Asked, constant-reads.Learnt, variable-reads.Asked, variable-reads.Learnt, element-below t, element.Post, enclosed-below t, enclosed.Post, string-argument-below t, string-argument.Post, argument-below t, argument.Post, compared-below t, compared.Post) (term-at t) term.Post
-term-token-requires-5 t c κs = omega (arith, c .before .before .before .before .before .before .before .before .before .pre .1 .few, c .before .before .before .before .before .before .before .before .before .pre .1 .short, c .before .before .before .before .before .before .before .before .before .pre .1 .within)
-
-term-argument-requires : (t : ℕ) → term-lts.Need-argument-requires (see-reads.Asked, see-reads.Learnt, prefix-operator-reads.Asked, prefix-operator-reads.Learnt, token-reads.Asked, token-reads.Learnt, term-below t, term.Post, constant-reads.Asked, constant-reads.Learnt, variable-reads.Asked, variable-reads.Learnt, element-below t, element.Post, enclosed-below t, enclosed.Post, string-argument-below t, string-argument.Post, argument-below t, argument.Post, compared-below t, compared.Post) (term-at t) term.Post
-term-argument-requires t c κs = (omega (arith, (took-own function-of-number refl (c .before .before .before .before .before .before .before .before .before .before .before .before .before .before .pre .1) (c .before .before .before .before .before .before .before .before .before .see .ensures .next _ _) (sym (c .before .before .before .before .before .before .before .before .before .see .ensures .class) ∙ c .before .before .before .before .before .before .match .keys8) (c .before .before .before .before .before .before .before .before .before .see .ensures .own) (c .before .before .before .before .token5 .ensures .0) (c .before .before .before .before .token5 .ensures .1)) .pass .ahead, (took-own function-of-number refl (c .before .before .before .before .before .before .before .before .before .before .before .before .before .before .pre .1) (c .before .before .before .before .before .before .before .before .before .see .ensures .next _ _) (sym (c .before .before .before .before .before .before .before .before .before .see .ensures .class) ∙ c .before .before .before .before .before .before .match .keys8) (c .before .before .before .before .before .before .before .before .before .see .ensures .own) (c .before .before .before .before .token5 .ensures .0) (c .before .before .before .before .token5 .ensures .1)) .pass .asks .within), (took-own function-of-number refl (c .before .before .before .before .before .before .before .before .before .before .before .before .before .before .pre .1) (c .before .before .before .before .before .before .before .before .before .see .ensures .next _ _) (sym (c .before .before .before .before .before .before .before .before .before .see .ensures .class) ∙ c .before .before .before .before .before .before .match .keys8) (c .before .before .before .before .before .before .before .before .before .see .ensures .own) (c .before .before .before .before .token5 .ensures .0) (c .before .before .before .before .token5 .ensures .1)) .pass .asks)
-
-term-compared-requires : (t : ℕ) → term-lts.Need-compared-requires (see-reads.Asked, see-reads.Learnt, prefix-operator-reads.Asked, prefix-operator-reads.Learnt, token-reads.Asked, token-reads.Learnt, term-below t, term.Post, constant-reads.Asked, constant-reads.Learnt, variable-reads.Asked, variable-reads.Learnt, element-below t, element.Post, enclosed-below t, enclosed.Post, string-argument-below t, string-argument.Post, argument-below t, argument.Post, compared-below t, compared.Post) (term-at t) term.Post
-term-compared-requires t c κs = (omega arith, c .before .before .before .before .before .before .before .before .before .before .pre .1)
-
-term-compared-requires-2 : (t : ℕ) → term-lts.Need-compared-requires-2 (see-reads.Asked, see-reads.Learnt, prefix-operator-reads.Asked, prefix-operator-reads.Learnt, token-reads.Asked, token-reads.Learnt, term-below t, term.Post, constant-reads.Asked, constant-reads.Learnt, variable-reads.Asked, variable-reads.Learnt, element-below t, element.Post, enclosed-below t, enclosed.Post, string-argument-below t, string-argument.Post, argument-below t, argument.Post, compared-below t, compared.Post) (term-at t) term.Post
-term-compared-requires-2 t c κs = (omega arith, c .before .before .before .before .before .before .before .before .before .before .pre .1)
-
-term-compared-requires-3 : (t : ℕ) → term-lts.Need-compared-requires-3 (see-reads.Asked, see-reads.Learnt, prefix-operator-reads.Asked, prefix-operator-reads.Learnt, token-reads.Asked, token-reads.Learnt, term-below t, term.Post, constant-reads.Asked, constant-reads.Learnt, variable-reads.Asked, variable-reads.Learnt, element-below t, element.Post, enclosed-below t, enclosed.Post, string-argument-below t, string-argument.Post, argument-below t, argument.Post, compared-below t, compared.Post) (term-at t) term.Post
-term-compared-requires-3 t c κs = (omega arith, c .before .before .before .before .before .before .before .before .before .before .pre .1)
-
-term-same-length : (t : ℕ) → term-lts.Need-same-length (see-reads.Asked, see-reads.Learnt, prefix-operator-reads.Asked, prefix-operator-reads.Learnt, token-reads.Asked, token-reads.Learnt, term-below t, term.Post, constant-reads.Asked, constant-reads.Learnt, variable-reads.Asked, variable-reads.Learnt, element-below t, element.Post, enclosed-below t, enclosed.Post, string-argument-below t, string-argument.Post, argument-below t, argument.Post, compared-below t, compared.Post) (term-at t) term.Post
-term-same-length t c = search needs
-
-term-same-length-2 : (t : ℕ) → term-lts.Need-same-length-2 (see-reads.Asked, see-reads.Learnt, prefix-operator-reads.Asked, prefix-operator-reads.Learnt, token-reads.Asked, token-reads.Learnt, term-below t, term.Post, constant-reads.Asked, constant-reads.Learnt, variable-reads.Asked, variable-reads.Learnt, element-below t, element.Post, enclosed-below t, enclosed.Post, string-argument-below t, string-argument.Post, argument-below t, argument.Post, compared-below t, compared.Post) (term-at t) term.Post
-term-same-length-2 t c = search needs
-
-term-returns : (t : ℕ) → term-lts.Need-returns (see-reads.Asked, see-reads.Learnt, prefix-operator-reads.Asked, prefix-operator-reads.Learnt, token-reads.Asked, token-reads.Learnt, term-below t, term.Post, constant-reads.Asked, constant-reads.Learnt, variable-reads.Asked, variable-reads.Learnt, element-below t, element.Post, enclosed-below t, enclosed.Post, string-argument-below t, string-argument.Post, argument-below t, argument.Post, compared-below t, compared.Post) (term-at t) term.Post
-term-returns t c = takes want-operand plus-minus (want-operand ∷ []) operand-sign refl (sym (c .before .before .before .before .before .before .before .before .before .before .before .before .before .before .before .see .ensures .class) ∙ c .before .before .before .before .before .before .before .before .before .before .before .before .match .keys1) (took-prefix plus-minus refl (c .before .before .before .before .before .before .before .before .before .before .before .before .before .before .before .before .before .before .before .before .pre .1) (c .before .before .before .before .before .before .before .before .before .before .before .before .before .before .before .see .ensures .next _ _) (sym (c .before .before .before .before .before .before .before .before .before .before .before .before .before .before .before .see .ensures .class) ∙ c .before .before .before .before .before .before .before .before .before .before .before .before .match .keys1) (c .before .before .before .before .before .before .before .before .before .before .prefix-operator .ensures ∙ ap (shifted 0x10) (c .before .before .before .before .before .before .before .before .before .before .before .before .before .before .before .see .ensures .own)) (c .before .before .before .before .before .before .before .before .before .token .ensures .0) (c .before .before .before .before .before .before .before .before .before .token .ensures .1)) (c .before .before .before .before .term .ensures)
-
-term-same-length-3 : (t : ℕ) → term-lts.Need-same-length-3 (see-reads.Asked, see-reads.Learnt, prefix-operator-reads.Asked, prefix-operator-reads.Learnt, token-reads.Asked, token-reads.Learnt, term-below t, term.Post, constant-reads.Asked, constant-reads.Learnt, variable-reads.Asked, variable-reads.Learnt, element-below t, element.Post, enclosed-below t, enclosed.Post, string-argument-below t, string-argument.Post, argument-below t, argument.Post, compared-below t, compared.Post) (term-at t) term.Post
-term-same-length-3 t c = search needs
-
-term-same-length-4 : (t : ℕ) → term-lts.Need-same-length-4 (see-reads.Asked, see-reads.Learnt, prefix-operator-reads.Asked, prefix-operator-reads.Learnt, token-reads.Asked, token-reads.Learnt, term-below t, term.Post, constant-reads.Asked, constant-reads.Learnt, variable-reads.Asked, variable-reads.Learnt, element-below t, element.Post, enclosed-below t, enclosed.Post, string-argument-below t, string-argument.Post, argument-below t, argument.Post, compared-below t, compared.Post) (term-at t) term.Post
-term-same-length-4 t c = search needs
-
-term-returns-2 : (t : ℕ) → term-lts.Need-returns-2 (see-reads.Asked, see-reads.Learnt, prefix-operator-reads.Asked, prefix-operator-reads.Learnt, token-reads.Asked, token-reads.Learnt, term-below t, term.Post, constant-reads.Asked, constant-reads.Learnt, variable-reads.Asked, variable-reads.Learnt, element-below t, element.Post, enclosed-below t, enclosed.Post, string-argument-below t, string-argument.Post, argument-below t, argument.Post, compared-below t, compared.Post) (term-at t) term.Post
-term-returns-2 t c = takes want-operand not-word (want-operand ∷ []) operand-not refl (sym (c .before .before .before .before .before .before .before .before .before .before .before .before .before .before .see .ensures .class) ∙ c .before .before .before .before .before .before .before .before .before .before .before .match .keys2) (took-own not-word refl (c .before .before .before .before .before .before .before .before .before .before .before .before .before .before .before .before .before .before .before .pre .1) (c .before .before .before .before .before .before .before .before .before .before .before .before .before .before .see .ensures .next _ _) (sym (c .before .before .before .before .before .before .before .before .before .before .before .before .before .before .see .ensures .class) ∙ c .before .before .before .before .before .before .before .before .before .before .before .match .keys2) (c .before .before .before .before .before .before .before .before .before .before .before .before .before .before .see .ensures .own) (c .before .before .before .before .before .before .before .before .before .token2 .ensures .0) (c .before .before .before .before .before .before .before .before .before .token2 .ensures .1)) (c .before .before .before .before .term2 .ensures)
-
-term-same-length-5 : (t : ℕ) → term-lts.Need-same-length-5 (see-reads.Asked, see-reads.Learnt, prefix-operator-reads.Asked, prefix-operator-reads.Learnt, token-reads.Asked, token-reads.Learnt, term-below t, term.Post, constant-reads.Asked, constant-reads.Learnt, variable-reads.Asked, variable-reads.Learnt, element-below t, element.Post, enclosed-below t, enclosed.Post, string-argument-below t, string-argument.Post, argument-below t, argument.Post, compared-below t, compared.Post) (term-at t) term.Post
-term-same-length-5 t c = search needs
-
-term-same-length-6 : (t : ℕ) → term-lts.Need-same-length-6 (see-reads.Asked, see-reads.Learnt, prefix-operator-reads.Asked, prefix-operator-reads.Learnt, token-reads.Asked, token-reads.Learnt, term-below t, term.Post, constant-reads.Asked, constant-reads.Learnt, variable-reads.Asked, variable-reads.Learnt, element-below t, element.Post, enclosed-below t, enclosed.Post, string-argument-below t, string-argument.Post, argument-below t, argument.Post, compared-below t, compared.Post) (term-at t) term.Post
-term-same-length-6 t c = search needs
-
-term-returns-3 : (t : ℕ) → term-lts.Need-returns-3 (see-reads.Asked, see-reads.Learnt, prefix-operator-reads.Asked, prefix-operator-reads.Learnt, token-reads.Asked, token-reads.Learnt, term-below t, term.Post, constant-reads.Asked, constant-reads.Learnt, variable-reads.Asked, variable-reads.Learnt, element-below t, element.Post, enclosed-below t, enclosed.Post, string-argument-below t, string-argument.Post, argument-below t, argument.Post, compared-below t, compared.Post) (term-at t) term.Post
-term-returns-3 t c = counts want-operand operand-number (c .before .before .before .before .before .before .before .before .before .before .see .ensures .next _ _) (sym (c .before .before .before .before .before .before .before .before .before .before .see .ensures .class) ∙ c .before .before .before .before .before .before .before .match .keys3) (c .before .before .before .before .constant .ensures false (c .before .before .before .before .before .before .before .before .before .before .see .ensures .sees) (sym (c .before .before .before .before .before .before .before .before .before .before .see .ensures .class) ∙ c .before .before .before .before .before .before .before .match .keys3))
-
-term-same-length-7 : (t : ℕ) → term-lts.Need-same-length-7 (see-reads.Asked, see-reads.Learnt, prefix-operator-reads.Asked, prefix-operator-reads.Learnt, token-reads.Asked, token-reads.Learnt, term-below t, term.Post, constant-reads.Asked, constant-reads.Learnt, variable-reads.Asked, variable-reads.Learnt, element-below t, element.Post, enclosed-below t, enclosed.Post, string-argument-below t, string-argument.Post, argument-below t, argument.Post, compared-below t, compared.Post) (term-at t) term.Post
-term-same-length-7 t c = search needs
-
-term-same-length-8 : (t : ℕ) → term-lts.Need-same-length-8 (see-reads.Asked, see-reads.Learnt, prefix-operator-reads.Asked, prefix-operator-reads.Learnt, token-reads.Asked, token-reads.Learnt, term-below t, term.Post, constant-reads.Asked, constant-reads.Learnt, variable-reads.Asked, variable-reads.Learnt, element-below t, element.Post, enclosed-below t, enclosed.Post, string-argument-below t, string-argument.Post, argument-below t, argument.Post, compared-below t, compared.Post) (term-at t) term.Post
-term-same-length-8 t c = search needs
-
-term-returns-4 : (t : ℕ) → term-lts.Need-returns-4 (see-reads.Asked, see-reads.Learnt, prefix-operator-reads.Asked, prefix-operator-reads.Learnt, token-reads.Asked, token-reads.Learnt, term-below t, term.Post, constant-reads.Asked, constant-reads.Learnt, variable-reads.Asked, variable-reads.Learnt, element-below t, element.Post, enclosed-below t, enclosed.Post, string-argument-below t, string-argument.Post, argument-below t, argument.Post, compared-below t, compared.Post) (term-at t) term.Post
-term-returns-4 t c = takes-last want-operand numeric-variable operand-numeric refl (sym (c .before .before .before .before .before .before .before .before .before .before .see .ensures .class) ∙ c .before .before .before .before .before .before .before .match .keys4) (c .before .before .before .before .variable .ensures)
-
-term-same-length-9 : (t : ℕ) → term-lts.Need-same-length-9 (see-reads.Asked, see-reads.Learnt, prefix-operator-reads.Asked, prefix-operator-reads.Learnt, token-reads.Asked, token-reads.Learnt, term-below t, term.Post, constant-reads.Asked, constant-reads.Learnt, variable-reads.Asked, variable-reads.Learnt, element-below t, element.Post, enclosed-below t, enclosed.Post, string-argument-below t, string-argument.Post, argument-below t, argument.Post, compared-below t, compared.Post) (term-at t) term.Post
-term-same-length-9 t c = search needs
-
-term-same-length-10 : (t : ℕ) → term-lts.Need-same-length-10 (see-reads.Asked, see-reads.Learnt, prefix-operator-reads.Asked, prefix-operator-reads.Learnt, token-reads.Asked, token-reads.Learnt, term-below t, term.Post, constant-reads.Asked, constant-reads.Learnt, variable-reads.Asked, variable-reads.Learnt, element-below t, element.Post, enclosed-below t, enclosed.Post, string-argument-below t, string-argument.Post, argument-below t, argument.Post, compared-below t, compared.Post) (term-at t) term.Post
-term-same-length-10 t c = search needs
-
-term-returns-5 : (t : ℕ) → term-lts.Need-returns-5 (see-reads.Asked, see-reads.Learnt, prefix-operator-reads.Asked, prefix-operator-reads.Learnt, token-reads.Asked, token-reads.Learnt, term-below t, term.Post, constant-reads.Asked, constant-reads.Learnt, variable-reads.Asked, variable-reads.Learnt, element-below t, element.Post, enclosed-below t, enclosed.Post, string-argument-below t, string-argument.Post, argument-below t, argument.Post, compared-below t, compared.Post) (term-at t) term.Post
-term-returns-5 t c = takes want-operand array (want-array-open ∷ want-operand ∷ want-more-terms ∷ want-second ∷ []) operand-array refl (sym (c .before .before .before .before .before .before .before .before .before .before .before .before .before .before .before .before .before .see .ensures .class) ∙ c .before .before .before .before .before .before .before .before .before .before .before .before .before .before .match .keys5) (c .before .before .before .before .before .before .before .before .before .before .before .variable2 .ensures) (c .before .before .before .before .element .ensures)
-
-term-same-length-11 : (t : ℕ) → term-lts.Need-same-length-11 (see-reads.Asked, see-reads.Learnt, prefix-operator-reads.Asked, prefix-operator-reads.Learnt, token-reads.Asked, token-reads.Learnt, term-below t, term.Post, constant-reads.Asked, constant-reads.Learnt, variable-reads.Asked, variable-reads.Learnt, element-below t, element.Post, enclosed-below t, enclosed.Post, string-argument-below t, string-argument.Post, argument-below t, argument.Post, compared-below t, compared.Post) (term-at t) term.Post
-term-same-length-11 t c = search needs
-
-term-same-length-12 : (t : ℕ) → term-lts.Need-same-length-12 (see-reads.Asked, see-reads.Learnt, prefix-operator-reads.Asked, prefix-operator-reads.Learnt, token-reads.Asked, token-reads.Learnt, term-below t, term.Post, constant-reads.Asked, constant-reads.Learnt, variable-reads.Asked, variable-reads.Learnt, element-below t, element.Post, enclosed-below t, enclosed.Post, string-argument-below t, string-argument.Post, argument-below t, argument.Post, compared-below t, compared.Post) (term-at t) term.Post
-term-same-length-12 t c = search needs
-
-term-returns-6 : (t : ℕ) → term-lts.Need-returns-6 (see-reads.Asked, see-reads.Learnt, prefix-operator-reads.Asked, prefix-operator-reads.Learnt, token-reads.Asked, token-reads.Learnt, term-below t, term.Post, constant-reads.Asked, constant-reads.Learnt, variable-reads.Asked, variable-reads.Learnt, element-below t, element.Post, enclosed-below t, enclosed.Post, string-argument-below t, string-argument.Post, argument-below t, argument.Post, compared-below t, compared.Post) (term-at t) term.Post
-term-returns-6 t c = takes want-operand open-sign (want-operand ∷ want-more-terms ∷ want-close ∷ []) operand-open refl (sym (c .before .before .before .before .before .before .before .before .before .before .before .before .before .before .see .ensures .class) ∙ c .before .before .before .before .before .before .before .before .before .before .before .match .keys6) (took-own open-sign refl (c .before .before .before .before .before .before .before .before .before .before .before .before .before .before .before .before .before .before .before .pre .1) (c .before .before .before .before .before .before .before .before .before .before .before .before .before .before .see .ensures .next _ _) (sym (c .before .before .before .before .before .before .before .before .before .before .before .before .before .before .see .ensures .class) ∙ c .before .before .before .before .before .before .before .before .before .before .before .match .keys6) (c .before .before .before .before .before .before .before .before .before .before .before .before .before .before .see .ensures .own) (c .before .before .before .before .before .before .before .before .before .token3 .ensures .0) (c .before .before .before .before .before .before .before .before .before .token3 .ensures .1)) (c .before .before .before .before .enclosed .ensures)
-
-term-same-length-13 : (t : ℕ) → term-lts.Need-same-length-13 (see-reads.Asked, see-reads.Learnt, prefix-operator-reads.Asked, prefix-operator-reads.Learnt, token-reads.Asked, token-reads.Learnt, term-below t, term.Post, constant-reads.Asked, constant-reads.Learnt, variable-reads.Asked, variable-reads.Learnt, element-below t, element.Post, enclosed-below t, enclosed.Post, string-argument-below t, string-argument.Post, argument-below t, argument.Post, compared-below t, compared.Post) (term-at t) term.Post
-term-same-length-13 t c = search needs
-
-term-same-length-14 : (t : ℕ) → term-lts.Need-same-length-14 (see-reads.Asked, see-reads.Learnt, prefix-operator-reads.Asked, prefix-operator-reads.Learnt, token-reads.Asked, token-reads.Learnt, term-below t, term.Post, constant-reads.Asked, constant-reads.Learnt, variable-reads.Asked, variable-reads.Learnt, element-below t, element.Post, enclosed-below t, enclosed.Post, string-argument-below t, string-argument.Post, argument-below t, argument.Post, compared-below t, compared.Post) (term-at t) term.Post
-term-same-length-14 t c = search needs
-
-term-returns-7 : (t : ℕ) → term-lts.Need-returns-7 (see-reads.Asked, see-reads.Learnt, prefix-operator-reads.Asked, prefix-operator-reads.Learnt, token-reads.Asked, token-reads.Learnt, term-below t, term.Post, constant-reads.Asked, constant-reads.Learnt, variable-reads.Asked, variable-reads.Learnt, element-below t, element.Post, enclosed-below t, enclosed.Post, string-argument-below t, string-argument.Post, argument-below t, argument.Post, compared-below t, compared.Post) (term-at t) term.Post
-term-returns-7 t c = takes want-operand function-of-string (want-function-open ∷ want-string ∷ want-close ∷ []) operand-of-string refl (sym (c .before .before .before .before .before .before .before .before .before .before .before .before .before .before .see .ensures .class) ∙ c .before .before .before .before .before .before .before .before .before .before .before .match .keys7) (took-own function-of-string refl (c .before .before .before .before .before .before .before .before .before .before .before .before .before .before .before .before .before .before .before .pre .1) (c .before .before .before .before .before .before .before .before .before .before .before .before .before .before .see .ensures .next _ _) (sym (c .before .before .before .before .before .before .before .before .before .before .before .before .before .before .see .ensures .class) ∙ c .before .before .before .before .before .before .before .before .before .before .before .match .keys7) (c .before .before .before .before .before .before .before .before .before .before .before .before .before .before .see .ensures .own) (c .before .before .before .before .before .before .before .before .before .token4 .ensures .0) (c .before .before .before .before .before .before .before .before .before .token4 .ensures .1)) (c .before .before .before .before .string-argument .ensures)
-
-term-same-length-15 : (t : ℕ) → term-lts.Need-same-length-15 (see-reads.Asked, see-reads.Learnt, prefix-operator-reads.Asked, prefix-operator-reads.Learnt, token-reads.Asked, token-reads.Learnt, term-below t, term.Post, constant-reads.Asked, constant-reads.Learnt, variable-reads.Asked, variable-reads.Learnt, element-below t, element.Post, enclosed-below t, enclosed.Post, string-argument-below t, string-argument.Post, argument-below t, argument.Post, compared-below t, compared.Post) (term-at t) term.Post
-term-same-length-15 t c = search needs
-
-term-same-length-16 : (t : ℕ) → term-lts.Need-same-length-16 (see-reads.Asked, see-reads.Learnt, prefix-operator-reads.Asked, prefix-operator-reads.Learnt, token-reads.Asked, token-reads.Learnt, term-below t, term.Post, constant-reads.Asked, constant-reads.Learnt, variable-reads.Asked, variable-reads.Learnt, element-below t, element.Post, enclosed-below t, enclosed.Post, string-argument-below t, string-argument.Post, argument-below t, argument.Post, compared-below t, compared.Post) (term-at t) term.Post
-term-same-length-16 t c = search needs
-
-term-returns-8 : (t : ℕ) → term-lts.Need-returns-8 (see-reads.Asked, see-reads.Learnt, prefix-operator-reads.Asked, prefix-operator-reads.Learnt, token-reads.Asked, token-reads.Learnt, term-below t, term.Post, constant-reads.Asked, constant-reads.Learnt, variable-reads.Asked, variable-reads.Learnt, element-below t, element.Post, enclosed-below t, enclosed.Post, string-argument-below t, string-argument.Post, argument-below t, argument.Post, compared-below t, compared.Post) (term-at t) term.Post
-term-returns-8 t c = takes want-operand function-of-number (want-function-open ∷ want-operand ∷ want-more-terms ∷ want-close ∷ []) operand-of-number refl (sym (c .before .before .before .before .before .before .before .before .before .before .before .before .before .before .see .ensures .class) ∙ c .before .before .before .before .before .before .before .before .before .before .before .match .keys8) (took-own function-of-number refl (c .before .before .before .before .before .before .before .before .before .before .before .before .before .before .before .before .before .before .before .pre .1) (c .before .before .before .before .before .before .before .before .before .before .before .before .before .before .see .ensures .next _ _) (sym (c .before .before .before .before .before .before .before .before .before .before .before .before .before .before .see .ensures .class) ∙ c .before .before .before .before .before .before .before .before .before .before .before .match .keys8) (c .before .before .before .before .before .before .before .before .before .before .before .before .before .before .see .ensures .own) (c .before .before .before .before .before .before .before .before .before .token5 .ensures .0) (c .before .before .before .before .before .before .before .before .before .token5 .ensures .1)) (c .before .before .before .before .argument .ensures)
-
-term-same-length-17 : (t : ℕ) → term-lts.Need-same-length-17 (see-reads.Asked, see-reads.Learnt, prefix-operator-reads.Asked, prefix-operator-reads.Learnt, token-reads.Asked, token-reads.Learnt, term-below t, term.Post, constant-reads.Asked, constant-reads.Learnt, variable-reads.Asked, variable-reads.Learnt, element-below t, element.Post, enclosed-below t, enclosed.Post, string-argument-below t, string-argument.Post, argument-below t, argument.Post, compared-below t, compared.Post) (term-at t) term.Post
-term-same-length-17 t c = search needs
-
-term-same-length-18 : (t : ℕ) → term-lts.Need-same-length-18 (see-reads.Asked, see-reads.Learnt, prefix-operator-reads.Asked, prefix-operator-reads.Learnt, token-reads.Asked, token-reads.Learnt, term-below t, term.Post, constant-reads.Asked, constant-reads.Learnt, variable-reads.Asked, variable-reads.Learnt, element-below t, element.Post, enclosed-below t, enclosed.Post, string-argument-below t, string-argument.Post, argument-below t, argument.Post, compared-below t, compared.Post) (term-at t) term.Post
-term-same-length-18 t c = search needs
-
-term-returns-9 : (t : ℕ) → term-lts.Need-returns-9 (see-reads.Asked, see-reads.Learnt, prefix-operator-reads.Asked, prefix-operator-reads.Learnt, token-reads.Asked, token-reads.Learnt, term-below t, term.Post, constant-reads.Asked, constant-reads.Learnt, variable-reads.Asked, variable-reads.Learnt, element-below t, element.Post, enclosed-below t, enclosed.Post, string-argument-below t, string-argument.Post, argument-below t, argument.Post, compared-below t, compared.Post) (term-at t) term.Post
-term-returns-9 t c = alike want-operand want-string quoted-class itself [] (want-string-comparison ∷ []) operand-quoted string-quoted refl (c .before .before .before .before .before .before .before .before .before .before .see .ensures .next _ _) (sym (c .before .before .before .before .before .before .before .before .before .before .see .ensures .class) ∙ c .before .before .before .before .before .before .before .match .keys9) (c .before .before .before .before .compared .ensures)
-
-term-same-length-19 : (t : ℕ) → term-lts.Need-same-length-19 (see-reads.Asked, see-reads.Learnt, prefix-operator-reads.Asked, prefix-operator-reads.Learnt, token-reads.Asked, token-reads.Learnt, term-below t, term.Post, constant-reads.Asked, constant-reads.Learnt, variable-reads.Asked, variable-reads.Learnt, element-below t, element.Post, enclosed-below t, enclosed.Post, string-argument-below t, string-argument.Post, argument-below t, argument.Post, compared-below t, compared.Post) (term-at t) term.Post
-term-same-length-19 t c = search needs
-
-term-same-length-20 : (t : ℕ) → term-lts.Need-same-length-20 (see-reads.Asked, see-reads.Learnt, prefix-operator-reads.Asked, prefix-operator-reads.Learnt, token-reads.Asked, token-reads.Learnt, term-below t, term.Post, constant-reads.Asked, constant-reads.Learnt, variable-reads.Asked, variable-reads.Learnt, element-below t, element.Post, enclosed-below t, enclosed.Post, string-argument-below t, string-argument.Post, argument-below t, argument.Post, compared-below t, compared.Post) (term-at t) term.Post
-term-same-length-20 t c = search needs
-
-term-returns-10 : (t : ℕ) → term-lts.Need-returns-10 (see-reads.Asked, see-reads.Learnt, prefix-operator-reads.Asked, prefix-operator-reads.Learnt, token-reads.Asked, token-reads.Learnt, term-below t, term.Post, constant-reads.Asked, constant-reads.Learnt, variable-reads.Asked, variable-reads.Learnt, element-below t, element.Post, enclosed-below t, enclosed.Post, string-argument-below t, string-argument.Post, argument-below t, argument.Post, compared-below t, compared.Post) (term-at t) term.Post
-term-returns-10 t c = alike want-operand want-string string-variable itself (want-substring ∷ []) (want-string-comparison ∷ []) operand-string string-string refl (c .before .before .before .before .before .before .before .before .before .before .see .ensures .next _ _) (sym (c .before .before .before .before .before .before .before .before .before .before .see .ensures .class) ∙ c .before .before .before .before .before .before .before .match .keys10) (c .before .before .before .before .compared2 .ensures)
-
-term-same-length-21 : (t : ℕ) → term-lts.Need-same-length-21 (see-reads.Asked, see-reads.Learnt, prefix-operator-reads.Asked, prefix-operator-reads.Learnt, token-reads.Asked, token-reads.Learnt, term-below t, term.Post, constant-reads.Asked, constant-reads.Learnt, variable-reads.Asked, variable-reads.Learnt, element-below t, element.Post, enclosed-below t, enclosed.Post, string-argument-below t, string-argument.Post, argument-below t, argument.Post, compared-below t, compared.Post) (term-at t) term.Post
-term-same-length-21 t c = search needs
-
-term-same-length-22 : (t : ℕ) → term-lts.Need-same-length-22 (see-reads.Asked, see-reads.Learnt, prefix-operator-reads.Asked, prefix-operator-reads.Learnt, token-reads.Asked, token-reads.Learnt, term-below t, term.Post, constant-reads.Asked, constant-reads.Learnt, variable-reads.Asked, variable-reads.Learnt, element-below t, element.Post, enclosed-below t, enclosed.Post, string-argument-below t, string-argument.Post, argument-below t, argument.Post, compared-below t, compared.Post) (term-at t) term.Post
-term-same-length-22 t c = search needs
-
-term-returns-11 : (t : ℕ) → term-lts.Need-returns-11 (see-reads.Asked, see-reads.Learnt, prefix-operator-reads.Asked, prefix-operator-reads.Learnt, token-reads.Asked, token-reads.Learnt, term-below t, term.Post, constant-reads.Asked, constant-reads.Learnt, variable-reads.Asked, variable-reads.Learnt, element-below t, element.Post, enclosed-below t, enclosed.Post, string-argument-below t, string-argument.Post, argument-below t, argument.Post, compared-below t, compared.Post) (term-at t) term.Post
-term-returns-11 t c = alike want-operand want-string string-function itself (want-function-open ∷ want-operand ∷ want-more-terms ∷ want-close ∷ []) (want-string-comparison ∷ []) operand-function string-function-row refl (c .before .before .before .before .before .before .before .before .before .before .see .ensures .next _ _) (sym (c .before .before .before .before .before .before .before .before .before .before .see .ensures .class) ∙ c .before .before .before .before .before .before .before .match .keys11) (c .before .before .before .before .compared3 .ensures)
-
-term-returns-12 : (t : ℕ) → term-lts.Need-returns-12 (see-reads.Asked, see-reads.Learnt, prefix-operator-reads.Asked, prefix-operator-reads.Learnt, token-reads.Asked, token-reads.Learnt, term-below t, term.Post, constant-reads.Asked, constant-reads.Learnt, variable-reads.Asked, variable-reads.Learnt, element-below t, element.Post, enclosed-below t, enclosed.Post, string-argument-below t, string-argument.Post, argument-below t, argument.Post, compared-below t, compared.Post) (term-at t) term.Post
-term-returns-12 t c = refuses want-operand _ (c .before .before .before .see .ensures .next _ _) (ap (look want-operand) (sym (c .before .before .before .see .ensures .class)) ∙ operand-else (c .before .before .before .see .result .class) (c .match .rest .0 .0 .0 .0 .0 .0 .0 .0 .0 .0 .1) (c .match .rest .0 .0 .0 .0 .0 .0 .0 .0 .0 .1) (c .match .rest .0 .0 .0 .0 .0 .0 .0 .0 .1) (c .match .rest .0 .0 .0 .0 .0 .0 .0 .1) (c .match .rest .0 .0 .0 .0 .0 .0 .1) (c .match .rest .0 .0 .0 .0 .0 .1) (c .match .rest .0 .0 .0 .0 .1) (c .match .rest .0 .0 .0 .1) (c .match .rest .0 .0 .1) (c .match .rest .0 .1) (c .match .rest .1)) refl
-
-pub +argument+compared+comparison+element+enclosed+expression+more+second+string+string-argument+subscripts+substring+term-spec :
+pub +argument+compared+comparison+element+enclosed+expression+operand+second+string+string-argument+subscripts+substring+term-spec :
     {M : Type 1} → statement M
-+argument+compared+comparison+element+enclosed+expression+more+second+string+string-argument+subscripts+substring+term-spec =
++argument+compared+comparison+element+enclosed+expression+operand+second+string+string-argument+subscripts+substring+term-spec =
     close
     μ-argument
     μ-compared
@@ -758,7 +766,7 @@ pub +argument+compared+comparison+element+enclosed+expression+more+second+string
     μ-element
     μ-enclosed
     μ-expression
-    μ-more
+    μ-operand
     μ-second
     μ-string
     μ-string-argument
@@ -829,31 +837,71 @@ pub +argument+compared+comparison+element+enclosed+expression+more+second+string
     (enclosed-same-length-3 t)
     (enclosed-same-length-4 t)
     (enclosed-returns-2 t))
-    (λ t. expression-lts.spec
-    (term-below t, term.Post, more-below t, more.Post)
+    (λ t. expression-lts.spec (term-below t, term.Post, see-reads.Asked, see-reads.Learnt, joins-reads.Asked, joins-reads.Learnt, token-reads.Asked, token-reads.Learnt)
     (expression-at t)
     expression.Post
+    expression-Inv-loop
+    expression-μ-loop
+    (expression-loop-holds t)
     (expression-term-requires t)
-    (expression-enum-known-p t)
-    (expression-more-requires t)
-    (expression-enum-known-k t)
+    (expression-enum-known-next t)
+    (expression-see-requires t)
+    (expression-joins-requires t)
+    (expression-token-requires t)
+    (expression-loop-less t)
+    (expression-loop-again t)
     (expression-same-length t)
     (expression-same-length-2 t)
     (expression-returns t)
+    (expression-enum-known-k t)
     (expression-same-length-3 t)
     (expression-same-length-4 t)
     (expression-returns-2 t))
-    (λ t. more-lts.spec (see-reads.Asked, see-reads.Learnt, joins-reads.Asked, joins-reads.Learnt, token-reads.Asked, token-reads.Learnt, expression-below t, expression.Post)
-    (more-at t)
-    more.Post
-    (more-see-requires t)
-    (more-joins-requires t)
-    (more-token-requires t)
-    (more-expression-requires t)
-    (more-same-length t)
-    (more-same-length-2 t)
-    (more-returns t)
-    (more-returns-2 t))
+    (λ t. operand-lts.spec (constant-reads.Asked, constant-reads.Learnt, variable-reads.Asked, variable-reads.Learnt, element-below t, element.Post, token-reads.Asked, token-reads.Learnt, enclosed-below t, enclosed.Post, string-argument-below t, string-argument.Post, argument-below t, argument.Post, compared-below t, compared.Post)
+    (operand-at t)
+    operand.Post
+    (operand-add-place t)
+    (operand-constant-requires t)
+    (operand-variable-requires t)
+    (operand-variable-requires-2 t)
+    (operand-element-requires t)
+    (operand-token-requires t)
+    (operand-enclosed-requires t)
+    (operand-token-requires-2 t)
+    (operand-string-argument-requires t)
+    (operand-token-requires-3 t)
+    (operand-argument-requires t)
+    (operand-compared-requires t)
+    (operand-compared-requires-2 t)
+    (operand-compared-requires-3 t)
+    (operand-same-length t)
+    (operand-same-length-2 t)
+    (operand-returns t)
+    (operand-same-length-3 t)
+    (operand-same-length-4 t)
+    (operand-returns-2 t)
+    (operand-same-length-5 t)
+    (operand-same-length-6 t)
+    (operand-returns-3 t)
+    (operand-same-length-7 t)
+    (operand-same-length-8 t)
+    (operand-returns-4 t)
+    (operand-same-length-9 t)
+    (operand-same-length-10 t)
+    (operand-returns-5 t)
+    (operand-same-length-11 t)
+    (operand-same-length-12 t)
+    (operand-returns-6 t)
+    (operand-same-length-13 t)
+    (operand-same-length-14 t)
+    (operand-returns-7 t)
+    (operand-same-length-15 t)
+    (operand-same-length-16 t)
+    (operand-returns-8 t)
+    (operand-same-length-17 t)
+    (operand-same-length-18 t)
+    (operand-returns-9 t)
+    (operand-returns-10 t))
     (λ t. second-lts.spec (see-reads.Asked, see-reads.Learnt, token-reads.Asked, token-reads.Learnt, enclosed-below t, enclosed.Post)
     (second-at t)
     second.Post
@@ -930,60 +978,21 @@ pub +argument+compared+comparison+element+enclosed+expression+more+second+string
     (substring-same-length-2 t)
     (substring-returns t)
     (substring-returns-2 t))
-    λ t. term-lts.spec (see-reads.Asked, see-reads.Learnt, prefix-operator-reads.Asked, prefix-operator-reads.Learnt, token-reads.Asked, token-reads.Learnt, term-below t, term.Post, constant-reads.Asked, constant-reads.Learnt, variable-reads.Asked, variable-reads.Learnt, element-below t, element.Post, enclosed-below t, enclosed.Post, string-argument-below t, string-argument.Post, argument-below t, argument.Post, compared-below t, compared.Post)
+    λ t. term-lts.spec (see-reads.Asked, see-reads.Learnt, prefix-operator-reads.Asked, prefix-operator-reads.Learnt, token-reads.Asked, token-reads.Learnt, operand-below t, operand.Post)
     (term-at t)
     term.Post
+    term-Inv-loop
+    term-μ-loop
+    (term-loop-holds t)
     (term-see-requires t)
-    (term-add-place t)
     (term-prefix-operator-requires t)
     (term-token-requires t)
-    (term-term-requires t)
+    (term-loop-less t)
+    (term-loop-again t)
     (term-token-requires-2 t)
-    (term-term-requires-2 t)
-    (term-constant-requires t)
-    (term-variable-requires t)
-    (term-variable-requires-2 t)
-    (term-element-requires t)
-    (term-token-requires-3 t)
-    (term-enclosed-requires t)
-    (term-token-requires-4 t)
-    (term-string-argument-requires t)
-    (term-token-requires-5 t)
-    (term-argument-requires t)
-    (term-compared-requires t)
-    (term-compared-requires-2 t)
-    (term-compared-requires-3 t)
+    (term-loop-less-2 t)
+    (term-loop-again-2 t)
+    (term-operand-requires t)
     (term-same-length t)
     (term-same-length-2 t)
     (term-returns t)
-    (term-same-length-3 t)
-    (term-same-length-4 t)
-    (term-returns-2 t)
-    (term-same-length-5 t)
-    (term-same-length-6 t)
-    (term-returns-3 t)
-    (term-same-length-7 t)
-    (term-same-length-8 t)
-    (term-returns-4 t)
-    (term-same-length-9 t)
-    (term-same-length-10 t)
-    (term-returns-5 t)
-    (term-same-length-11 t)
-    (term-same-length-12 t)
-    (term-returns-6 t)
-    (term-same-length-13 t)
-    (term-same-length-14 t)
-    (term-returns-7 t)
-    (term-same-length-15 t)
-    (term-same-length-16 t)
-    (term-returns-8 t)
-    (term-same-length-17 t)
-    (term-same-length-18 t)
-    (term-returns-9 t)
-    (term-same-length-19 t)
-    (term-same-length-20 t)
-    (term-returns-10 t)
-    (term-same-length-21 t)
-    (term-same-length-22 t)
-    (term-returns-11 t)
-    (term-returns-12 t)

@@ -1,0 +1,2 @@
+-- What the readers' loops keep.
+pub mod Onward
