@@ -161,7 +161,7 @@ fn taken(
 // The most opening parentheses for which terms are read by their own reader, which calls itself for each of them.
 const FEW: usize = 2;
 
-// Whether more than a few opening parentheses stand in a text.
+// Whether more than FEW opening parentheses stand in a text.
 fn nests(part: &[u8]) -> bool {
     let mut n: usize = 0;
     let mut i = 0;
@@ -174,7 +174,7 @@ fn nests(part: &[u8]) -> bool {
     FEW < n
 }
 
-// Whether a frame is a term's and its own reader is to read it: in a text that nests the table reads it, which needs no deeper a call.
+// Whether the reader of terms is to read a frame: it wants a term, and the text does not nest. The table reads all others, with no deeper calls.
 fn by_term(frame: u8, nested: bool) -> bool
     ensures { λ r. ⌜ (r ≡ true → frame ≡ want-operand) ⌝ }
 {
