@@ -19,8 +19,8 @@ use console::print;
 use console::print_bytes;
 use console::print_number;
 use console::whole;
-use entries::Editor;
-use lines::Found;
+use editor_edit::Editor;
+use store::Found;
 
 // The longest row that is kept.
 const LONGEST: usize = 1024;
@@ -45,7 +45,7 @@ fn begun(source: usize) -> Program {
 
 // Prints the bytes of the stored line with a number.
 fn print_line(number: usize, store: &[u8], used: usize) {
-    if let Found::At(place) = lines::find(store, used, number) {
+    if let Found::At(place) = store::find(store, used, number) {
         let at = place.at;
         if at < store.len() {
             print_bytes(front(&store[at..], place.size));

@@ -5,7 +5,7 @@ use buffers::front;
 use console::next_line;
 use console::print;
 use console::whole;
-use entries::Editor;
+use editor_edit::Editor;
 use fields::bytes_field;
 use fields::ends;
 use fields::number_field;

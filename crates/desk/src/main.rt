@@ -4,7 +4,7 @@ use buffers::front;
 use console::next_line;
 use console::print;
 use console::print_number;
-use entries::Editor;
+use editor_edit::Editor;
 ghost use Prim.Native.Nat.{_≤_};
 
 // The longest text that is kept: one byte more than may be entered, so that any longer line is refused as such.
@@ -26,7 +26,7 @@ fn enter(
     store: &mut [u8],
     record: Editor,
 ) -> Editor {
-    let r = lent::enter_lending(text, names, values, store, record);
+    let r = editor_lent::enter_lending(text, names, values, store, record);
     let after = r.editor;
     print(b"E");
     print_field(line);
@@ -89,7 +89,7 @@ fn wide(b: u8) -> usize
 // Prints the listing of the stored line with a number.
 fn list_line(number: usize, names: &[u8], values: &[u8], store: &[u8], record: Editor) {
     let mut out = [0u8; 1024];
-    let r = lent::list_lending(number, names, values, store, record, &mut out);
+    let r = editor_lent::list_lending(number, names, values, store, record, &mut out);
     print(b"L\t");
     print(front(&out, r.written));
     print(b"\n");

@@ -15,15 +15,15 @@ use Rattle.paper.specs.Calls.{State, names-of, refusal, Translated, tokens, ref
 use Rattle.paper.specs.Calls.{Entered as Outcome}
 use Rattle.laws.specs.Names.{names-added, closed?, closed-names}
 use Rattle.buffers.specs.Sets.{front}
-use Rattle.operands.specs.Draft.{written-line}
-use Rattle.operands.specs.DraftLaws.{line-fits, line-size}
-use Rattle.reader.specs.Reading.{of-translated, of-head, reading, Accepted, Told}
-use Rattle.reader.specs.declared.Line.{Line}
-use Rattle.reader.specs.declared.Reading.{Reading}
-use Rattle.reader.specs.declared.Reading.the-variants.{Read, Delete, Refused}
-use Rattle.entries.specs.declared.Editor.{Editor}
-use Rattle.entries.specs.States.{state}
-use Rattle.entries.specs.Lines.{Written, Accepts}
+use Rattle.enter_item.specs.Draft.{written-line}
+use Rattle.enter_item.specs.DraftLaws.{line-fits, line-size}
+use Rattle.enter_line.specs.Reading.{of-translated, of-head, reading, Accepted, Told}
+use Rattle.enter_line.specs.declared.Line.{Line}
+use Rattle.enter_line.specs.declared.Reading.{Reading}
+use Rattle.enter_line.specs.declared.Reading.the-variants.{Read, Delete, Refused}
+use Rattle.editor_edit.specs.declared.Editor.{Editor}
+use Rattle.editor_edit.specs.States.{state}
+use Rattle.editor_edit.specs.Lines.{Written, Accepts}
 use Rattle.editor.specs.Readings.{Ready, Edits, Prepared}
 
 -- ---- a refusal and a deletion

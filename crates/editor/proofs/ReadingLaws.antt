@@ -5,16 +5,16 @@ use mathlib.Core.List.{List}
 use lib.ListN.{take}
 use Rattle.paper.specs.Calls.{State, lines-of, refusal, delete}
 use Rattle.paper.specs.Calls.{Entered as Outcome}
-use Rattle.lines.specs.declared.Place.{Place}
-use Rattle.lines.specs.Answers.{place-of}
-use Rattle.lines.specs.Places.{own-place}
-use Rattle.reader.specs.declared.Line.{Line}
-use Rattle.reader.specs.declared.Reading.{Reading}
-use Rattle.reader.specs.declared.Reading.the-variants.{Read, Delete, Refused}
-use Rattle.entries.specs.declared.Editor.{Editor}
-use Rattle.entries.specs.declared.Entered.{Entered}
-use Rattle.entries.specs.States.{state, entered, refusing, Lies}
-use Rattle.entries.specs.Lines.{Readable, Accepts}
+use Rattle.store.specs.declared.Place.{Place}
+use Rattle.store.specs.Answers.{place-of}
+use Rattle.store.specs.Places.{own-place}
+use Rattle.enter_line.specs.declared.Line.{Line}
+use Rattle.enter_line.specs.declared.Reading.{Reading}
+use Rattle.enter_line.specs.declared.Reading.the-variants.{Read, Delete, Refused}
+use Rattle.editor_edit.specs.declared.Editor.{Editor}
+use Rattle.editor_edit.specs.declared.Entered.{Entered}
+use Rattle.editor_edit.specs.States.{state, entered, refusing, Lies}
+use Rattle.editor_edit.specs.Lines.{Readable, Accepts}
 use Rattle.editor.specs.Readings.{asked-number, Ready, Edits}
 
 -- a refusal

@@ -12,16 +12,16 @@ use Rattle.paper.specs.Calls.{State, lines-of, sound-state, refusal, enter-soun
 use Rattle.paper.specs.Calls.{Entered as Outcome, Listed as Written-out}
 use Rattle.laws.specs.Tests.{and-left, as-T, is-true}
 use Rattle.laws.specs.Names.{sound-facts}
-use Rattle.lines.specs.declared.Place.{Place}
-use Rattle.lines.specs.declared.Found.{Found}
-use Rattle.lines.specs.declared.Found.the-variants.{Unsound, At}
-use Rattle.lines.specs.Answers.{place-of, found-answer}
-use Rattle.lines.specs.Places.{found-sound, found-unsound}
-use Rattle.entries.specs.declared.Editor.{Editor}
-use Rattle.entries.specs.declared.Entered.{Entered}
-use Rattle.entries.specs.States.{state, entered, refusing, Lies}
-use Rattle.listings.specs.declared.Listed.{Listed}
-use Rattle.listings.specs.Answers.{unlisted, listed}
+use Rattle.store.specs.declared.Place.{Place}
+use Rattle.store.specs.declared.Found.{Found}
+use Rattle.store.specs.declared.Found.the-variants.{Unsound, At}
+use Rattle.store.specs.Answers.{place-of, found-answer}
+use Rattle.store.specs.Places.{found-sound, found-unsound}
+use Rattle.editor_edit.specs.declared.Editor.{Editor}
+use Rattle.editor_edit.specs.declared.Entered.{Entered}
+use Rattle.editor_edit.specs.States.{state, entered, refusing, Lies}
+use Rattle.editor_list.specs.declared.Listed.{Listed}
+use Rattle.editor_list.specs.Answers.{unlisted, listed}
 
 both : (a b c : Bool) → a && b ≡ true → c ≡ a && (b && c)
 both true true c h = refl

@@ -5,12 +5,12 @@ use mathlib.Core.List.{List}
 use lib.ListN.{take}
 use Rattle.paper.specs.Calls.{State, refusal, delete, enter-sound}
 use Rattle.paper.specs.Calls.{Entered as Outcome}
-use Rattle.reader.specs.declared.Line.{Line}
-use Rattle.reader.specs.declared.Reading.{Reading}
-use Rattle.reader.specs.declared.Reading.the-variants.{Read, Delete, Refused}
-use Rattle.entries.specs.declared.Editor.{Editor}
-use Rattle.entries.specs.States.{state}
-use Rattle.entries.specs.Lines.{Readable, Accepts}
+use Rattle.enter_line.specs.declared.Line.{Line}
+use Rattle.enter_line.specs.declared.Reading.{Reading}
+use Rattle.enter_line.specs.declared.Reading.the-variants.{Read, Delete, Refused}
+use Rattle.editor_edit.specs.declared.Editor.{Editor}
+use Rattle.editor_edit.specs.States.{state}
+use Rattle.editor_edit.specs.Lines.{Readable, Accepts}
 
 -- the number of the line that a text is about; 0 of a text that is refused
 unfoldable pub asked-number : Reading → ℕ

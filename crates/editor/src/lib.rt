@@ -1,28 +1,28 @@
 // The calls over lent tables and a lent store: a text entered, a stored line listed.
 mod readings;
 
-use entries::Editor;
-use entries::Entered;
-use entries::refused;
-use lines::Found;
-use listings::Listed;
-use listings::list_stored;
-use listings::not_listed;
+use editor_edit::Editor;
+use editor_edit::Entered;
+use editor_edit::refused;
+use editor_list::Listed;
+use editor_list::list_stored;
+use editor_list::not_listed;
 use readings::asked;
 use readings::edit;
 use readings::read;
+use store::Found;
 ghost use mathlib.Core.Path.{_≡_};
 ghost use lib.Dec.{T};
 ghost use Rattle.paper.specs.Calls.{sound-state, enter-sound, enter as enter-call, list as list-call};
-ghost use Rattle.entries.specs.States.{state, entered};
-ghost use Rattle.listings.specs.Answers.{listed};
+ghost use Rattle.editor_edit.specs.States.{state, entered};
+ghost use Rattle.editor_list.specs.Answers.{listed};
 
 // Whether tables and store are sound.
 pub fn sound(names: &[u8], values: &[u8], store: &[u8], e: Editor) -> bool
     ensures { λ r. ⌜ r ≡ sound-state (state (now (names .entry)) (now (values .entry)) (now (store .entry)) e) ⌝ }
 {
-    if soundness::sound(names, e.name_bytes, e.name_count, values.len()) {
-        lines::sound(store, e.used)
+    if names_sound::sound(names, e.name_bytes, e.name_count, values.len()) {
+        store::sound(store, e.used)
     } else {
         false
     }
@@ -42,7 +42,7 @@ pub fn enter_sound(
     let mut line = [0u8; 255];
     let mut fresh = [0u8; 240];
     let reading = read(text, names, e, &mut line, &mut fresh);
-    let place = lines::find_sound(store, e.used, asked(reading));
+    let place = store::find_sound(store, e.used, asked(reading));
     edit(reading, place, &line, &fresh, names, values, store, e)
 }
 
@@ -57,11 +57,11 @@ pub fn enter(
 ) -> Entered
     ensures { λ r. ⌜ entered r (now (names .exit)) (now (values .exit)) (now (store .exit)) ≡ enter-call (now (text .entry)) (state (now (names .entry)) (now (values .entry)) (now (store .entry)) e) ⌝ }
 {
-    if soundness::sound(names, e.name_bytes, e.name_count, values.len()) {
+    if names_sound::sound(names, e.name_bytes, e.name_count, values.len()) {
         let mut line = [0u8; 255];
         let mut fresh = [0u8; 240];
         let reading = read(text, names, e, &mut line, &mut fresh);
-        match lines::find(store, e.used, asked(reading)) {
+        match store::find(store, e.used, asked(reading)) {
             Found::Unsound => refused(1, 0, e),
             Found::At(place) => edit(reading, place, &line, &fresh, names, values, store, e),
         }
@@ -81,8 +81,8 @@ pub fn list(
 ) -> Listed
     ensures { λ r. ⌜ listed r (now (out .exit)) ≡ list-call line (state (now (names .entry)) (now (values .entry)) (now (store .entry)) e) (now (out .entry)) ⌝ }
 {
-    if soundness::sound(names, e.name_bytes, e.name_count, values.len()) {
-        match lines::find(store, e.used, line) {
+    if names_sound::sound(names, e.name_bytes, e.name_count, values.len()) {
+        match store::find(store, e.used, line) {
             Found::Unsound => not_listed(1),
             Found::At(place) => list_stored(place, names, values, store, e, out),
         }

@@ -1,16 +1,16 @@
 // Texts as they are read, before and after the store is looked at.
 use buffers::front;
-use entries::Editor;
-use entries::Entered;
-use entries::refused;
-use lines::Place;
-use reader::Reading;
+use editor_edit::Editor;
+use editor_edit::Entered;
+use editor_edit::refused;
+use enter_line::Reading;
+use store::Place;
 ghost use mathlib.Core.Path.{_≡_};
 ghost use Prim.Native.Nat.{_≤_};
 ghost use lib.Dec.{T};
 ghost use lib.ListN.{length};
 ghost use Rattle.paper.specs.Calls.{sound-state};
-ghost use Rattle.entries.specs.States.{state, entered, Lies};
+ghost use Rattle.editor_edit.specs.States.{state, entered, Lies};
 ghost use Rattle.editor.specs.Readings.{asked-number, Ready, Edits, Prepared};
 
 // The most bytes that a text may have.
@@ -30,7 +30,7 @@ pub(crate) fn read(
     if LONGEST_TEXT < text.len() {
         return Reading::Refused(2, 0);
     }
-    reader::read(text, names, e.name_bytes, line, fresh)
+    enter_line::read(text, names, e.name_bytes, line, fresh)
 }
 
 // The number of the line that a text is about, as it was read; 0 of a text that is refused.
@@ -61,8 +61,8 @@ pub(crate) fn edit(
 {
     match reading {
         Reading::Refused(number, at) => refused(number, at, e),
-        Reading::Delete(_) => entries::take_out(place, names, values, store, e),
-        Reading::Read(l) => entries::accept(
+        Reading::Delete(_) => editor_edit::take_out(place, names, values, store, e),
+        Reading::Read(l) => editor_edit::accept(
             place,
             line,
             l.size,

@@ -6,12 +6,12 @@ use mathlib.Core.Bool.{Bool}
 use mathlib.Core.List.{List}
 use lib.ListN.{length, take, drop, length-drop}
 use lib.Seq.{take-all}
-use Rattle.numerals.specs.declared.Numeral.{Numeral}
-use Rattle.numerals.specs.Numerals.{Written}
-use Rattle.items.specs.declared.Item.{Item}
-use Rattle.items.specs.declared.Kind.{Kind}
-use Rattle.items.specs.declared.Kind.the-variants.{Number}
-use Rattle.items.specs.Sees.{Sees, Holds}
+use Rattle.constant_bytes.specs.declared.Numeral.{Numeral}
+use Rattle.constant_bytes.specs.Numerals.{Written}
+use Rattle.enter_scan.specs.declared.Item.{Item}
+use Rattle.enter_scan.specs.declared.Kind.{Kind}
+use Rattle.enter_scan.specs.declared.Kind.the-variants.{Number}
+use Rattle.enter_scan.specs.Sees.{Sees, Holds}
 
 rest-part : (s : List ℕ) (a : ℕ) → take (length s - a) (drop a s) ≡ drop a s
 rest-part s a = take-all (length s - a) (drop a s) (omega (arith, length-drop a s))

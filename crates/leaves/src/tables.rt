@@ -3,13 +3,13 @@ use buffers::front;
 use console::print;
 use console::print_hex;
 use console::print_number;
-use lines::Found;
-use lines::Removed;
-use lines::Stored;
+use store::Found;
+use store::Removed;
+use store::Stored;
 ghost use mathlib.Core.Path.{_≡_};
 ghost use mathlib.Core.Bool.{true};
 ghost use Rattle.laws.specs.Names.{plain-name};
-ghost use Rattle.names.specs.Answers.{spelled};
+ghost use Rattle.names_numbered.specs.Answers.{spelled};
 
 // Numbers a name over an empty table and the names of the first f bytes of `fresh`, prints its number and those bytes afterwards, and
 // returns how many they are.
@@ -19,7 +19,7 @@ fn number(part: &[u8], array: bool, fresh: &mut [u8], f: usize) -> usize
     if fresh.len() < f {
         return f;
     }
-    let numbered = names::number_of(b"", 0, fresh, f, part, array);
+    let numbered = names_numbered::number_of(b"", 0, fresh, f, part, array);
     let size = numbered.size;
     print(b"name\t");
     print(part);
@@ -51,7 +51,7 @@ pub(crate) fn show_table(bytes: &[u8], count: usize, value_room: usize) {
     print_number(count);
     print(b"\t");
     print_number(value_room);
-    if soundness::sound(bytes, bytes.len(), count, value_room) {
+    if names_sound::sound(bytes, bytes.len(), count, value_room) {
         print(b"\tsound\n");
     } else {
         print(b"\tunsound\n");
@@ -72,12 +72,12 @@ fn show_store(store: &[u8], used: usize) -> usize {
 fn put(store: &mut [u8], used: usize, line: &[u8]) -> usize {
     print(b"put\t");
     print_hex(line);
-    match lines::find(store, used, lines::heads::number(line)) {
+    match store::find(store, used, store::heads::number(line)) {
         Found::Unsound => {
             print(b"\tunsound\n");
             used
         }
-        Found::At(place) => match lines::put_in(store, used, place, line) {
+        Found::At(place) => match store::put_in(store, used, place, line) {
             Stored::Done(after) => show_store(store, after),
             Stored::NoRoom => {
                 print(b"\tno room");
@@ -91,12 +91,12 @@ fn put(store: &mut [u8], used: usize, line: &[u8]) -> usize {
 fn take(store: &mut [u8], used: usize, number: usize) -> usize {
     print(b"take\t");
     print_number(number);
-    match lines::find(store, used, number) {
+    match store::find(store, used, number) {
         Found::Unsound => {
             print(b"\tunsound\n");
             used
         }
-        Found::At(place) => match lines::take_out(store, used, place) {
+        Found::At(place) => match store::take_out(store, used, place) {
             Removed::Done(after) => show_store(store, after),
             Removed::NotThere => {
                 print(b"\tnot there");

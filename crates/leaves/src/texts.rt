@@ -4,10 +4,10 @@ use buffers::front;
 use console::print;
 use console::print_hex;
 use console::print_number;
-use items::Item;
-use items::Kind;
-use items::next_item;
-use numerals::Six;
+use constant_bytes::Six;
+use enter_scan::Item;
+use enter_scan::Kind;
+use enter_scan::next_item;
 use tokens::Reserved;
 use tokens::Statement;
 use tokens::class;
@@ -27,7 +27,7 @@ fn print_six(six: Six) {
     }
     let bytes = six.bytes;
     let mut out = [0u8; 15];
-    let n = constants::write_text(&bytes, 0, &mut out, 0);
+    let n = constant_text::write_text(&bytes, 0, &mut out, 0);
     print_hex(&bytes);
     print(b"\t");
     print(front(&out, n));
@@ -40,7 +40,7 @@ fn print_constant(text: &[u8]) {
     let at = item.at;
     let end = item.end;
     if let Kind::Number(n) = kind {
-        let six = numerals::six_bytes(&text[at..], n);
+        let six = constant_bytes::six_bytes(&text[at..], n);
         print(&text[at..end]);
         print(b"\t");
         print_six(six);
@@ -92,7 +92,7 @@ fn print_items(text: &[u8], first: bool) {
         let item = next_item(text, at, position);
         let kind = item.kind;
         print_item(item);
-        if items::class_of(kind, position) == class::LINE_END {
+        if enter_scan::class_of(kind, position) == class::LINE_END {
             return;
         }
         at = item.end;
@@ -164,7 +164,7 @@ pub(crate) fn show_six(bytes: &[u8; 6]) {
     print(b"six\t");
     print_hex(bytes);
     print(b"\t");
-    if constants::is_right(bytes, 0) {
+    if constant_text::is_right(bytes, 0) {
         print(b"right\n");
     } else {
         print(b"wrong\n");

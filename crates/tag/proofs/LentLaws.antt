@@ -9,11 +9,11 @@ use borrow.Author.Tests.{lt-ltb, le-ltb}
 use Rattle.paper.specs.Bytes.{pick}
 use Rattle.paper.specs.Calls.{refusal, not-listed, enter, list}
 use Rattle.paper.specs.Calls.{Entered as Outcome, Listed as Written-out}
-use Rattle.entries.specs.declared.Editor.{Editor}
-use Rattle.entries.specs.declared.Entered.{Entered}
-use Rattle.listings.specs.declared.Listed.{Listed}
-use Rattle.entries.specs.States.{state, entered}
-use Rattle.listings.specs.Answers.{listed}
+use Rattle.editor_edit.specs.declared.Editor.{Editor}
+use Rattle.editor_edit.specs.declared.Entered.{Entered}
+use Rattle.editor_list.specs.declared.Listed.{Listed}
+use Rattle.editor_edit.specs.States.{state, entered}
+use Rattle.editor_list.specs.Answers.{listed}
 use Rattle.tag.specs.Lent.{editor-of, counts, entered-numbers, listed-numbers, enter-lent, list-lent, Leaves, Lists}
 
 -- numbers put at the front, one by one

@@ -8,8 +8,8 @@ use lib.Seq.{sets}
 use Rattle.paper.specs.Bytes.{pick}
 use Rattle.paper.specs.Calls.{State, refusal, not-listed, enter, list}
 use Rattle.paper.specs.Calls.{Entered as Outcome, Listed as Written-out}
-use Rattle.entries.specs.declared.Editor.{Editor}
-use Rattle.entries.specs.States.{state}
+use Rattle.editor_edit.specs.declared.Editor.{Editor}
+use Rattle.editor_edit.specs.States.{state}
 
 -- the counts of a record, 0 for each that it lacks
 abbrev pub editor-of : List ℕ → Editor

@@ -1,13 +1,13 @@
 // The two calls for programs in C, over numbers and lent slices, as include/virgontey.h declares them.
-use entries::Editor;
-use entries::Entered;
-use listings::Listed;
+use editor_edit::Editor;
+use editor_edit::Entered;
+use editor_list::Listed;
 ghost use mathlib.Core.Path.{_≡_};
 ghost use mathlib.Core.List.{[], _∷_};
 ghost use lib.ListN.{getD, set};
 ghost use lib.Seq.{sets};
-ghost use Rattle.entries.specs.States.{entered};
-ghost use Rattle.listings.specs.Answers.{listed};
+ghost use Rattle.editor_edit.specs.States.{entered};
+ghost use Rattle.editor_list.specs.Answers.{listed};
 ghost use Rattle.tag.specs.Lent.{editor-of, enter-lent, list-lent, Leaves, Lists};
 
 // How many counts a record has.

@@ -1,8 +1,8 @@
 -- `editor::enter` meets its contract.
 use mathlib.Core.Path.{ap, _∙_}
 use native.Mathlib.Omega.{arith}
-use Rattle.lines.specs.Answers.{found-answer}
-use Rattle.entries.specs.States.{state}
+use Rattle.store.specs.Answers.{found-answer}
+use Rattle.editor_edit.specs.States.{state}
 use Rattle.editor.proofs.TestLaws.{unsound-tables, names-within, sound-there, unsound-store, enter-so, enter-refused}
 use borrow.Author.Needs.{needs}
 use Rattle.editor.proofs.enter.Statement.{statement}

@@ -3,9 +3,9 @@ use mathlib.Core.Path.{ap, _∙_}
 use native.Mathlib.Omega.{arith}
 use Prim.Native.Nat.{ℕ}
 use Rattle.paper.specs.Calls.{lines-of}
-use Rattle.lines.specs.Answers.{place-of}
-use Rattle.entries.specs.States.{state}
-use Rattle.entries.specs.Sound.{table-sound, store-sound}
+use Rattle.store.specs.Answers.{place-of}
+use Rattle.editor_edit.specs.States.{state}
+use Rattle.editor_edit.specs.Sound.{table-sound, store-sound}
 use borrow.Author.Needs.{needs}
 use Rattle.editor.proofs.enter_sound.Statement.{statement}
 use Rattle.editor.proofs.enter_sound.Tie as tie

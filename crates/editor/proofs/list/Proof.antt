@@ -1,6 +1,6 @@
 -- `editor::list` meets its contract.
-use Rattle.entries.specs.States.{state}
-use Rattle.lines.specs.Places.{own-place}
+use Rattle.editor_edit.specs.States.{state}
+use Rattle.store.specs.Places.{own-place}
 use Rattle.editor.proofs.TestLaws.{unsound-tables, sound-there, unsound-store, list-so, list-refused}
 use borrow.Author.Needs.{needs}
 use Rattle.editor.proofs.list.Statement.{statement}

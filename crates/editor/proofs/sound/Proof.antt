@@ -1,5 +1,5 @@
 -- `editor::sound` meets its contract.
-use Rattle.entries.specs.States.{state}
+use Rattle.editor_edit.specs.States.{state}
 use Rattle.editor.proofs.TestLaws.{store-decides, unsound-tables}
 use borrow.Author.Needs.{needs}
 use Rattle.editor.proofs.sound.Statement.{statement}

@@ -1,5 +1,5 @@
 -- `editor::readings::edit` meets its contract.
-use Rattle.entries.specs.States.{state}
+use Rattle.editor_edit.specs.States.{state}
 use Rattle.editor.proofs.ReadingLaws.{edits-refused, own-lies, edits-delete, readable, edits-line}
 use borrow.Author.Needs.{needs}
 use Rattle.editor.proofs.readings.edit.Statement.{statement}

@@ -2,7 +2,7 @@
 use mathlib.Core.Path.{refl}
 use Rattle.paper.specs.Bytes.{every}
 use Rattle.laws.specs.Names.{plain-name}
-use Rattle.names.specs.Answers.{spelled}
+use Rattle.names_numbered.specs.Answers.{spelled}
 use borrow.Author.Needs.{needs}
 use Rattle.leaves.proofs.tables.number_names.Statement.{statement}
 use Rattle.leaves.proofs.tables.number_names.Tie as tie

@@ -3,8 +3,8 @@ use mathlib.Core.Path.{sym, ap, _∙_}
 use Prim.Native.Nat.{ℕ}
 use lib.ListN.{take}
 use Rattle.paper.specs.Store.{lines-in}
-use Rattle.lines.specs.Answers.{place-of}
-use Rattle.lines.specs.Places.{found-sound}
+use Rattle.store.specs.Answers.{place-of}
+use Rattle.store.specs.Places.{found-sound}
 use borrow.Author.Needs.{needs}
 use Rattle.leaves.proofs.tables.put.Statement.{statement}
 use Rattle.leaves.proofs.tables.put.Tie as tie

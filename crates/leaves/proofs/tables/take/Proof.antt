@@ -1,6 +1,6 @@
 -- `take` is safe and ends: the store was found sound before the line is taken out.
 use mathlib.Core.Path.{sym, _∙_}
-use Rattle.lines.specs.Places.{own-place, found-sound}
+use Rattle.store.specs.Places.{own-place, found-sound}
 use borrow.Author.Needs.{needs}
 use Rattle.leaves.proofs.tables.take.Statement.{statement}
 use Rattle.leaves.proofs.tables.take.Tie as tie

@@ -1,7 +1,7 @@
 -- `print_constant` is safe and ends: the number that was found is written in the text.
 use native.Mathlib.Omega.{arith}
 use mathlib.Core.Bool.{false}
-use Rattle.items.specs.ScanLaws.{sees}
+use Rattle.enter_scan.specs.ScanLaws.{sees}
 use Rattle.leaves.proofs.NumberLaws.{found-written}
 use borrow.Author.Needs.{needs}
 use Rattle.leaves.proofs.texts.print_constant.Statement.{statement}

@@ -4,7 +4,7 @@ use native.Mathlib.Omega.{arith}
 use mathlib.Core.Path.{sym, _∙_}
 use lib.ListN.{length}
 use borrow.Author.Needs.{needs}
-use Rattle.items.specs.ScanLaws.{sees}
+use Rattle.enter_scan.specs.ScanLaws.{sees}
 use Rattle.leaves.proofs.texts.print_items.Statement.{statement}
 use Rattle.leaves.proofs.texts.print_items.Tie as tie
 

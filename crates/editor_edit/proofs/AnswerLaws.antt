@@ -1,0 +1,108 @@
+-- The answers of the edits, from what the functions that they call ensure.
+use Prim.Native.Nat.{ℕ, _+_, _*_, _≤_, _<_}
+use mathlib.Core.Path.{_≡_, sym, ap, _∙_}
+use mathlib.Core.Bool.{Bool, true, false}
+use mathlib.Core.List.{List, _++_}
+use lib.Dec.{T}
+use lib.ListN.{length, take}
+use Rattle.paper.specs.Bytes.{joined}
+use Rattle.paper.specs.Tokens.{Token}
+use Rattle.paper.specs.Names.{names-in, name-bytes, value-entries}
+use Rattle.paper.specs.Line.{line-number}
+use Rattle.paper.specs.Store.{lines-in, put-line, take-out, overwritten}
+use Rattle.paper.specs.Calls.{State, names-of, lines-of, sound-state, refusal, delete}
+use Rattle.laws.specs.Names.{closed?}
+use Rattle.names_numbered.specs.Answers.{lacks, Room}
+use Rattle.store.specs.Answers.{place-of, too-long, stored-answer, stored-bytes, removed-answer, removed-bytes}
+use Rattle.store.specs.Places.{stored-done, stored-no-room, removed-done, removed-not-there}
+use Rattle.store.specs.declared.Place.{Place}
+use Rattle.store.specs.declared.Stored.{Stored}
+use Rattle.store.specs.declared.Stored.the-variants.{Done, NoRoom}
+use Rattle.store.specs.declared.Removed.{Removed}
+use Rattle.store.specs.declared.Removed.the-variants.{Done as Gone, NotThere}
+use Rattle.editor_edit.specs.declared.Editor.{Editor}
+use Rattle.editor_edit.specs.declared.Entered.{Entered}
+use Rattle.editor_edit.specs.States.{state, entered, refusing, Lies}
+use Rattle.editor_edit.specs.Lines.{Written, Accepts}
+use Rattle.editor_edit.proofs.EditLaws.{taken-out, not-there, number-is, refuses-6, refuses-7, refuses-8, takes, roomy}
+
+module _ (names values store : List ℕ) (e : Editor) where
+  abbrev S : State
+  S = state names values store e
+
+  -- ---- taking a line out
+
+  -- the line is gone
+  pub gone : T (sound-state S) → (n used : ℕ) (r : Removed) (store′ : List ℕ) → r ≡ removed-answer n (lines-of S) → store′ ≡ removed-bytes n store (lines-of S) → r ≡ Gone used
+      → entered (record { number = 0; place = 0; added = 0; editor = record { used = used; «name_count» = e .«name_count»; «name_bytes» = e .«name_bytes» } }) names values store′ ≡ delete S n
+  unfolding removed-bytes
+  gone o n used r store′ a b g =
+      let d = removed-done n (lines-of S) used (sym a ∙ g) in
+      let st : store′ ≡ overwritten (joined (take-out n (lines-of S))) store = b ∙ rw (d .0) in
+      rw (st, d .1) (taken-out S o n (d .0))
+
+  -- the line is not there
+  pub absent : (n : ℕ) (r : Removed) (store′ : List ℕ) (x : Entered) → r ≡ removed-answer n (lines-of S) → store′ ≡ removed-bytes n store (lines-of S) → r ≡ NotThere
+      → x ≡ refusing 9 0 e → entered x names values store′ ≡ delete S n
+  unfolding removed-bytes
+  absent n r store′ x a b g q =
+      let d = removed-not-there n (lines-of S) (sym a ∙ g) in
+      let st : store′ ≡ store = b ∙ rw (d) in
+      rw (st, q) (not-there S n d)
+
+  -- ---- accepting a line
+
+  module _ (o : T (sound-state S)) (n : ℕ) (line : List ℕ) (size : ℕ) (fresh : List ℕ) where
+    abbrev lack : Bool
+    lack = lacks (length names) (e .«name_bytes») (length values) (e .«name_count») (names-in fresh)
+
+    -- 6
+    pub answer-6 : (b : Bool) (x : Entered) → b ≡ lack → b ≡ true → x ≡ refusing 6 0 e → Accepts S n line size fresh (entered x names values store)
+    unfolding refusal
+    answer-6 b x l t q ts w = rw q (refuses-6 S o n line size fresh (sym l ∙ t) ts w)
+
+    -- 7
+    pub answer-7 : (b : Bool) (x : Entered) → b ≡ lack → b ≡ false → 255 < size → x ≡ refusing 7 0 e → Accepts S n line size fresh (entered x names values store)
+    unfolding refusal
+    answer-7 b x l t k q ts w = rw q (refuses-7 S o n line size fresh (sym l ∙ t) k ts w)
+
+    -- 8
+    pub answer-8 : (b : Bool) (x : Entered) (r : Stored) (part store′ : List ℕ) → b ≡ lack → b ≡ false → closed? fresh ≡ true → size ≤ 255
+        → part ≡ take size line → r ≡ stored-answer store (put-line part (lines-of S)) → store′ ≡ stored-bytes store (put-line part (lines-of S)) → r ≡ NoRoom → x ≡ refusing 8 0 e → Accepts S n line size fresh (entered x names values store′)
+    unfolding stored-bytes refusal
+    answer-8 b x r part store′ l t c k p a z g q ts w =
+        let d = stored-no-room store (put-line part (lines-of S)) (sym a ∙ g) in
+        let st : store′ ≡ store = z ∙ rw (d) in
+        rw (st, q) (refuses-8 S o n line size fresh (sym l ∙ t) c k (ap (λ (y : List ℕ). too-long store (put-line y (lines-of S))) (sym p) ∙ d) ts w)
+
+    -- 0
+    pub answer-0 : (b : Bool) (r : Stored) (used added : ℕ) (part names′ values′ store′ : List ℕ) → b ≡ lack → b ≡ false → closed? fresh ≡ true → size ≤ 255
+        → part ≡ take size line → r ≡ stored-answer store (put-line part (lines-of S)) → store′ ≡ stored-bytes store (put-line part (lines-of S)) → r ≡ Done used
+        → names′ ≡ overwritten (take (e .«name_bytes») names ++ name-bytes (names-in fresh)) names
+        → values′ ≡ overwritten (take (8 * e .«name_count») values ++ value-entries (e .«name_count») (names-in fresh)) values → added ≡ length (names-in fresh)
+        → Accepts S n line size fresh (entered (record { number = 0; place = 0; added = added; editor = record { used = used; «name_count» = e .«name_count» + added; «name_bytes» = e .«name_bytes» + length fresh } }) names′ values′ store′)
+    unfolding stored-bytes
+    answer-0 b r used added part names′ values′ store′ l t c k p a z g en ev ea ts w =
+        let d = stored-done store (put-line part (lines-of S)) used (sym a ∙ g) in
+        let st : store′ ≡ overwritten (joined (put-line part (lines-of S))) store = z ∙ rw (d .0) in
+        rw (st, en, ev, ea, d .1, p) (takes S o n line size fresh (sym l ∙ t) c k (ap (λ (y : List ℕ). too-long store (put-line y (lines-of S))) (sym p) ∙ d .0) ts w)
+
+    -- the place of the line's number
+    pub place-is : (b : Bool) (ts : List Token) (part : List ℕ) (p : Place) → b ≡ lack → b ≡ false → size ≤ 255 → Written (names-of S) n ts line size fresh → part ≡ take size line
+        → Lies p n S → p ≡ place-of (line-number part) (lines-in (take (e .used) store))
+    unfolding lines-of
+    place-is b ts part p l t k w q h =
+        let same : line-number part ≡ n = ap line-number q ∙ number-is S o n line size fresh ts w (sym l ∙ t) k in
+        h ∙ ap (λ (m : ℕ). place-of m (lines-in (take (e .used) store))) (sym same)
+
+    -- there is room for the new names
+    pub room-is : (b : Bool) → b ≡ lack → b ≡ false → closed? fresh ≡ true → Room names (e .«name_bytes») values (e .«name_count») fresh
+    room-is b l t c = roomy S o n line size fresh (sym l ∙ t) c
+
+    -- the names are few
+    pub few-names : (b : Bool) → b ≡ lack → b ≡ false → closed? fresh ≡ true → e .«name_count» + length (names-in fresh) ≤ 128
+    few-names b l t c = (room-is b l t c) .few
+
+    -- and their bytes are there
+    pub name-room : (b : Bool) → b ≡ lack → b ≡ false → closed? fresh ≡ true → e .«name_bytes» + length fresh ≤ length names
+    name-room b l t c = (room-is b l t c) .name-room

@@ -1,0 +1,27 @@
+-- The lent buffers and the record as a state of `paper`, and what a call answered and left as an outcome of `paper`.
+use Prim.Native.Nat.{ℕ}
+use mathlib.Core.Path.{_≡_}
+use mathlib.Core.List.{List}
+use Rattle.paper.specs.Calls.{State, lines-of}
+use Rattle.paper.specs.Calls.{Entered as Outcome}
+use Rattle.store.specs.declared.Place.{Place}
+use Rattle.store.specs.Answers.{place-of}
+use Rattle.editor_edit.specs.declared.Editor.{Editor}
+use Rattle.editor_edit.specs.declared.Entered.{Entered}
+
+-- names, values, store and the record
+abbrev pub state : List ℕ → List ℕ → List ℕ → Editor → State
+state names values store e =
+    record { names = names; name-size = e .«name_bytes»; name-count = e .«name_count»; values = values; store = store; used = e .used }
+
+-- what a call answered, with what it left in names, values and store
+abbrev pub entered : Entered → List ℕ → List ℕ → List ℕ → Outcome
+entered r names values store = record { number = r .number; place = r .place; added = r .added; after = state names values store (r .editor) }
+
+-- a refusal: nothing is added, and the record is as it was
+abbrev pub refusing : ℕ → ℕ → Editor → Entered
+refusing number place e = record { number = number; place = place; added = 0; editor = e }
+
+-- a place is that of a number in the store
+abbrev pub Lies : Place → ℕ → State → Type 0
+Lies p n s = p ≡ place-of n (lines-of s)

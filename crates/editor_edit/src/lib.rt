@@ -1,0 +1,104 @@
+// The edits of a sound state: a line put in, with its new names, or taken out.
+use buffers::front;
+use store::Place;
+use store::Removed;
+use store::Stored;
+ghost use mathlib.Core.Path.{_≡_};
+ghost use lib.Dec.{T};
+ghost use Rattle.paper.specs.Calls.{sound-state, delete};
+ghost use Rattle.editor_edit.specs.States.{state, entered, refusing, Lies};
+ghost use Rattle.editor_edit.specs.Lines.{Readable, Accepts};
+
+// The editor's record: the bytes of the store that are used, how many names there are, and how many bytes they have.
+pub struct Editor {
+    pub used: usize,
+    pub name_count: usize,
+    pub name_bytes: usize,
+}
+
+// What entering a text answers: document 01's number, the place where one applies, how many names were added, and the record afterwards.
+pub struct Entered {
+    pub number: u8,
+    pub place: usize,
+    pub added: usize,
+    pub editor: Editor,
+}
+
+// The most bytes that a line may have.
+const LONGEST_LINE: usize = 255;
+
+// A refusal: nothing is added, and the record is as it was.
+pub fn refused(number: u8, place: usize, e: Editor) -> Entered
+    ensures { λ r. ⌜ r ≡ refusing number place e ⌝ }
+{
+    Entered {
+        number,
+        place,
+        added: 0,
+        editor: e,
+    }
+}
+
+// Takes the line at a place out of a sound store.
+pub fn take_out(place: Place, names: &[u8], values: &[u8], store: &mut [u8], e: Editor) -> Entered
+    requires { ⌜ (T (sound-state (state (now names) (now values) (now store) e))) × (Lies place (place .number) (state (now names) (now values) (now store) e)) ⌝ }
+    ensures { λ r. ⌜ entered r (now (names .entry)) (now (values .entry)) (now (store .exit)) ≡ delete (state (now (names .entry)) (now (values .entry)) (now (store .entry)) e) (place .number) ⌝ }
+{
+    match store::take_out(store, e.used, place) {
+        Removed::Done(used) => Entered {
+            number: 0,
+            place: 0,
+            added: 0,
+            editor: Editor {
+                used,
+                name_count: e.name_count,
+                name_bytes: e.name_bytes,
+            },
+        },
+        Removed::NotThere => refused(9, 0, e),
+    }
+}
+
+// Puts the first `size` bytes of a buffer, a line that was read, at the place of its number into a sound store, and the names that are new in it
+// into the tables; or refuses it with 6, 7 or 8. Nothing is written before all tests have passed.
+pub fn accept(
+    place: Place,
+    line: &[u8],
+    size: usize,
+    fresh: &[u8],
+    names: &mut [u8],
+    values: &mut [u8],
+    store: &mut [u8],
+    e: Editor,
+) -> Entered
+    requires { ⌜ (T (sound-state (state (now names) (now values) (now store) e))) × (Lies place (place .number) (state (now names) (now values) (now store) e))
+        × (Readable (state (now names) (now values) (now store) e) (place .number) (now line) size (now fresh)) ⌝ }
+    ensures { λ r. ⌜ Accepts (state (now (names .entry)) (now (values .entry)) (now (store .entry)) e) (place .number) (now (line .entry)) size (now (fresh .entry)) (entered r (now (names .exit)) (now (values .exit)) (now (store .exit))) ⌝ }
+{
+    let bytes = e.name_bytes;
+    let count = e.name_count;
+    let lacks = names_numbered::lacks_room(names.len(), bytes, values.len(), count, fresh);
+    if lacks {
+        return refused(6, 0, e);
+    }
+    if LONGEST_LINE < size {
+        return refused(7, 0, e);
+    }
+    match store::put_in(store, e.used, place, front(line, size)) {
+        Stored::NoRoom => refused(8, 0, e),
+        Stored::Done(used) => {
+            names_numbered::add(names, bytes, values, count, fresh);
+            let added = names_numbered::count(fresh);
+            Entered {
+                number: 0,
+                place: 0,
+                added,
+                editor: Editor {
+                    used,
+                    name_count: count + added,
+                    name_bytes: bytes + fresh.len(),
+                },
+            }
+        }
+    }
+}

@@ -1,0 +1,86 @@
+// The calls with the editor's record lent: a text entered, where the record is updated, and a stored line listed. Beside each a function that
+// lends a copy of its own, so that its callers need no lent record.
+use editor::enter;
+use editor::list;
+use editor_edit::Editor;
+use editor_edit::Entered;
+use editor_list::Listed;
+ghost use mathlib.Core.Path.{_≡_};
+ghost use Rattle.paper.specs.Calls.{enter as enter-call, list as list-call};
+ghost use Rattle.editor_edit.specs.States.{state, entered};
+ghost use Rattle.editor_list.specs.Answers.{listed};
+ghost use Rattle.editor_lent.specs.Answers.{answered};
+
+// What entering a text over a lent record answers: document 01's number, the place where one applies, and how many names were added.
+pub struct Answer {
+    pub number: u8,
+    pub place: usize,
+    pub added: usize,
+}
+
+// Enters a text as `enter` does, over a lent record, which is updated.
+pub fn enter_lent(
+    text: &[u8],
+    names: &mut [u8],
+    values: &mut [u8],
+    store: &mut [u8],
+    e: &mut Editor,
+) -> Answer
+    ensures { λ r. ⌜ answered r (now (names .exit)) (now (values .exit)) (now (store .exit)) (now (e .exit)) ≡ enter-call (now (text .entry)) (state (now (names .entry)) (now (values .entry)) (now (store .entry)) (now (e .entry))) ⌝ }
+{
+    let r = enter(text, names, values, store, *e);
+    *e = r.editor;
+    Answer {
+        number: r.number,
+        place: r.place,
+        added: r.added,
+    }
+}
+
+// Enters a text over a copy of a record, lent to `enter_lent`: the answer, with the record afterwards.
+pub fn enter_lending(
+    text: &[u8],
+    names: &mut [u8],
+    values: &mut [u8],
+    store: &mut [u8],
+    e: Editor,
+) -> Entered
+    ensures { λ r. ⌜ entered r (now (names .exit)) (now (values .exit)) (now (store .exit)) ≡ enter-call (now (text .entry)) (state (now (names .entry)) (now (values .entry)) (now (store .entry)) e) ⌝ }
+{
+    let mut record = e;
+    let a = enter_lent(text, names, values, store, &mut record);
+    Entered {
+        number: a.number,
+        place: a.place,
+        added: a.added,
+        editor: record,
+    }
+}
+
+// Lists the line with a number as `list` does, over a lent record.
+pub fn list_lent(
+    line: usize,
+    names: &[u8],
+    values: &[u8],
+    store: &[u8],
+    e: &Editor,
+    out: &mut [u8],
+) -> Listed
+    ensures { λ r. ⌜ listed r (now (out .exit)) ≡ list-call line (state (now (names .entry)) (now (values .entry)) (now (store .entry)) (now (e .entry))) (now (out .entry)) ⌝ }
+{
+    list(line, names, values, store, *e, out)
+}
+
+// Lists the line with a number over a copy of a record, lent to `list_lent`.
+pub fn list_lending(
+    line: usize,
+    names: &[u8],
+    values: &[u8],
+    store: &[u8],
+    e: Editor,
+    out: &mut [u8],
+) -> Listed
+    ensures { λ r. ⌜ listed r (now (out .exit)) ≡ list-call line (state (now (names .entry)) (now (values .entry)) (now (store .entry)) e) (now (out .entry)) ⌝ }
+{
+    list_lent(line, names, values, store, &e, out)
+}

@@ -1,0 +1,279 @@
+-- A draft with its offsets put in is the line: statement by statement, and whole.
+use Prim.Native.Nat.{ℕ, suc, _+_, _/_, _%_, _≤_, _<_}
+use native.Mathlib.Omega.{arith}
+use native.Mathlib.Nat.{add-zero, mod-eq-of-lt}
+use mathlib.Core.Path.{_≡_, refl, subst, sym, ap, _∙_}
+use mathlib.Core.Bool.{Bool, true, false, not, _&&_}
+use mathlib.Core.List.{List, [], _∷_, _++_, append-assoc}
+use lib.ListN.{length, length-append}
+use Rattle.paper.specs.Bytes.{pick, every}
+use Rattle.paper.specs.Tokens.{Token, statement, assigned, operator, variable, constant, string, raw, out-of-range, unreadable}
+use Rattle.paper.specs.Names.{number-of, add-name, add-names}
+use Rattle.paper.specs.Line.{own-bytes, variable-bytes, begins?, to-next, token-bytes, line-bytes}
+use Rattle.laws.specs.Names.{adds-extend}
+use Rattle.enter_item.specs.Draft.{low, written, after, draft, with-offsets, written-line, still}
+use Rattle.enter_item.specs.NameLaws.{add-one-by-one, number-at-end, number-below}
+
+pub no-bool : {A : Type 0} → false ≡ true → A
+no-bool e = let z : _≡_ {A = ℕ} 0 1 = cc in absurd (omega arith)
+
+-- ---- drafts one after another
+
+draft-go : (b : Bool) (w d e : List ℕ) → pick b (0 ∷ w ++ (d ++ e)) (w ++ (d ++ e)) ≡ pick b (0 ∷ w ++ d) (w ++ d) ++ e
+draft-go true w d e = ap (λ (l : List ℕ). 0 ∷ l) (sym (append-assoc w d e))
+draft-go false w d e = sym (append-assoc w d e)
+
+pub draft-append : (ks : List (List ℕ)) (ts us : List Token) → draft ks (ts ++ us) ≡ draft ks ts ++ draft (add-names ks ts) us
+unfolding draft add-names
+draft-append ks [] us = refl
+draft-append ks (t ∷ ts) us =
+    ap (λ (l : List ℕ). pick (begins? t) (0 ∷ written ks t ++ l) (written ks t ++ l)) (draft-append (after ks t) ts us)
+    ∙ draft-go (begins? t) (written ks t) (draft (after ks t) ts) (draft (add-names (after ks t) ts) us)
+    ∙ ap (λ (k : List (List ℕ)). pick (begins? t) (0 ∷ written ks t ++ draft (after ks t) ts) (written ks t ++ draft (after ks t) ts) ++ draft k us) (sym (add-one-by-one ks t ts))
+
+-- ---- where no statement begins
+
+and-left : (a b : Bool) → (a && b) ≡ true → a ≡ true
+and-left true b h = refl
+and-left false b h = h
+
+and-right : (a b : Bool) → (a && b) ≡ true → b ≡ true
+and-right true b h = h
+and-right false b h = no-bool h
+
+not-left : (a : Bool) → not a ≡ true → a ≡ false
+not-left true h = no-bool h
+not-left false h = refl
+
+pub still-first : (t : Token) (ts : List Token) → still (t ∷ ts) ≡ true → begins? t ≡ false
+unfolding still every
+still-first t ts h = not-left (begins? t) (and-left (not (begins? t)) (still ts) h)
+
+pub still-rest : (t : Token) (ts : List Token) → still (t ∷ ts) ≡ true → still ts ≡ true
+unfolding still every
+still-rest t ts h = and-right (not (begins? t)) (still ts) h
+
+pub still-more : (t : Token) (ts : List Token) → begins? t ≡ false → still ts ≡ true → still (t ∷ ts) ≡ true
+unfolding still every
+still-more t ts h k = rw h k
+
+pub still-none : still [] ≡ true
+unfolding still every
+still-none = refl
+
+pub still-append : (ts us : List Token) → still ts ≡ true → still us ≡ true → still (ts ++ us) ≡ true
+still-append [] us h k = k
+still-append (t ∷ ts) us h k = still-more t (ts ++ us) (still-first t ts h) (still-append ts us (still-rest t ts h) k)
+
+-- the length of a token does not depend on the names
+written-size : (ks ns : List (List ℕ)) (t : Token) → length (written ks t) ≡ length (own-bytes ns t)
+unfolding written own-bytes variable-bytes
+written-size ks ns (statement t) = refl
+written-size ks ns (assigned n) = refl
+written-size ks ns (operator t) = refl
+written-size ks ns (variable n) = refl
+written-size ks ns (constant b) = refl
+written-size ks ns (string b) = refl
+written-size ks ns (raw b) = refl
+written-size ks ns out-of-range = refl
+written-size ks ns unreadable = refl
+
+own-size : (ks ns : List (List ℕ)) (t : Token) → length (own-bytes ks t) ≡ length (own-bytes ns t)
+own-size ks ns t = sym (written-size [] ks t) ∙ written-size [] ns t
+
+next-any : (ks ns : List (List ℕ)) (ts : List Token) → to-next ks ts ≡ to-next ns ts
+unfolding to-next
+next-any ks ns [] = refl
+next-any ks ns (t ∷ ts) =
+    let e : length (own-bytes ks t) + to-next ks ts ≡ length (own-bytes ns t) + to-next ns ts = omega (arith, own-size ks ns t, next-any ks ns ts) in
+    ap (λ (x : ℕ). pick (begins? t) 0 x) e
+
+next-still : (ks ls : List (List ℕ)) (ts : List Token) → still ts ≡ true → to-next ls ts ≡ length (draft ks ts)
+unfolding to-next draft
+next-still ks ls [] h = refl
+next-still ks ls (t ∷ ts) h =
+    let z : length (own-bytes ls t) + to-next ls ts ≡ length (written ks t ++ draft (after ks t) ts) =
+    omega (arith, next-still (after ks t) ls ts (still-rest t ts h), written-size ks ls t, length-append (written ks t) (draft (after ks t) ts)) in
+    rw (still-first t ts h) z
+
+-- tokens within a statement need no offset
+offsets-still : (ks : List (List ℕ)) (p : ℕ) (ts : List Token) → still ts ≡ true → with-offsets ks p ts ≡ draft ks ts
+unfolding with-offsets draft
+offsets-still ks p [] h = refl
+offsets-still ks p (t ∷ ts) h = rw (still-first t ts h) (ap (λ (l : List ℕ). written ks t ++ l) (offsets-still (after ks t) (p + length (written ks t)) ts (still-rest t ts h)))
+
+-- a statement's offset is where it ends
+pub statement-offsets : (ks : List (List ℕ)) (p : ℕ) (t : Token) (ts : List Token) → begins? t ≡ true → still ts ≡ true
+    → with-offsets ks p (t ∷ ts) ≡ low (p + length (draft ks (t ∷ ts))) ∷ written ks t ++ draft (after ks t) ts
+unfolding with-offsets draft
+statement-offsets ks p t ts h k =
+    let e : suc p + length (written ks t) + to-next ks ts ≡ p + suc (length (written ks t ++ draft (after ks t) ts)) =
+    omega (arith, next-still (after ks t) ks ts k, length-append (written ks t) (draft (after ks t) ts)) in
+    rw h (ap (λ (x : ℕ). low x ∷ written ks t ++ with-offsets (after ks t) (suc p + length (written ks t)) ts) e
+    ∙ ap (λ (l : List ℕ). low (p + suc (length (written ks t ++ draft (after ks t) ts))) ∷ written ks t ++ l) (offsets-still (after ks t) (suc p + length (written ks t)) ts k))
+
+pub statement-draft : (ks : List (List ℕ)) (t : Token) (ts : List Token) → begins? t ≡ true → draft ks (t ∷ ts) ≡ 0 ∷ written ks t ++ draft (after ks t) ts
+unfolding draft
+statement-draft ks t ts h = rw h
+
+-- ---- statements one after another
+
+-- tokens that begin with a statement, or none
+unfoldable pub Starts : List Token → Type 0
+Starts [] = Unit {0}
+Starts (t ∷ ts) = begins? t ≡ true
+
+next-starts : (ks : List (List ℕ)) (us : List Token) → Starts us → to-next ks us ≡ 0
+unfolding to-next Starts
+next-starts ks [] h = refl
+next-starts ks (t ∷ us) h = rw h
+
+next-append : (ks : List (List ℕ)) (ts us : List Token) → Starts us → to-next ks (ts ++ us) ≡ to-next ks ts
+unfolding to-next
+next-append ks [] us h = next-starts ks us h
+next-append ks (t ∷ ts) us h = ap (λ (x : ℕ). pick (begins? t) 0 (length (own-bytes ks t) + x)) (next-append ks ts us h)
+
+module _ (ks : List (List ℕ)) (p : ℕ) (t : Token) (ts us : List Token) (w : List ℕ) where
+  size-begun : (d : List ℕ) → suc p + length w + length d ≡ p + length (low (suc p + length w + to-next ks ts) ∷ w ++ d)
+  size-begun d = omega (arith, length-append w d)
+
+  size-within : (d : List ℕ) → p + length w + length d ≡ p + length (w ++ d)
+  size-within d = omega (arith, length-append w d)
+
+offsets-go : (ks : List (List ℕ)) (p : ℕ) (t : Token) (ts us : List Token) (b : Bool) → begins? t ≡ b → Starts us
+    → ((n : ℕ) → with-offsets (after ks t) n (ts ++ us) ≡ with-offsets (after ks t) n ts ++ with-offsets (add-names (after ks t) ts) (n + length (with-offsets (after ks t) n ts)) us)
+    → with-offsets ks p (t ∷ ts ++ us) ≡ with-offsets ks p (t ∷ ts) ++ with-offsets (add-names (after ks t) ts) (p + length (with-offsets ks p (t ∷ ts))) us
+unfolding with-offsets
+offsets-go ks p t ts us true e s ih =
+    let w = written ks t in
+    let n = suc p + length w in
+    let d = with-offsets (after ks t) n ts in
+    let k = add-names (after ks t) ts in
+    rw e
+    (ap (λ (x : ℕ). low (n + x) ∷ w ++ with-offsets (after ks t) n (ts ++ us)) (next-append ks ts us s)
+    ∙ ap (λ (l : List ℕ). low (n + to-next ks ts) ∷ w ++ l) (ih n)
+    ∙ ap (λ (x : ℕ). low (n + to-next ks ts) ∷ w ++ (d ++ with-offsets k x us)) (size-begun ks p t ts us w d)
+    ∙ ap (λ (l : List ℕ). low (n + to-next ks ts) ∷ l) (sym (append-assoc w d (with-offsets k (p + length (low (n + to-next ks ts) ∷ w ++ d)) us))))
+offsets-go ks p t ts us false e s ih =
+    let w = written ks t in
+    let n = p + length w in
+    let d = with-offsets (after ks t) n ts in
+    let k = add-names (after ks t) ts in
+    rw e
+    (ap (λ (l : List ℕ). w ++ l) (ih n)
+    ∙ ap (λ (x : ℕ). w ++ (d ++ with-offsets k x us)) (size-within ks p t ts us w d)
+    ∙ sym (append-assoc w d (with-offsets k (p + length (w ++ d)) us)))
+
+-- what comes before a statement does not know of it
+pub offsets-append : (ks : List (List ℕ)) (p : ℕ) (ts us : List Token) → Starts us
+    → with-offsets ks p (ts ++ us) ≡ with-offsets ks p ts ++ with-offsets (add-names ks ts) (p + length (with-offsets ks p ts)) us
+unfolding with-offsets add-names
+offsets-append ks p [] us s = ap (λ (x : ℕ). with-offsets ks x us) (sym (add-zero p))
+offsets-append ks p (t ∷ ts) us s =
+    offsets-go ks p t ts us (begins? t) refl s (λ n. offsets-append (after ks t) n ts us s)
+    ∙ ap (λ (k : List (List ℕ)). with-offsets ks p (t ∷ ts) ++ with-offsets k (p + length (with-offsets ks p (t ∷ ts))) us) (sym (add-one-by-one ks t ts))
+
+-- ---- the whole line, over all its names
+
+low-small : (n : ℕ) → n < 256 → low n ≡ n
+unfolding low
+low-small n h = mod-eq-of-lt h
+
+low-name : (ks ns : List (List ℕ)) (n : List ℕ) (xs : List (List ℕ)) → ns ≡ add-name ks n ++ xs → length ns ≤ 128 → low (0x80 + number-of ks n) ≡ 0x80 + number-of ns n
+low-name ks ns n xs e h =
+    let f : number-of ns n ≡ number-of ks n = ap (λ (l : List (List ℕ)). number-of l n) e ∙ number-at-end ks xs n in
+    let b : 0x80 + number-of ks n < 256 = omega (arith, number-below ks n, ap length e, length-append (add-name ks n) xs) in
+    low-small (0x80 + number-of ks n) b ∙ ap (λ (x : ℕ). 0x80 + x) (sym f)
+
+written-own : (ks : List (List ℕ)) (t : Token) (ts : List Token) → length (add-names (after ks t) ts) ≤ 128 → written ks t ≡ own-bytes (add-names (after ks t) ts) t
+unfolding written own-bytes variable-bytes add-names
+written-own ks (statement t) ts h = refl
+written-own ks (assigned n) ts h = let l = adds-extend (add-name ks n) ts in ap (λ (x : ℕ). 0x36 ∷ x ∷ []) (low-name ks (add-names (add-name ks n) ts) n (l .more) (l .whole) h)
+written-own ks (operator t) ts h = refl
+written-own ks (variable n) ts h = let l = adds-extend (add-name ks n) ts in ap (λ (x : ℕ). x ∷ []) (low-name ks (add-names (add-name ks n) ts) n (l .more) (l .whole) h)
+written-own ks (constant b) ts h = refl
+written-own ks (string b) ts h = refl
+written-own ks (raw b) ts h = refl
+written-own ks out-of-range ts h = refl
+written-own ks unreadable ts h = refl
+
+size-go : (ks ns : List (List ℕ)) (p : ℕ) (t : Token) (ts : List Token) (b : Bool) → begins? t ≡ b
+    → ((n m : ℕ) → n ≡ m → length (with-offsets (after ks t) n ts) ≡ length (token-bytes ns m ts)) → length (with-offsets ks p (t ∷ ts)) ≡ length (token-bytes ns p (t ∷ ts))
+unfolding with-offsets token-bytes
+size-go ks ns p t ts true e ih =
+    let w = written ks t in
+    let v = own-bytes ns t in
+    let l = written-size ks ns t in
+    let i = ih (suc p + length w) (suc p + length v) (omega arith) in
+    let z : suc (length (w ++ with-offsets (after ks t) (suc p + length w) ts)) ≡ suc (length (v ++ token-bytes ns (suc p + length v) ts)) =
+    omega (arith, i, l, length-append w (with-offsets (after ks t) (suc p + length w) ts), length-append v (token-bytes ns (suc p + length v) ts)) in
+    rw e z
+size-go ks ns p t ts false e ih =
+    let w = written ks t in
+    let v = own-bytes ns t in
+    let l = written-size ks ns t in
+    let i = ih (p + length w) (p + length v) (omega arith) in
+    let z : length (w ++ with-offsets (after ks t) (p + length w) ts) ≡ length (v ++ token-bytes ns (p + length v) ts) =
+    omega (arith, i, l, length-append w (with-offsets (after ks t) (p + length w) ts), length-append v (token-bytes ns (p + length v) ts)) in
+    rw e z
+
+-- the length of the line does not depend on the names
+pub offsets-size : (ks ns : List (List ℕ)) (p : ℕ) (ts : List Token) → length (with-offsets ks p ts) ≡ length (token-bytes ns p ts)
+unfolding with-offsets token-bytes
+offsets-size ks ns p [] = refl
+offsets-size ks ns p (t ∷ ts) =
+    size-go ks ns p t ts (begins? t) refl (λ n m z. ap (λ (x : ℕ). length (with-offsets (after ks t) x ts)) z ∙ offsets-size (after ks t) ns m ts)
+
+-- up to the next statement is not past the line's end
+next-within : (ns : List (List ℕ)) (p : ℕ) (ts : List Token) → to-next ns ts ≤ length (token-bytes ns p ts)
+unfolding to-next token-bytes
+next-within ns p [] = omega arith
+next-within ns p (t ∷ ts) = go (begins? t) (next-within ns (p + length (own-bytes ns t)) ts)
+  where
+    go : (b : Bool) → to-next ns ts ≤ length (token-bytes ns (p + length (own-bytes ns t)) ts)
+        → pick b 0 (length (own-bytes ns t) + to-next ns ts)
+        ≤ length (pick b ((suc p + length (own-bytes ns t) + to-next ns ts) ∷ own-bytes ns t ++ token-bytes ns (suc p + length (own-bytes ns t)) ts) (own-bytes ns t ++ token-bytes ns (p + length (own-bytes ns t)) ts))
+    go true h = omega arith
+    go false h = omega (arith, length-append (own-bytes ns t) (token-bytes ns (p + length (own-bytes ns t)) ts))
+
+fits-go : (ks ns : List (List ℕ)) (p : ℕ) (t : Token) (ts : List Token) (b : Bool) → begins? t ≡ b → written ks t ≡ own-bytes ns t → p + length (token-bytes ns p (t ∷ ts)) ≤ 255
+    → ((n : ℕ) → n + length (token-bytes ns n ts) ≤ 255 → with-offsets (after ks t) n ts ≡ token-bytes ns n ts) → with-offsets ks p (t ∷ ts) ≡ token-bytes ns p (t ∷ ts)
+unfolding with-offsets token-bytes
+fits-go ks ns p t ts true e w h ih =
+    let v = own-bytes ns t in
+    let n = suc p + length v in
+    let g : p + suc (length (v ++ token-bytes ns n ts)) ≤ 255 = rw e at h in
+    let s : n + length (token-bytes ns n ts) ≤ 255 = omega (arith, length-append v (token-bytes ns n ts)) in
+    let o : low (n + to-next ks ts) ≡ n + to-next ns ts =
+    ap (λ (x : ℕ). low (n + x)) (next-any ks ns ts) ∙ low-small (n + to-next ns ts) (omega (arith, next-within ns n ts)) in
+    rw (e, w) (ap (λ (x : ℕ). x ∷ v ++ with-offsets (after ks t) n ts) o ∙ ap (λ (l : List ℕ). (n + to-next ns ts) ∷ v ++ l) (ih n s))
+fits-go ks ns p t ts false e w h ih =
+    let v = own-bytes ns t in
+    let n = p + length v in
+    let g : p + length (v ++ token-bytes ns n ts) ≤ 255 = rw e at h in
+    let s : n + length (token-bytes ns n ts) ≤ 255 = omega (arith, length-append v (token-bytes ns n ts)) in
+    rw (e, w) (ap (λ (l : List ℕ). v ++ l) (ih n s))
+
+fits-over : (ks ns : List (List ℕ)) (p : ℕ) (ts : List Token) → ns ≡ add-names ks ts → length ns ≤ 128 → p + length (token-bytes ns p ts) ≤ 255 → with-offsets ks p ts ≡ token-bytes ns p ts
+unfolding with-offsets token-bytes
+fits-over ks ns p [] e n h = refl
+fits-over ks ns p (t ∷ ts) e n h =
+    let f : ns ≡ add-names (after ks t) ts = e ∙ add-one-by-one ks t ts in
+    let w : written ks t ≡ own-bytes ns t =
+    written-own ks t ts (subst (λ (l : List (List ℕ)). length l ≤ 128) f n) ∙ ap (λ (l : List (List ℕ)). own-bytes l t) (sym f) in
+    fits-go ks ns p t ts (begins? t) refl w h (λ m k. fits-over (after ks t) ns m ts f n k)
+
+-- a line of at most 255 bytes over at most 128 names is written as it is
+pub line-fits : (ks : List (List ℕ)) (n : ℕ) (ts : List Token) → length (add-names ks ts) ≤ 128 → length (line-bytes (add-names ks ts) n ts) ≤ 255
+    → written-line ks n ts ≡ line-bytes (add-names ks ts) n ts
+unfolding written-line line-bytes
+line-fits ks n ts h k =
+    let e : with-offsets ks 3 ts ≡ token-bytes (add-names ks ts) 3 ts = fits-over ks (add-names ks ts) 3 ts refl h (omega arith) in
+    let z : low (3 + length (with-offsets ks 3 ts)) ≡ 3 + length (token-bytes (add-names ks ts) 3 ts) =
+    ap (λ (l : List ℕ). low (3 + length l)) e ∙ low-small (3 + length (token-bytes (add-names ks ts) 3 ts)) (omega arith) in
+    ap (λ (x : ℕ). n % 256 ∷ n / 256 ∷ x ∷ with-offsets ks 3 ts) z ∙ ap (λ (l : List ℕ). n % 256 ∷ n / 256 ∷ (3 + length (token-bytes (add-names ks ts) 3 ts)) ∷ l) e
+
+-- its length is the line's in any case
+pub line-size : (ks : List (List ℕ)) (n : ℕ) (ts : List Token) → length (written-line ks n ts) ≡ length (line-bytes (add-names ks ts) n ts)
+unfolding written-line line-bytes
+line-size ks n ts = ap (λ (x : ℕ). suc (suc (suc x))) (offsets-size ks (add-names ks ts) 3 ts)

@@ -1,0 +1,51 @@
+-- What reading a text gives, from the definitions of document 01.
+use Prim.Native.Nat.{ℕ, _≤_}
+use mathlib.Core.Path.{_≡_}
+use mathlib.Core.Bool.{false}
+use mathlib.Core.List.{List}
+use lib.Dec.{eqb}
+use lib.ListN.{length}
+use lib.Seq.{sets}
+use Rattle.paper.specs.Bytes.{pick, blank?, run}
+use Rattle.paper.specs.Tokens.{Token}
+use Rattle.paper.specs.Names.{names-in, name-bytes, add-names}
+use Rattle.paper.specs.Line.{line-bytes}
+use Rattle.paper.specs.Calls.{Translated, tokens, refused-at, translate, Head, numbered, too-great, no-digit, head-of}
+use Rattle.laws.specs.Names.{names-added}
+use Rattle.enter_item.specs.Draft.{written-line}
+use Rattle.enter_line.specs.declared.Reading.{Reading}
+use Rattle.enter_line.specs.declared.Reading.the-variants.{Read, Delete, Refused}
+
+-- a translation over the names ks, of the line with number n
+unfoldable pub of-translated : List (List ℕ) → ℕ → Translated → Reading
+of-translated ks n (tokens ts) = Read (record { number = n; size = length (line-bytes (add-names ks ts) n ts); named = length (name-bytes (names-added ks ts)) })
+of-translated ks n (refused-at k p) = Refused k p
+
+-- by what stands after the number: nothing but blanks deletes
+unfoldable pub of-head : List (List ℕ) → Head → Reading
+of-head ks (numbered n p rest) = let read = of-translated ks n (translate p rest) in pick (eqb (run blank? rest) (length rest)) (Delete n) read
+of-head ks too-great = Refused 3 0
+of-head ks no-digit = Refused 3 0
+
+-- the answer to a text
+unfoldable pub reading : List (List ℕ) → List ℕ → Reading
+reading ks text = of-head ks (head-of text)
+
+-- An accepted line: it and the names new in it stand at the front of the two buffers; the names can be told apart, and have at most 240
+-- bytes. The line's bytes are those of the definitions if there are at most 255 of them and at most 128 names (`line-fits`).
+pub record Accepted (ks : List (List ℕ)) (n : ℕ) (ts : List Token) (line fresh line′ fresh′ : List ℕ) : Type 0 where
+  pub line-put : line′ ≡ sets line 0 (written-line ks n ts)
+  pub names-put : fresh′ ≡ sets fresh 0 (name-bytes (names-added ks ts))
+  pub told-apart : names-in (name-bytes (names-added ks ts)) ≡ names-added ks ts
+  pub few : length (name-bytes (names-added ks ts)) ≤ 240
+
+-- The answer is the definitions'; and what an accepted text leaves in the two buffers.
+pub record Told (ks : List (List ℕ)) (text line fresh line′ fresh′ : List ℕ) (r : Reading) : Type 0 where
+  pub answer : r ≡ reading ks text
+  pub accepted : (n p : ℕ) (rest : List ℕ) (ts : List Token) → head-of text ≡ numbered n p rest → eqb (run blank? rest) (length rest) ≡ false → translate p rest ≡ tokens ts
+      → Accepted ks n ts line fresh line′ fresh′
+
+-- a number as far as it can be a line's: itself, or any too great
+pub record Capped (v r : ℕ) : Type 0 where
+  pub small : v ≤ 32767 → r ≡ v
+  pub great : r ≤ 32767 → r ≡ v

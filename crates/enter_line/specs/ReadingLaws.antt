@@ -1,0 +1,252 @@
+-- The answer to a text, from its head and from what the reader of statements tells.
+use Prim.Native.Nat.{ℕ, suc, _+_, _*_, _-_, _/_, _%_, _≤_, _<_}
+use native.Mathlib.Omega.{arith}
+use mathlib.Core.Path.{_≡_, refl, subst, sym, ap, _∙_}
+use mathlib.Core.Bool.{Bool, true, false}
+use mathlib.Core.List.{List, [], _∷_, _++_, append-nil}
+use lib.Dec.{eqb, leb}
+use borrow.Author.Tests.{eq-eqb, ne-eqb, le-leb, lt-leb, leb-true, leb-false}
+use native.Mathlib.Nat.{mod-eq-of-lt, div-add-mod}
+use lib.ListN.{length, take, drop, getD, set}
+use lib.Seq.{sets, drop-drop, drop-cons, drop-append-seam}
+use Rattle.paper.specs.Bytes.{pick, digit?, blank?, run}
+use Rattle.paper.specs.Tokens.{Token}
+use Rattle.paper.specs.Constants.{value}
+use Rattle.paper.specs.Names.{names-in, name-bytes, add-names}
+use Rattle.paper.specs.Items.{scan, items}
+use Rattle.paper.specs.Machine.{read}
+use Rattle.paper.specs.Grammar.{look-in-range, start}
+use Rattle.paper.specs.Line.{line-bytes, lawful-number?}
+use Rattle.paper.specs.WellFormed.{tokens-of}
+use Rattle.paper.specs.Calls.{tokens, refused-at, place-of, outcome, translate, numbered, too-great, no-digit, head-of}
+use Rattle.laws.specs.Names.{names-added, closed?}
+use Rattle.buffers.specs.Sets.{front}
+use Rattle.enter_item.specs.Draft.{low, with-offsets, written-line}
+use Rattle.enter_item.specs.DraftLaws.{line-size}
+use Rattle.enter_item.specs.Says.{env, Mem, mem, spot, known, items-at, Asks}
+use Rattle.enter_item.specs.declared.Spot.{Spot}
+use Rattle.enter_statement.specs.Ends.{Halts}
+use Rattle.enter_line.specs.Lines.{Finishes}
+use Rattle.enter_line.specs.LineLaws.{sets-set}
+use Rattle.enter_line.specs.Reading.{of-translated, of-head, reading, Accepted, Told, Capped}
+use Rattle.enter_line.specs.declared.Reading.the-variants.{Read, Delete, Refused}
+
+-- ---- the number
+
+value-grows : (a : ℕ) (ds : List ℕ) → a ≤ value a ds
+unfolding value
+value-grows a [] = omega arith
+value-grows a (d ∷ ds) = let h = value-grows (a * 10 + (d - 48)) ds in omega arith
+
+-- one digit more
+pub value-step : (s : List ℕ) (i e v : ℕ) → i < e → e ≤ length s → value v (take (e - i) (drop i s)) ≡ value (v * 10 + (getD s i 0 - 48)) (take (e - (i + 1)) (drop (i + 1) s))
+unfolding value
+value-step s i e v h k =
+    let z : e - i ≡ suc (e - (i + 1)) = omega arith in
+    let y : suc i ≡ i + 1 = omega arith in
+    ap (λ (n : ℕ). value v (take n (drop i s))) z
+    ∙ ap (λ (l : List ℕ). value v (take (suc (e - (i + 1))) l)) (drop-cons s i 0 (omega arith))
+    ∙ ap (λ (n : ℕ). value (v * 10 + (getD s i 0 - 48)) (take (e - (i + 1)) (drop n s))) y
+
+pub value-end : (s : List ℕ) (i e v : ℕ) → e ≤ i → value v (take (e - i) (drop i s)) ≡ v
+unfolding value
+value-end s i e v h = let z : e - i ≡ 0 = omega arith in ap (λ (n : ℕ). value v (take n (drop i s))) z
+
+pub capped-whole : {v r : ℕ} → r ≡ v → Capped v r
+capped-whole e = record { small = λ h. e; great = λ h. e }
+
+-- already too great
+pub capped-great : {v : ℕ} (r : ℕ) (ds : List ℕ) → v ≡ value r ds → 32767 < r → Capped v r
+capped-great {v} r ds e h = let g = value-grows r ds in record { small = λ k. absurd (omega arith); great = λ k. absurd (omega arith) }
+
+-- ---- the head
+
+module _ (text : List ℕ) (b e : ℕ) (blanks : b ≡ run blank? text) (digits : e ≡ b + run digit? (drop b text)) where
+  head-as : head-of text
+      ≡ (let d = run digit? (drop b text) in
+      let n = value 0 (take d (drop b text)) in
+      pick (eqb d 0) no-digit (pick (lawful-number? n) (numbered n (b + d) (drop d (drop b text))) too-great))
+  unfolding head-of
+  head-as = rw blanks
+
+  pub head-none : e ≡ b → head-of text ≡ no-digit
+  head-none h = head-as ∙ rw (eq-eqb (run digit? (drop b text)) 0 (omega arith))
+
+  size : e - b ≡ run digit? (drop b text)
+  size = omega arith
+
+  pub head-great : (e ≡ b → ⊥) → 32767 < value 0 (take (e - b) (drop b text)) → head-of text ≡ too-great
+  unfolding lawful-number?
+  head-great h k =
+      let z : 32767 < value 0 (take (run digit? (drop b text)) (drop b text)) = subst (λ (n : ℕ). 32767 < value 0 (take n (drop b text))) size k in
+      head-as ∙ rw (ne-eqb (run digit? (drop b text)) 0 (λ y. h (omega arith)), lt-leb (value 0 (take (run digit? (drop b text)) (drop b text))) 32767 z)
+
+  pub head-number : (n : ℕ) → (e ≡ b → ⊥) → n ≡ value 0 (take (e - b) (drop b text)) → n ≤ 32767 → head-of text ≡ numbered n e (drop e text)
+  unfolding lawful-number?
+  head-number n h w k =
+      let v : n ≡ value 0 (take (run digit? (drop b text)) (drop b text)) = w ∙ ap (λ (x : ℕ). value 0 (take x (drop b text))) size in
+      let z : value 0 (take (run digit? (drop b text)) (drop b text)) ≤ 32767 = subst (λ (x : ℕ). x ≤ 32767) v k in
+      head-as
+      ∙ rw (ne-eqb (run digit? (drop b text)) 0 (λ y. h (omega arith)), le-leb (value 0 (take (run digit? (drop b text)) (drop b text))) 32767 z)
+      (ap (λ (x : ℕ). numbered x (b + run digit? (drop b text)) (drop (run digit? (drop b text)) (drop b text))) (sym v)
+      ∙ ap (λ (l : List ℕ). numbered n (b + run digit? (drop b text)) l) (drop-drop (run digit? (drop b text)) b text)
+      ∙ ap (λ (x : ℕ). numbered n x (drop x text)) (sym digits))
+
+-- ---- the answer
+
+no-number : {A : Type 0} {n p : ℕ} {rest : List ℕ} → no-digit ≡ numbered n p rest → A
+no-number e = let z : _≡_ {A = ℕ} 0 1 = cc in absurd (omega arith)
+
+no-great : {A : Type 0} {n p : ℕ} {rest : List ℕ} → too-great ≡ numbered n p rest → A
+no-great e = let z : _≡_ {A = ℕ} 0 1 = cc in absurd (omega arith)
+
+pub told-none : {ks : List (List ℕ)} {text line fresh line′ fresh′ : List ℕ} → head-of text ≡ no-digit → Told ks text line fresh line′ fresh′ (Refused 3 0)
+unfolding reading of-head
+told-none {ks} h = record { answer = sym (ap (of-head ks) h); accepted = λ n p rest ts e b t. no-number (sym h ∙ e) }
+
+pub told-great : {ks : List (List ℕ)} {text line fresh line′ fresh′ : List ℕ} → head-of text ≡ too-great → Told ks text line fresh line′ fresh′ (Refused 3 0)
+unfolding reading of-head
+told-great {ks} h = record { answer = sym (ap (of-head ks) h); accepted = λ n p rest ts e b t. no-great (sym h ∙ e) }
+
+blank-same : {x y : List ℕ} → x ≡ y → eqb (run blank? x) (length x) ≡ eqb (run blank? y) (length y)
+blank-same e = ap (λ (l : List ℕ). eqb (run blank? l) (length l)) e
+
+pub told-delete : {ks : List (List ℕ)} {text line fresh line′ fresh′ : List ℕ} {n p : ℕ} {rest : List ℕ} → head-of text ≡ numbered n p rest → run blank? rest ≡ length rest
+    → Told ks text line fresh line′ fresh′ (Delete n)
+unfolding reading of-head
+told-delete {ks} {text} {line} {fresh} {line′} {fresh′} {n} {p} {rest} h k =
+    let z : eqb (run blank? rest) (length rest) ≡ true = eq-eqb (run blank? rest) (length rest) k in
+    record {
+      answer = sym (ap (of-head ks) h ∙ rw z);
+      accepted = λ n′ p′ rest′ ts e b t. let i : rest ≡ rest′ = cc in let y : true ≡ false = sym z ∙ blank-same i ∙ b in let q : _≡_ {A = ℕ} 0 1 = cc in absurd (omega arith);
+    }
+
+pub told-refused : {ks : List (List ℕ)} {text line fresh line′ fresh′ : List ℕ} {n p k q : ℕ} {rest : List ℕ} → head-of text ≡ numbered n p rest → (run blank? rest ≡ length rest → ⊥)
+    → translate p rest ≡ refused-at k q → Told ks text line fresh line′ fresh′ (Refused k q)
+unfolding reading of-head of-translated
+told-refused {ks} {text} {line} {fresh} {line′} {fresh′} {n} {p} {k} {q} {rest} h b t =
+    let z : eqb (run blank? rest) (length rest) ≡ false = ne-eqb (run blank? rest) (length rest) b in
+    record {
+      answer = sym (ap (of-head ks) h ∙ rw z (ap (of-translated ks n) t));
+      accepted = λ n′ p′ rest′ ts e c u.
+          let i : rest ≡ rest′ = cc in
+          let j : p ≡ p′ = cc in
+          let y : refused-at k q ≡ tokens ts = sym t ∙ ap (λ (l : List ℕ). translate p l) i ∙ ap (λ (x : ℕ). translate x rest′) j ∙ u in
+          let w : _≡_ {A = ℕ} 0 1 = cc in absurd (omega arith);
+    }
+
+pub told-read : {ks : List (List ℕ)} {text line fresh line′ fresh′ : List ℕ} {n p size named : ℕ} {rest : List ℕ} {us : List Token} → head-of text ≡ numbered n p rest → (run blank? rest ≡ length rest → ⊥)
+    → translate p rest ≡ tokens us → (Accepted ks n us line fresh line′ fresh′) × (size ≡ length (line-bytes (add-names ks us) n us)) × (named ≡ length (name-bytes (names-added ks us)))
+    → Told ks text line fresh line′ fresh′ (Read (record { number = n; size = size; named = named }))
+unfolding reading of-head of-translated
+told-read {ks} {text} {line} {fresh} {line′} {fresh′} {n} {p} {size} {named} {rest} {us} h b t w =
+    let z : eqb (run blank? rest) (length rest) ≡ false = ne-eqb (run blank? rest) (length rest) b in
+    record {
+      answer =
+          ap (λ (x : ℕ). Read (record { number = n; size = x; named = named })) (w .1)
+          ∙ ap (λ (x : ℕ). Read (record { number = n; size = length (line-bytes (add-names ks us) n us); named = x })) (w .2)
+          ∙ sym (ap (of-head ks) h ∙ rw z (ap (of-translated ks n) t));
+      accepted = λ n′ p′ rest′ ts e c u.
+          let i : rest ≡ rest′ = cc in
+          let j : p ≡ p′ = cc in
+          let o : n ≡ n′ = cc in
+          let y : tokens us ≡ tokens ts = sym t ∙ ap (λ (l : List ℕ). translate p l) i ∙ ap (λ (x : ℕ). translate x rest′) j ∙ u in
+          let v : us ≡ ts = cc in
+          subst (λ (x : ℕ). Accepted ks x ts line fresh line′ fresh′) o (subst (λ (x : List Token). Accepted ks n x line fresh line′ fresh′) v (w .0));
+    }
+
+-- ---- from the statements
+
+items-from : (text n : List ℕ) (e : ℕ) → items e (drop e text) ≡ items-at (env text 0 n) true e
+unfolding items
+items-from text n e = let z : e ≡ 0 + e = omega arith in ap (λ (p : ℕ). scan 0 true p (drop e text)) z
+
+pub translated-left : {m m′ : Mem} {q′ : Spot} (text n : List ℕ) (e w f : ℕ) → (x : Finishes (env text 0 n) (spot e w f) m q′ m′) → translate e (drop e text) ≡ tokens (tokens-of (x .ts))
+unfolding translate outcome start
+translated-left text n e w f x = ap outcome (ap (read look-in-range start) (items-from text n e) ∙ x .ran)
+
+pub translated-bad : {k p : ℕ} (text n : List ℕ) (e : ℕ) → Halts start (items-at (env text 0 n) true e) k p → translate e (drop e text) ≡ refused-at k p
+unfolding translate outcome place-of
+translated-bad {k} {p} text n e x = ap outcome (ap (read look-in-range start) (items-from text n e) ∙ x .ran) ∙ ap (refused-at k) (sym (x .place))
+
+no-names : (names fresh : List ℕ) (q : Spot) (m : Mem) → q .named ≡ 0 → names-in names ++ names-in (take (q .named) (m .fresh)) ≡ names-in names
+unfolding names-in
+no-names names fresh q m h = ap (λ (k : ℕ). names-in names ++ names-in (take k (m .fresh))) h ∙ append-nil (names-in names)
+
+-- what is asked at the start
+pub first-asks : (text names line fresh : List ℕ) (e : ℕ) → e ≤ length text → length text ≤ 120 → 240 ≤ length fresh → Asks (env text 0 names) (spot e 3 0) (mem line fresh)
+unfolding closed?
+first-asks text names line fresh e h k r = record { within = h; short = omega arith; few = omega arith; added = omega arith; room = r; closed = refl }
+
+pub zero-more : (n : ℕ) → 0 + n ≡ n
+zero-more n = omega arith
+
+sizes : (ks : List (List ℕ)) (n : ℕ) (us : List Token) → 3 + length (with-offsets ks 3 us) ≡ length (line-bytes (add-names ks us) n us)
+unfolding written-line
+sizes ks n us = let z : 3 + length (with-offsets ks 3 us) ≡ suc (suc (suc (length (with-offsets ks 3 us)))) = omega arith in z ∙ line-size ks n us
+
+-- the names that were added are those that stand at the front of the buffer
+apart : {f′ : List ℕ} (ks : List (List ℕ)) (fresh : List ℕ) (us : List Token) (named : ℕ) → f′ ≡ sets fresh 0 (name-bytes (names-added ks us)) → named ≡ length (name-bytes (names-added ks us)) → named ≤ length fresh
+    → ks ++ names-in (take named f′) ≡ add-names ks us → names-in (name-bytes (names-added ks us)) ≡ names-added ks us
+unfolding names-added
+apart {f′} ks fresh us named fw aw room knows =
+    let new = name-bytes (names-added ks us) in
+    let t : take named f′ ≡ new = ap (λ (k : ℕ). take k f′) aw ∙ ap (take (length new)) fw ∙ front fresh new (omega (arith, aw)) in
+    let w : ks ++ names-in new ≡ add-names ks us = ap (λ (l : List ℕ). ks ++ names-in l) (sym t) ∙ knows in
+    sym (drop-append-seam ks (names-in new)) ∙ ap (drop (length ks)) w
+
+-- the head of the line was put before its statements, and its length after them
+pub line-whole : {l₁ l₂ l₃ line′ : List ℕ} {a b c : ℕ} (line names fresh : List ℕ) (text : List ℕ) (n e : ℕ) {q′ : Spot} {f′ : List ℕ} → 240 ≤ length fresh → l₁ ≡ set line 0 a → a ≡ n % 256 → l₂ ≡ set l₁ 1 b
+    → b ≡ n / 256 → (x : Finishes (env text 0 names) (spot e 3 0) (mem l₂ fresh) q′ (mem l₃ f′)) → line′ ≡ set l₃ 2 c → c ≡ low (q′ .written)
+    → (Accepted (names-in names) n (tokens-of (x .ts)) line fresh line′ f′) × (q′ .written ≡ length (line-bytes (add-names (names-in names) (tokens-of (x .ts))) n (tokens-of (x .ts))))
+    × (q′ .named ≡ length (name-bytes (names-added (names-in names) (tokens-of (x .ts)))))
+unfolding written-line
+line-whole {l₁} {l₂} {l₃} {line′} {a} {b} {c} line names fresh text n e {q′} {f′} room p₁ ea p₂ eb f p₃ ec =
+    let ks = names-in names in
+    let us = tokens-of (f .ts) in
+    let x = f .lined in
+    let k0 : known (env text 0 names) (spot e 3 0) (mem l₂ fresh) ≡ ks = no-names names fresh (spot e 3 0) (mem l₂ fresh) refl in
+    let body = with-offsets ks 3 us in
+    let lw : l₃ ≡ sets l₂ 3 body = x .line ∙ ap (λ (k : List (List ℕ)). sets l₂ 3 (with-offsets k 3 us)) k0 in
+    let cw : q′ .written ≡ 3 + length body = x .count ∙ ap (λ (k : List (List ℕ)). 3 + length (with-offsets k 3 us)) k0 in
+    let v : c ≡ low (3 + length body) = ec ∙ ap low cw in
+    let fw : f′ ≡ sets fresh 0 (name-bytes (names-added ks us)) = x .fresh ∙ ap (λ (k : List (List ℕ)). sets fresh 0 (name-bytes (names-added k us))) k0 in
+    let aw : q′ .named ≡ length (name-bytes (names-added ks us)) =
+    x .added ∙ ap (λ (k : List (List ℕ)). 0 + length (name-bytes (names-added k us))) k0 ∙ zero-more (length (name-bytes (names-added ks us))) in (
+      record {
+        line-put =
+            p₃ ∙ ap (λ (l : List ℕ). set l 2 c) lw ∙ sets-set l₂ 2 3 c body (omega arith)
+            ∙ ap (λ (l : List ℕ). sets (set l 2 c) 3 body) (p₂ ∙ ap (λ (l : List ℕ). set l 1 b) p₁)
+            ∙ ap (λ (y : ℕ). sets (set (set (set line 0 y) 1 b) 2 c) 3 body) ea
+            ∙ ap (λ (y : ℕ). sets (set (set (set line 0 (n % 256)) 1 y) 2 c) 3 body) eb
+            ∙ ap (λ (y : ℕ). sets (set (set (set line 0 (n % 256)) 1 (n / 256)) 2 y) 3 body) v;
+        names-put = fw;
+        told-apart = apart ks fresh us (q′ .named) fw aw (omega (arith, f .named)) (x .knows ∙ ap (λ (k : List (List ℕ)). add-names k us) k0);
+        few = omega (arith, f .named, aw);
+      },
+      cw ∙ sizes ks n us,
+      aw,
+    )
+
+-- one digit more of a number
+pub value-next : {d b : ℕ} (v whole : ℕ) (s : List ℕ) (i e : ℕ) → whole ≡ value v (take (e - i) (drop i s)) → i < e → e ≤ length s → b ≡ getD s i 0 → d ≡ b - 48
+    → whole ≡ value (v * 10 + d) (take (e - (i + 1)) (drop (i + 1) s))
+value-next {d} {b} v whole s i e h k l p q =
+    let z : getD s i 0 - 48 ≡ d = omega arith in
+    h ∙ value-step s i e v k l ∙ ap (λ (x : ℕ). value (v * 10 + x) (take (e - (i + 1)) (drop (i + 1) s))) z
+
+-- a number that was found too great is
+pub capped-above : {v r : ℕ} → Capped v r → 32767 < r → 32767 < v
+capped-above {v} {r} c h = go (leb v 32767) refl
+  where
+    go : (b : Bool) → leb v 32767 ≡ b → 32767 < v
+    go true e = let k = leb-true v 32767 e in absurd (omega (arith, c .small k))
+    go false e = leb-false v 32767 e
+
+-- the high byte of a line's number is a byte
+pub high-byte : (n : ℕ) → n ≤ 32767 → low (n / 256) ≡ n / 256
+unfolding low
+high-byte n h = mod-eq-of-lt (below n h)
+  where
+    below : (n : ℕ) → n ≤ 32767 → n / 256 < 256
+    below n h = omega (arith, div-add-mod n 256)

@@ -1,0 +1,96 @@
+// From text to token line: the line's number, its statements, and their offsets.
+mod statements;
+
+use buffers::Run;
+use buffers::byte_at;
+use buffers::put;
+use buffers::run_end;
+use enter_item::Spot;
+use enter_item::Step;
+use statements::low_byte;
+use statements::statements;
+ghost use mathlib.Core.Path.{_≡_};
+ghost use Prim.Native.Nat.{_-_, _≤_, _<_};
+ghost use lib.ListN.{length, take, drop};
+ghost use Rattle.paper.specs.Constants.{value};
+ghost use Rattle.paper.specs.Names.{names-in};
+ghost use Rattle.enter_line.specs.Reading.{Told, Capped};
+
+// A line that was read: its number, how many bytes it has, and how many bytes the names new in it have.
+pub struct Line {
+    pub number: usize,
+    pub size: usize,
+    pub named: usize,
+}
+
+// What reading a text gives: a line, the number alone of a line to delete, or a refusal's number and place.
+pub enum Reading {
+    Read(Line),
+    Delete(usize),
+    Refused(u8, usize),
+}
+
+// The greatest number that a line may have.
+const GREATEST_NUMBER: usize = 32767;
+
+// The value of a digit, 0 of a byte below the digits.
+fn digit(b: u8) -> usize
+    ensures { λ r. ⌜ r ≡ b - 48 ⌝ }
+{
+    if 48 <= b { (b - 48) as usize } else { 0 }
+}
+
+// The number that digits of the text are, or any that is too great for a line if they are such a one.
+fn number_between(text: &[u8], from: usize, end: usize) -> usize
+    requires { ⌜ (from ≤ end) × (end ≤ length (now text)) ⌝ }
+    ensures { λ r. ⌜ Capped (value 0 (take (end - from) (drop from (now (text .entry))))) r ⌝ }
+{
+    let mut number: usize = 0;
+    let mut i = from;
+    while i < end {
+        number = number * 10 + digit(byte_at(text, i));
+        if GREATEST_NUMBER < number {
+            return number;
+        }
+        i += 1;
+    }
+    number
+}
+
+// Reads a text of at most 120 bytes over the first `size` bytes of a name table. An accepted line is written to the front of `line`, and the
+// names that are new in it to the front of `fresh`; what they hold after any other answer is scratch.
+pub fn read(text: &[u8], names: &[u8], size: usize, line: &mut [u8], fresh: &mut [u8]) -> Reading
+    requires { ⌜ (length (now text) ≤ 120) × (size ≤ length (now names)) × (240 ≤ length (now fresh)) ⌝ }
+    ensures { λ r. ⌜ Told (names-in (take size (now (names .entry)))) (now (text .entry)) (now (line .entry)) (now (fresh .entry)) (now (line .exit)) (now (fresh .exit)) r ⌝ }
+{
+    let from = run_end(text, 0, Run::Blanks);
+    let end = run_end(text, from, Run::Digits);
+    if end == from {
+        return Reading::Refused(3, 0);
+    }
+    let number = number_between(text, from, end);
+    if GREATEST_NUMBER < number {
+        return Reading::Refused(3, 0);
+    }
+    if run_end(text, end, Run::Blanks) == text.len() {
+        return Reading::Delete(number);
+    }
+    put(line, 0, low_byte(number));
+    put(line, 1, low_byte(number / 256));
+    let start = Spot {
+        at: end,
+        written: 3,
+        named: 0,
+    };
+    match statements(text, start, line, &names[..size], fresh) {
+        Step::Done(p) => {
+            put(line, 2, low_byte(p.written));
+            Reading::Read(Line {
+                number,
+                size: p.written,
+                named: p.named,
+            })
+        }
+        Step::Refused(k, p) => Reading::Refused(k, p),
+    }
+}

@@ -1,0 +1,363 @@
+-- The two passes: what holds before each piece of a line.
+use Prim.Native.Nat.{ℕ, zero, suc, _+_, _-_, _*_, _≤_, _<_}
+use native.Mathlib.Omega.{arith}
+use native.Mathlib.Numerals.{add-one}
+use mathlib.Core.Path.{_≡_, refl, subst, sym, ap, ap₂, _∙_}
+use mathlib.Core.Bool.{Bool, true, false, not}
+use mathlib.Core.Logic.{_⊎_, inl, inr, ⊎-elim}
+use mathlib.Core.List.{List, [], _∷_, _++_, append-nil, append-assoc}
+use lib.Dec.{T, leb, leb→le, le→leb}
+use lib.ListN.{length, drop, getD, length-append, length-drop, drop-of-length-le}
+use lib.Seq.{sets, sets-eq, drop-drop}
+use borrow.Author.Tests.{le-leb, lt-leb, lt-ltb, le-ltb, leb-true, leb-false}
+use Rattle.paper.specs.Bytes.{blank, every}
+use Rattle.paper.specs.Tokens.{Token}
+use Rattle.paper.specs.Grammar.{start}
+use Rattle.paper.specs.Line.{line-number, lawful-number?, token-bytes, to-next, tokens-from, line-tokens}
+use Rattle.paper.specs.WellFormed.{well-formed?}
+use Rattle.paper.specs.Listing.{decimal, token-text, body-text, listing-text, listing}
+use Rattle.paper.specs.Store.{overwritten}
+use Rattle.paper.specs.Calls.{not-listed}
+use Rattle.laws.specs.Tests.{is-true, as-T}
+use Rattle.buffers.specs.Sets.{sets-append}
+use Rattle.list_pieces.specs.declared.Piece.{Piece}
+use Rattle.list_pieces.specs.declared.Piece.the-variants as Piece′
+use Rattle.list_line.specs.declared.Outcome.the-variants as Outcome′
+use Rattle.list_line.specs.declared.first.Measure.{Measure}
+use Rattle.list_line.specs.declared.first.Measure.the-variants as Measure′
+use Rattle.list_pieces.specs.Pieces.{piece-at, tokens-of-piece, size-of, end-after, Holds}
+use Rattle.list_pieces.specs.Rest.{Takes, Written, Rest, Whole, Head}
+use Rattle.grammar.specs.Stack.{stack}
+use Rattle.list_check.specs.Passes.{Onward}
+use Rattle.list_text.specs.Texts.{piece-text, Writes}
+use Rattle.list_line.specs.Listed.{capped, found, measured, answer, lists}
+use Rattle.list_pieces.specs.WellFormed.{passes-whole, whole-passes}
+use Rattle.list_pieces.specs.Decoded.{pieces}
+use Rattle.list_pieces.specs.RestLaws.{later, written-here}
+
+-- ---- lengths up to a room
+
+capped-low : (room n : ℕ) → n ≤ room → capped room n ≡ n
+unfolding capped
+capped-low room n h = rw (le-leb n room h)
+
+capped-high : (room n : ℕ) → room < n → capped room n ≡ suc room
+unfolding capped
+capped-high room n h = rw (lt-leb n room h)
+
+pub over-room : (room total more : ℕ) → total ≤ room + 1 → room < total → total ≡ capped room (total + more)
+over-room room total more h k = let e : total ≡ suc room = omega arith in e ∙ sym (capped-high room (total + more) (omega arith))
+
+pub past-room : (room total more : ℕ) → total ≤ room → room - total < more → room + 1 ≡ capped room (total + more)
+past-room room total more h k = add-one room ∙ sym (capped-high room (total + more) (omega arith))
+
+pub in-room : (room total more : ℕ) → total ≤ room → more ≤ room - total → total + more ≡ capped room (total + more)
+in-room room total more h k = sym (capped-low room (total + more) (omega arith))
+
+capped-go : (room n : ℕ) (b : Bool) → leb n room ≡ b → ((capped room n ≡ n) × (n ≤ room)) ⊎ ((capped room n ≡ suc room) × (room < n))
+capped-go room n true e = inl (capped-low room n (leb-true n room e), leb-true n room e)
+capped-go room n false e = inr (capped-high room n (leb-false n room e), leb-false n room e)
+
+pub capped-most : (room n : ℕ) → capped room n ≤ room + 1
+capped-most room n = ⊎-elim (λ w. omega (arith, w .0, w .1)) (λ w. omega (arith, w .0)) (capped-go room n (leb n room) refl)
+
+capped-more : (room m k : ℕ) → capped room (capped room m + k) ≡ capped room (m + k)
+capped-more room m k =
+    ⊎-elim (λ w. ap (λ (z : ℕ). capped room (z + k)) (w .0)) (λ w. capped-high room (capped room m + k) (omega (arith, w .0)) ∙ sym (capped-high room (m + k) (omega (arith, w .1)))) (capped-go room m (leb m room) refl)
+
+-- ---- the text of a piece, and of what comes after it
+
+body-append : (xs ys : List Token) → body-text (xs ++ ys) ≡ body-text xs ++ body-text ys
+unfolding body-text
+body-append [] ys = refl
+body-append (x ∷ xs) ys = ap (λ (z : List ℕ). token-text x ++ z) (body-append xs ys) ∙ sym (append-assoc (token-text x) (body-text xs) (body-text ys))
+
+tokens-first : (ns : List (List ℕ)) (p end : ℕ) (u : List ℕ) (c : Piece) → 0 < length u → piece-at p end u ≡ c → tokens-from ns 0 p end u ≡ tokens-of-piece ns u c ++ later ns p end u c
+tokens-first ns p end [] c h e = absurd (omega arith)
+tokens-first ns p end (b ∷ s) c h e = subst (λ (z : Piece). tokens-from ns 0 p end (b ∷ s) ≡ tokens-of-piece ns (b ∷ s) z ++ later ns p end (b ∷ s) z) e (pieces ns p end b s)
+
+-- the tokens from a place of a line on
+abbrev pub tokens-at : List (List ℕ) → List ℕ → ℕ → ℕ → List Token
+tokens-at ns l at end = tokens-from ns 0 at end (drop at l)
+
+pub text-first : (ns : List (List ℕ)) (l : List ℕ) (at end : ℕ) (c : Piece) → at < length l → piece-at at end (drop at l) ≡ c
+    → body-text (tokens-at ns l at end) ≡ piece-text ns (drop at l) c ++ body-text (tokens-at ns l (at + size-of c) (end-after end (drop at l) c))
+unfolding piece-text
+text-first ns l at end c h e =
+    let m : drop (size-of c) (drop at l) ≡ drop (at + size-of c) l = drop-drop (size-of c) at l in
+    ap body-text (tokens-first ns at end (drop at l) c (omega (arith, length-drop at l)) e)
+    ∙ body-append (tokens-of-piece ns (drop at l) c) (later ns at end (drop at l) c)
+    ∙ ap (λ (z : List ℕ). body-text (tokens-of-piece ns (drop at l) c) ++ body-text (tokens-from ns 0 (at + size-of c) (end-after end (drop at l) c) z)) m
+
+head-listing : (ns : List (List ℕ)) (l : List ℕ) → (decimal 5 (line-number l) ++ blank ∷ []) ++ body-text (tokens-at ns l 3 3) ≡ listing ns l
+unfolding listing listing-text line-tokens
+head-listing ns l = append-assoc (decimal 5 (line-number l)) (blank ∷ []) (body-text (tokens-at ns l 3 3))
+
+-- ---- the first pass
+
+-- before the piece at a place: the line is well-formed exactly if the rest is; so much was counted, and so much is left
+pub record Measuring (ns : List (List ℕ)) (l : List ℕ) (room : ℕ) (frames : List ℕ) (at end depth total : ℕ) : Type 0 where
+  pub within : at ≤ length l
+  pub shallow : depth ≤ 8 * at
+  pub down : T (well-formed? ns l) → Rest ns (stack frames depth) at end (drop at l)
+  pub up : Rest ns (stack frames depth) at end (drop at l) → T (well-formed? ns l)
+  pub before : ℕ
+  pub count : total ≡ capped room before
+  pub sum : before + length (body-text (tokens-at ns l at end)) ≡ length (listing ns l)
+
+one-frame : (frames : List ℕ) → getD frames 0 0 ≡ 0 → stack frames 1 ≡ start
+unfolding stack start
+one-frame frames e = ap (λ (f : ℕ). f ∷ []) e
+
+pub measuring-first : (ns : List (List ℕ)) (l : List ℕ) (room : ℕ) (frames : List ℕ) (k total : ℕ) {old new : List ℕ} → Head l → getD l 0 0 < 256 → getD frames 0 0 ≡ 0 → Writes (decimal 5 (line-number l) ++ blank ∷ []) 0 old k new → total ≡ capped room (0 + k)
+    → Measuring ns l room frames 3 3 1 total
+measuring-first ns l room frames k total h low f w e =
+    let s : stack frames 1 ≡ start = one-frame frames f in
+    let z : 0 + k ≡ length (decimal 5 (line-number l) ++ blank ∷ []) = omega (arith, w .size) in
+    record {
+      within = h .long;
+      shallow = omega arith;
+      down = λ t. subst (λ (fs : List ℕ). Rest ns fs 3 3 (drop 3 l)) (sym s) (passes-whole ns l t .body);
+      up = λ r. whole-passes ns l low (record { lawful = h .lawful; sized = h .sized; body = subst (λ (fs : List ℕ). Rest ns fs 3 3 (drop 3 l)) s r });
+      before = length (decimal 5 (line-number l) ++ blank ∷ []);
+      count = e ∙ ap (capped room) z;
+      sum = sym (length-append (decimal 5 (line-number l) ++ blank ∷ []) (body-text (tokens-at ns l 3 3))) ∙ ap length (head-listing ns l);
+    }
+
+module _ {ns : List (List ℕ)} {l : List ℕ} {room : ℕ} {frames : List ℕ} {at end depth total : ℕ} (m : Measuring ns l room frames at end depth total) where
+  pub measuring-next : {c : Piece} {new : List ℕ} {d : ℕ} → at < length l → piece-at at end (drop at l) ≡ c → Onward ns l at end c frames depth d new
+      → {old out : List ℕ} {k : ℕ} → Writes (piece-text ns (drop at l) c) 0 old k out → {more stop step : ℕ} → more ≡ capped room (total + k) → stop ≡ end-after end (drop at l) c → step ≡ size-of c
+      → Measuring ns l room new (at + step) stop d more
+  measuring-next {c} {new} {d} h p o {k = k} w {more} {stop} {step} e f g =
+      let t = text-first ns l at end c h p in
+      let n = length-append (piece-text ns (drop at l) c) (body-text (tokens-at ns l (at + size-of c) (end-after end (drop at l) c))) in
+      let next : Measuring ns l room new (at + size-of c) (end-after end (drop at l) c) d more = record {
+        within = o .within;
+        shallow = omega (arith, m .shallow, o .few);
+        down = λ t. o .down (m .down t);
+        up = λ r. m .up (o .up r);
+        before = m .before + k;
+        count = e ∙ ap (λ (z : ℕ). capped room (z + k)) (m .count) ∙ capped-more room (m .before) k;
+        sum = omega (arith, m .sum, n, ap length t, w .size);
+      } in
+      subst (λ (z : ℕ). Measuring ns l room new (at + z) stop d more) (sym g) (subst (λ (z : ℕ). Measuring ns l room new (at + size-of c) z d more) (sym f) next)
+
+  not-so : (b : Bool) → (T b → ⊥) → b ≡ false
+  not-so true n = absurd (n tt)
+  not-so false n = refl
+
+  -- the rest is not that of a well-formed line
+  pub measuring-fails : (Rest ns (stack frames depth) at end (drop at l) → ⊥) → Measure′.NotWellFormed ≡ measured ns l room
+  unfolding measured found
+  measuring-fails n = sym (ap (λ (b : Bool). found b (capped room (length (listing ns l)))) (not-so (well-formed? ns l) (λ t. n (m .down t))))
+
+  ended : length l ≤ at → drop at l ≡ []
+  ended h = drop-of-length-le l h
+
+  none-left : (fs : List ℕ) → Rest ns fs at end [] → (at ≡ end) × (fs ≡ [])
+  unfolding tokens-from to-next Takes
+  none-left [] r = (omega (arith, r .written .next), refl)
+  none-left (f ∷ fs) r = absurd (r .taken)
+
+  nothing-left : at ≡ end → Rest ns [] at end []
+  unfolding tokens-from to-next token-bytes every Takes
+  nothing-left e = record { taken = tt; written = record { right = tt; bytes = refl; next = omega arith } }
+
+  pub measuring-open : length l ≤ at → (end ≡ at → ⊥) → Measure′.NotWellFormed ≡ measured ns l room
+  measuring-open h n = measuring-fails (λ r. n (sym (none-left (stack frames depth) (subst (Rest ns (stack frames depth) at end) (ended h) r) .0)))
+
+  some-frames : (d : ℕ) → (d ≡ 0 → ⊥) → stack frames d ≡ [] → ⊥
+  unfolding stack
+  some-frames zero n e = n refl
+  some-frames (suc d) n e = let z : _≡_ {A = ℕ} 0 1 = cc in absurd (omega arith)
+
+  pub measuring-wants : length l ≤ at → (depth ≡ 0 → ⊥) → Measure′.NotWellFormed ≡ measured ns l room
+  measuring-wants h n = measuring-fails (λ r. some-frames depth n (none-left (stack frames depth) (subst (Rest ns (stack frames depth) at end) (ended h) r) .1))
+
+  pub measuring-done : length l ≤ at → end ≡ at → depth ≡ 0 → Measure′.Length total ≡ measured ns l room
+  unfolding measured found stack body-text tokens-from
+  measuring-done h e d =
+      let s : stack frames depth ≡ [] = ap (stack frames) d in
+      let r : Rest ns (stack frames depth) at end (drop at l) = subst (λ (fs : List ℕ). Rest ns fs at end (drop at l)) (sym s) (subst (Rest ns [] at end) (sym (ended h)) (nothing-left (sym e))) in
+      let t : well-formed? ns l ≡ true = is-true (well-formed? ns l) (m .up r) in
+      let z : body-text (tokens-at ns l at end) ≡ [] = ap (λ (u : List ℕ). body-text (tokens-from ns 0 at end u)) (ended h) in
+      let k : m .before ≡ length (listing ns l) = omega (arith, m .sum, ap length z) in
+      ap Measure′.Length (m .count ∙ ap (capped room) k) ∙ sym (ap (λ (b : Bool). found b (capped room (length (listing ns l)))) t)
+
+-- ---- a line whose head is not right
+
+not-formed : (b : Bool) → (T b → ⊥) → b ≡ false
+not-formed true n = absurd (n tt)
+not-formed false n = refl
+
+not-measured : (ns : List (List ℕ)) (l : List ℕ) (room : ℕ) → (Whole ns l → ⊥) → Measure′.NotWellFormed ≡ measured ns l room
+unfolding measured found
+not-measured ns l room n = sym (ap (λ (b : Bool). found b (capped room (length (listing ns l)))) (not-formed (well-formed? ns l) (λ t. n (passes-whole ns l t))))
+
+empty-fails : (ns : List (List ℕ)) → Rest ns start 3 3 [] → ⊥
+unfolding tokens-from Takes start
+empty-fails ns r = r .taken
+
+short-go : (ns : List (List ℕ)) (l : List ℕ) → length l < 3 → Whole ns l → ⊥
+short-go ns [] h w = empty-fails ns (w .body)
+short-go ns (a ∷ []) h w = omega (arith, w .sized)
+short-go ns (a ∷ b ∷ []) h w = omega (arith, w .sized)
+short-go ns (a ∷ b ∷ c ∷ s) h w = omega arith
+
+pub short-line : (ns : List (List ℕ)) (l : List ℕ) (room : ℕ) → length l < 3 → Measure′.NotWellFormed ≡ measured ns l room
+short-line ns l room h = not-measured ns l room (short-go ns l h)
+
+pub wrong-length : (ns : List (List ℕ)) (l : List ℕ) (room : ℕ) → (getD l 2 0 ≡ length l → ⊥) → Measure′.NotWellFormed ≡ measured ns l room
+wrong-length ns l room n = not-measured ns l room (λ w. n (w .sized))
+
+high-go : (l : List ℕ) → 127 < getD l 1 0 → T (lawful-number? (line-number l)) → ⊥
+unfolding lawful-number? line-number
+high-go l h t = omega (arith, leb→le (getD l 0 0 + 256 * getD l 1 0) 32767 t)
+
+pub high-number : (ns : List (List ℕ)) (l : List ℕ) (room : ℕ) → 127 < getD l 1 0 → Measure′.NotWellFormed ≡ measured ns l room
+high-number ns l room h = not-measured ns l room (λ w. high-go l h (w .lawful))
+
+pub right-head : (l : List ℕ) → 3 ≤ length l → getD l 2 0 ≡ length l → getD l 1 0 ≤ 127 → getD l 0 0 < 256 → Head l
+unfolding lawful-number? line-number
+right-head l a b c d = record { long = a; sized = b; lawful = le→leb (getD l 0 0 + 256 * getD l 1 0) 32767 (omega arith) }
+
+-- ---- the second pass
+
+-- Before the piece at a place: what stands there; and the text of the pieces before it, written from place n₀ on, with the text of the rest is
+-- the text of all pieces.
+pub record Writing (ns : List (List ℕ)) (l old : List ℕ) (n₀ at end n : ℕ) (out : List ℕ) : Type 0 where
+  pub within : at ≤ length l
+  pub written : Written ns at end (drop at l) (tokens-at ns l at end)
+  pub text : List ℕ
+  pub place : n ≡ n₀ + length text
+  pub bytes : out ≡ sets old n₀ text
+  pub whole : text ++ body-text (tokens-at ns l at end) ≡ body-text (tokens-at ns l 3 3)
+
+pub formed-long : (ns : List (List ℕ)) (l : List ℕ) → well-formed? ns l ≡ true → 3 ≤ length l
+formed-long ns l e = go (leb 3 (length l)) refl
+  where
+    go : (b : Bool) → leb 3 (length l) ≡ b → 3 ≤ length l
+    go true h = leb-true 3 (length l) h
+    go false h = absurd (short-go ns l (leb-false 3 (length l) h) (passes-whole ns l (as-T (well-formed? ns l) e)))
+
+pub writing-first : (ns : List (List ℕ)) (l old : List ℕ) (n : ℕ) → well-formed? ns l ≡ true → Writing ns l old n 3 3 n old
+writing-first ns l old n e = record {
+  within = formed-long ns l e;
+  written = passes-whole ns l (as-T (well-formed? ns l) e) .body .written;
+  text = [];
+  place = omega arith;
+  bytes = refl;
+  whole = refl;
+}
+
+module _ {ns : List (List ℕ)} {l old : List ℕ} {n₀ at end n : ℕ} {out : List ℕ} (m : Writing ns l old n₀ at end n out) where
+  -- the piece there is right, and its bytes are there
+  pub writing-holds : {c : Piece} → at < length l → piece-at at end (drop at l) ≡ c → Holds ns (drop at l) c × (at + size-of c ≤ length l)
+  writing-holds {c} h e =
+      let r = written-here ns at end (drop at l) c (omega (arith, length-drop at l)) e (m .written) in
+      (r .0, omega (arith, r .1, length-drop at l))
+
+  -- where all fits, this piece does
+  pub writing-fits : {c : Piece} → at < length l → piece-at at end (drop at l) ≡ c → n₀ + length (body-text (tokens-at ns l 3 3)) ≤ length old → n + length (piece-text ns (drop at l) c) ≤ length old
+  writing-fits {c} h e f =
+      let t = text-first ns l at end c h e in
+      omega (arith, m .place, ap length (m .whole), length-append (m .text) (body-text (tokens-at ns l at end)), ap length t, length-append (piece-text ns (drop at l) c) (body-text (tokens-at ns l (at + size-of c) (end-after end (drop at l) c))))
+
+  pub writing-next : {c : Piece} → at < length l → piece-at at end (drop at l) ≡ c → {new : List ℕ} {k : ℕ} → Writes (piece-text ns (drop at l) c) n out k new → {stop step : ℕ} → stop ≡ end-after end (drop at l) c → step ≡ size-of c
+      → Writing ns l old n₀ (at + step) stop (n + k) new
+  writing-next {c} h e {new} {k} w {stop} {step} f g =
+      let r = written-here ns at end (drop at l) c (omega (arith, length-drop at l)) e (m .written) in
+      let d : drop (size-of c) (drop at l) ≡ drop (at + size-of c) l = drop-drop (size-of c) at l in
+      let t = text-first ns l at end c h e in
+      let p : List ℕ = piece-text ns (drop at l) c in
+      let next : Writing ns l old n₀ (at + size-of c) (end-after end (drop at l) c) (n + k) new = record {
+        within = omega (arith, r .1, length-drop at l);
+        written = subst (λ (z : List ℕ). Written ns (at + size-of c) (end-after end (drop at l) c) z (tokens-from ns 0 (at + size-of c) (end-after end (drop at l) c) z)) d (r .2);
+        text = m .text ++ p;
+        place = omega (arith, m .place, w .size, length-append (m .text) p);
+        bytes = w .bytes ∙ ap₂ (λ (o : List ℕ) (z : ℕ). sets o z p) (m .bytes) (m .place) ∙ sym (sets-append old n₀ (m .text) p);
+        whole = append-assoc (m .text) p _ ∙ ap (λ (z : List ℕ). m .text ++ z) (sym t) ∙ m .whole;
+      } in
+      subst (λ (z : ℕ). Writing ns l old n₀ (at + z) stop (n + k) new) (sym g) (subst (λ (z : ℕ). Writing ns l old n₀ (at + size-of c) z (n + k) new) (sym f) next)
+
+  -- all is written
+  writing-body : length l ≤ at → out ≡ sets old n₀ (body-text (tokens-at ns l 3 3))
+  unfolding tokens-from body-text
+  writing-body h =
+      let z : body-text (tokens-at ns l at end) ≡ [] = ap (λ (u : List ℕ). body-text (tokens-from ns 0 at end u)) (drop-of-length-le l h) in
+      m .bytes ∙ ap (sets old n₀) (sym (append-nil (m .text)) ∙ ap (λ (u : List ℕ). m .text ++ u) (sym z) ∙ m .whole)
+
+  pub writing-done : {first : List ℕ} → Writes (decimal 5 (line-number l) ++ blank ∷ []) 0 first n₀ old → length l ≤ at → out ≡ sets first 0 (listing ns l)
+  writing-done {first} w h =
+      let z : n₀ ≡ 0 + length (decimal 5 (line-number l) ++ blank ∷ []) = omega (arith, w .size) in
+      writing-body h ∙ ap₂ (λ (o : List ℕ) (i : ℕ). sets o i (body-text (tokens-at ns l 3 3))) (w .bytes) z
+      ∙ sym (sets-append first 0 (decimal 5 (line-number l) ++ blank ∷ []) (body-text (tokens-at ns l 3 3))) ∙ ap (sets first 0) (head-listing ns l)
+
+-- the text of all pieces fits after the head where the listing fits
+pub body-fits : (ns : List (List ℕ)) (l : List ℕ) {first old : List ℕ} {n : ℕ} → Writes (decimal 5 (line-number l) ++ blank ∷ []) 0 first n old → length old ≡ length first → length (listing ns l) ≤ length first
+    → n + length (body-text (tokens-at ns l 3 3)) ≤ length old
+body-fits ns l w e h = omega (arith, w .size, ap length (head-listing ns l), length-append (decimal 5 (line-number l) ++ blank ∷ []) (body-text (tokens-at ns l 3 3)))
+
+-- every piece has a byte
+pub size-some : (c : Piece) → 1 ≤ size-of c
+unfolding size-of
+size-some (Piece′.Word t) = omega arith
+size-some (Piece′.Text t n) = omega arith
+size-some (Piece′.Target v) = omega arith
+size-some (Piece′.Variable v) = omega arith
+size-some Piece′.Constant = omega arith
+size-some (Piece′.Quoted n) = omega arith
+size-some (Piece′.Operator t) = omega arith
+
+-- ---- the answer
+
+-- what the first pass says of the line and of the length of its listing
+pub record Says (ns : List (List ℕ)) (l : List ℕ) (room n : ℕ) : Type 0 where
+  pub formed : well-formed? ns l ≡ true
+  pub count : n ≡ capped room (length (listing ns l))
+
+found-length : (b : Bool) (k n : ℕ) → found b k ≡ Measure′.Length n → (b ≡ true) × (n ≡ k)
+unfolding found
+found-length true k n e = (refl, (let z : n ≡ k = cc in z))
+found-length false k n e = let z : _≡_ {A = ℕ} 0 1 = cc in absurd (omega arith)
+
+found-none : (b : Bool) (k : ℕ) → found b k ≡ Measure′.NotWellFormed → b ≡ false
+unfolding found
+found-none true k e = let z : _≡_ {A = ℕ} 0 1 = cc in absurd (omega arith)
+found-none false k e = refl
+
+pub says-length : {ns : List (List ℕ)} {l : List ℕ} {room n : ℕ} {r : Measure} → r ≡ measured ns l room → r ≡ Measure′.Length n → Says ns l room n
+unfolding measured
+says-length {ns} {l} {room} {n} e f =
+    let w = found-length (well-formed? ns l) (capped room (length (listing ns l))) n (sym e ∙ f) in
+    record { formed = w .0; count = w .1 }
+
+-- not well-formed
+pub lists-not : (ns : List (List ℕ)) (l out : List ℕ) (room : ℕ) {r : Measure} → r ≡ measured ns l room → r ≡ Measure′.NotWellFormed → answer Outcome′.NotWellFormed out ≡ lists ns l out
+unfolding measured answer lists not-listed
+lists-not ns l out room e f = rw (found-none (well-formed? ns l) (capped room (length (listing ns l))) (sym e ∙ f))
+
+-- longer than the buffer
+pub lists-long : (ns : List (List ℕ)) (l out : List ℕ) (n : ℕ) → Says ns l (length out) n → length out < n → answer Outcome′.TooLong out ≡ lists ns l out
+unfolding answer lists not-listed
+lists-long ns l out n s h =
+    let k : length out < length (listing ns l) = ⊎-elim (λ w. omega (arith, s .count, w .0)) (λ w. w .1) (capped-go (length out) (length (listing ns l)) (leb (length (listing ns l)) (length out)) refl) in
+    rw (s .formed, lt-ltb (length out) (length (listing ns l)) k)
+
+-- as long as it is
+pub lists-fits : (ns : List (List ℕ)) (l : List ℕ) (room n : ℕ) → Says ns l room n → n ≤ room → (n ≡ length (listing ns l)) × (length (listing ns l) ≤ room)
+lists-fits ns l room n s h = ⊎-elim (λ w. (s .count ∙ w .0, w .1)) (λ w. absurd (omega (arith, s .count, w .0))) (capped-go room (length (listing ns l)) (leb (length (listing ns l)) room) refl)
+
+overwrites : (text old : List ℕ) → length text ≤ length old → sets old 0 text ≡ overwritten text old
+unfolding overwritten
+overwrites text old h =
+    let z : 0 + length text ≡ length text = omega arith in
+    sets-eq text old 0 (omega arith) ∙ ap (λ (i : ℕ). text ++ drop i old) z
+
+-- written
+pub lists-written : (ns : List (List ℕ)) (l out new : List ℕ) (n : ℕ) → Says ns l (length out) n → n ≤ length out → new ≡ sets out 0 (listing ns l) → answer (Outcome′.Written n) new ≡ lists ns l out
+unfolding answer lists
+lists-written ns l out new n s h e =
+    let f = lists-fits ns l (length out) n s h in
+    rw (s .formed, le-ltb (length out) (length (listing ns l)) (f .1))
+    (ap₂ (λ (k : ℕ) (o : List ℕ). record { number = 0; written = k; output = o }) (f .0) (e ∙ overwrites (listing ns l) out (f .1)))

@@ -1,0 +1,35 @@
+// From token line to text: whether a line is well-formed, and its listing.
+mod first;
+mod second;
+
+use first::Measure;
+ghost use mathlib.Core.Path.{_≡_};
+ghost use lib.ListN.{take};
+ghost use Rattle.paper.specs.Names.{names-in};
+ghost use Rattle.list_pieces.specs.Rest.{Sound};
+ghost use Rattle.list_line.specs.Listed.{answer, lists};
+
+// What comes of listing a line: it is not well-formed; its listing is longer than the buffer; it is written, so many bytes long.
+pub enum Outcome {
+    NotWellFormed,
+    TooLong,
+    Written(usize),
+}
+
+// Lists a line, of any bytes, over a sound name table of `size` bytes: the listing is written to the front of a buffer, or nothing is.
+pub fn list(line: &[u8], names: &[u8], size: usize, out: &mut [u8]) -> Outcome
+    requires { ⌜ Sound (now names) size ⌝ }
+    ensures { λ r. ⌜ answer r (now (out .exit)) ≡ lists (names-in (take size (now (names .entry)))) (now (line .entry)) (now (out .entry)) ⌝ }
+{
+    let room = out.len();
+    match first::measure_line(line, names, size, room) {
+        Measure::NotWellFormed => Outcome::NotWellFormed,
+        Measure::Length(n) => {
+            if room < n {
+                return Outcome::TooLong;
+            }
+            second::write_line(line, names, size, out);
+            Outcome::Written(n)
+        }
+    }
+}

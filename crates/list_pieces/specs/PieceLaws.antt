@@ -1,0 +1,309 @@
+-- What the tests that tell a piece say of its bytes; and tokens that are written: those of a piece, and those after it.
+use Prim.Native.Nat.{ℕ, suc, _+_, _-_, _≤_, _<_}
+use native.Mathlib.Omega.{arith}
+use mathlib.Core.Path.{_≡_, refl, subst, sym, ap, ap₂, _∙_}
+use mathlib.Core.Bool.{Bool, true, false, not}
+use mathlib.Core.List.{List, [], _∷_, _++_}
+use lib.Dec.{T, eqb, leb, eqb→eq, ltb→lt, lt→ltb}
+use lib.ListN.{length, take, drop, getD, length-append, length-drop, take-append-drop}
+use lib.Seq.{drop-drop, length-take-le, getD-drop, drop-cons}
+use borrow.Author.Tests.{eqb-true, leb-true}
+use Rattle.paper.specs.Bytes.{pick, run, every}
+use Rattle.paper.specs.Tokens.{Token, statement, assigned, operator, variable, constant, string, raw}
+use Rattle.paper.specs.Constants.{right-constant?}
+use Rattle.paper.specs.Names.{number-of, known?}
+use Rattle.paper.specs.Items.{raw-byte?}
+use Rattle.paper.specs.Line.{own-bytes, begins?, variable-bytes, raw-statement?}
+use Rattle.paper.specs.WellFormed.{right-token?}
+use Rattle.laws.specs.Tests.{and-left, and-right, and-both, as-T}
+use Rattle.list_pieces.specs.declared.Piece.{Piece}
+use Rattle.list_pieces.specs.declared.Piece.the-variants.{Word, Text, Target, Variable, Constant, Quoted, Operator}
+use Rattle.list_pieces.specs.Pieces.{piece-at, size-of, end-after, Holds}
+use Rattle.list_pieces.specs.Rest.{Numbered, Written}
+use Rattle.list_pieces.specs.Written.{head-is, within, within-up, begun, begun-up}
+
+-- ---- what the tests say
+
+-- what is known of the bytes s at offset p, in a statement that ends at `end`, where this piece stands
+abbrev pub Is : ℕ → ℕ → List ℕ → Piece → Type 0
+Is p end s (Word t) = (p ≡ end) × (t ≡ getD s 1 0)
+Is p end s (Text t n) = (p ≡ end) × (t ≡ getD s 1 0) × (n ≡ run raw-byte? (drop 2 s))
+Is p end s (Target v) = (p ≡ end) × (getD s 1 0 ≡ 0x36) × (v ≡ getD s 2 0)
+Is p end s (Variable v) = (v ≡ getD s 0 0 - 0x80) × (0x80 ≤ getD s 0 0)
+Is p end s Constant = getD s 0 0 ≡ 0x0e
+Is p end s (Quoted n) = (getD s 0 0 ≡ 0x0f) × (n ≡ getD s 1 0)
+Is p end s (Operator t) = t ≡ getD s 0 0
+
+begun-is : (p end : ℕ) (s : List ℕ) (x y : Bool) → p ≡ end → eqb (getD s 1 0) 0x36 ≡ x → Is p end s (pick x (Target (getD s 2 0)) (pick y (Text (getD s 1 0) (run raw-byte? (drop 2 s))) (Word (getD s 1 0))))
+begun-is p end s true y e h = (e, eqb-true (getD s 1 0) 0x36 h, refl)
+begun-is p end s false true e h = (e, refl, refl)
+begun-is p end s false false e h = (e, refl)
+
+within-is : (p end : ℕ) (s : List ℕ) (x y z : Bool) → leb 0x80 (getD s 0 0) ≡ x → eqb (getD s 0 0) 0x0e ≡ y → eqb (getD s 0 0) 0x0f ≡ z
+    → Is p end s (pick x (Variable (getD s 0 0 - 0x80)) (pick y Constant (pick z (Quoted (getD s 1 0)) (Operator (getD s 0 0)))))
+within-is p end s true y z h k l = (refl, leb-true 0x80 (getD s 0 0) h)
+within-is p end s false true z h k l = eqb-true (getD s 0 0) 0x0e k
+within-is p end s false false true h k l = (eqb-true (getD s 0 0) 0x0f l, refl)
+within-is p end s false false false h k l = refl
+
+is-go : (p end : ℕ) (s : List ℕ) (x : Bool) (c d : Piece) → (x ≡ true → Is p end s c) → Is p end s d → Is p end s (pick x c d)
+is-go p end s true c d f g = f refl
+is-go p end s false c d f g = g
+
+pub piece-is : (p end : ℕ) (s : List ℕ) → Is p end s (piece-at p end s)
+unfolding piece-at
+piece-is p end s =
+    is-go p end s (eqb p end) _ _ (λ e. begun-is p end s (eqb (getD s 1 0) 0x36) (raw-statement? (getD s 1 0)) (eqb-true p end e) refl)
+    (within-is p end s (leb 0x80 (getD s 0 0)) (eqb (getD s 0 0) 0x0e) (eqb (getD s 0 0) 0x0f) refl refl refl)
+
+-- ---- runs
+
+run-within-go : (x : Bool) (r l : ℕ) → r ≤ l → pick x (suc r) 0 ≤ suc l
+run-within-go true r l h = omega arith
+run-within-go false r l h = omega arith
+
+pub run-within : (q : ℕ → Bool) (s : List ℕ) → run q s ≤ length s
+unfolding run
+run-within q [] = omega arith
+run-within q (x ∷ s) = run-within-go (q x) (run q s) (length s) (run-within q s)
+
+run-ends-go : (q : ℕ → Bool) (x : ℕ) (s : List ℕ) (b : Bool) → q x ≡ b → (run q s < length s → q (getD s (run q s) 0) ≡ false) → pick b (suc (run q s)) 0 < suc (length s) → q (getD (x ∷ s) (pick b (suc (run q s)) 0) 0) ≡ false
+run-ends-go q x s true e ih h = ih (omega arith)
+run-ends-go q x s false e ih h = e
+
+pub run-ends : (q : ℕ → Bool) (s : List ℕ) → run q s < length s → q (getD s (run q s) 0) ≡ false
+unfolding run
+run-ends q [] h = absurd (omega arith)
+run-ends q (x ∷ s) h = run-ends-go q x s (q x) refl (λ k. run-ends q s k) h
+
+run-raw-go : (x : ℕ) (u : List ℕ) (y : Bool) → raw-byte? x ≡ y → T (every raw-byte? (take (run raw-byte? u) u)) → T (every raw-byte? (take (pick y (suc (run raw-byte? u)) 0) (x ∷ u)))
+unfolding every
+run-raw-go x u true e ih = and-both (raw-byte? x) _ (as-T (raw-byte? x) e) ih
+run-raw-go x u false e ih = tt
+
+run-raw : (u : List ℕ) → T (every raw-byte? (take (run raw-byte? u) u))
+unfolding run every
+run-raw [] = tt
+run-raw (x ∷ u) = run-raw-go x u (raw-byte? x) refl (run-raw u)
+
+pub not-raw : (b : ℕ) → raw-byte? b ≡ false → b ≡ 0x9b
+unfolding raw-byte?
+not-raw b h = go (eqb b 0x9b) refl h
+  where
+    go : (x : Bool) → eqb b 0x9b ≡ x → not x ≡ false → b ≡ 0x9b
+    go true e k = eqb-true b 0x9b e
+    go false e k = absurd (as-T false (sym k))
+
+-- ---- places
+
+at-place : {ns : List (List ℕ)} {p q end : ℕ} {s : List ℕ} {ts : List Token} → p ≡ q → Written ns p end s ts → Written ns q end s ts
+at-place {ns} {p} {q} {end} {s} {ts} e w = subst (λ (z : ℕ). Written ns z end s ts) e w
+
+at-bytes : {ns : List (List ℕ)} {p end : ℕ} {s r : List ℕ} {ts : List Token} → s ≡ r → Written ns p end s ts → Written ns p end r ts
+at-bytes {ns} {p} {end} {s} {r} {ts} e w = subst (λ (z : List ℕ). Written ns p end z ts) e w
+
+-- a list that has something in front is long enough
+front-long : (xs : List ℕ) (s r : List ℕ) → xs ++ r ≡ s → length xs ≤ length s
+front-long xs s r e = omega (arith, length-append xs r, ap length e)
+
+-- ---- pieces of one token, less
+
+module _ (ns : List (List ℕ)) (p end b : ℕ) (s : List ℕ) (gs : List Token) where
+  -- what is left after a piece
+  abbrev pub Left : Piece → Type 0
+  Left c = Holds ns (b ∷ s) c × (size-of c ≤ suc (length s)) × Written ns (p + size-of c) (end-after end (b ∷ s) c) (drop (size-of c) (b ∷ s)) gs
+
+  pub less-word : (t : ℕ) → Written ns p end (b ∷ s) (statement t ∷ gs) → Left (Word t)
+  unfolding own-bytes begins? size-of end-after
+  less-word t w =
+      let r = begun ns (statement t) gs p end b s refl w in
+      let l : 1 ≤ length s = front-long (t ∷ []) s (drop 1 s) (r .front) in
+      (omega arith, omega arith, at-place (omega arith) (r .others))
+
+  variable-there : (v : ℕ) (n : List ℕ) → 0x80 + number-of ns n ≡ v → T (known? ns n) → v - 0x80 < length ns
+  unfolding known?
+  variable-there v n e k = let h : number-of ns n < length ns = ltb→lt (number-of ns n) (length ns) k in omega arith
+
+  pub less-target : (v : ℕ) → Is p end (b ∷ s) (Target v) → Written ns p end (b ∷ s) (assigned (getD ns (v - 0x80) []) ∷ gs) → Left (Target v)
+  unfolding own-bytes variable-bytes begins? size-of end-after right-token?
+  less-target v i w =
+      let n : List ℕ = getD ns (v - 0x80) [] in
+      let r = begun ns (assigned n) gs p end b s refl w in
+      let l : 2 ≤ length s = front-long (0x36 ∷ (0x80 + number-of ns n) ∷ []) s (drop 2 s) (r .front) in
+      let x : 0x80 + number-of ns n ≡ getD s 1 0 = ap (λ (z : List ℕ). getD z 1 0) (r .front) in
+      let y : v ≡ getD s 1 0 = i .2 in (
+        (omega arith, omega arith, variable-there v n (x ∙ sym y) (and-left (known? ns n) _ (r .is-right)), and-right (known? ns n) _ (r .is-right)),
+        omega arith,
+        at-place (omega arith) (r .others),
+      )
+
+  pub less-variable : (v : ℕ) → Is p end (b ∷ s) (Variable v) → Written ns p end (b ∷ s) (variable (getD ns v []) ∷ gs) → Left (Variable v)
+  unfolding own-bytes variable-bytes begins? size-of end-after right-token?
+  less-variable v i w =
+      let n : List ℕ = getD ns v [] in
+      let r = within ns (variable n) gs p end (b ∷ s) refl w in
+      let x : 0x80 + number-of ns n ≡ b = head-is (r .front) in
+      (let y : b - 0x80 < length ns = variable-there b n x (r .is-right) in omega (arith, i .0), omega arith, r .others)
+
+  pub six-long : (c : List ℕ) → T (right-constant? c) → length c ≡ 6
+  unfolding right-constant?
+  six-long c t = eqb→eq (length c) 6 (and-left (eqb (length c) 6) _ t)
+
+  pub less-constant : Written ns p end (b ∷ s) (constant (take 6 s) ∷ gs) → Left Constant
+  unfolding own-bytes begins? size-of end-after right-token?
+  less-constant w =
+      let r = within ns (constant (take 6 s)) gs p end (b ∷ s) refl w in
+      let l : length (take 6 s) ≡ 6 = six-long (take 6 s) (r .is-right) in
+      let m : suc (length (take 6 s)) ≡ 7 = ap suc l in
+      let g : suc (length (take 6 s)) ≤ suc (length s) = front-long (0x0e ∷ take 6 s) (b ∷ s) _ (r .front) in
+      let f : 7 ≤ suc (length s) = omega arith in
+      (r .is-right, f, subst (λ (k : ℕ). Written ns (p + k) end (drop k (b ∷ s)) gs) m (r .others))
+
+  pub less-quoted : (n : ℕ) → Is p end (b ∷ s) (Quoted n) → Written ns p end (b ∷ s) (string (take n (drop 1 s)) ∷ gs) → Left (Quoted n)
+  unfolding own-bytes begins? size-of end-after right-token?
+  less-quoted n i w =
+      let d : List ℕ = take n (drop 1 s) in
+      let r = within ns (string d) gs p end (b ∷ s) refl w in
+      let x : length d ≡ getD s 0 0 = ap (λ (z : List ℕ). getD z 1 0) (r .front) in
+      let l : length d ≡ n = x ∙ sym (i .1) in
+      let m : suc (suc (length d)) ≡ 2 + n = omega arith in
+      let f : suc (suc (length d)) ≤ suc (length s) = front-long (0x0f ∷ length d ∷ d) (b ∷ s) _ (r .front) in
+      ((omega arith, r .is-right), omega arith, subst (λ (k : ℕ). Written ns (p + k) end (drop k (b ∷ s)) gs) m (r .others))
+
+  -- an operator, whatever it is: the byte that stands there
+  pub less-operator : (t : ℕ) → Written ns p end (b ∷ s) (operator t ∷ gs) → (t ≡ b) × Left (Operator b)
+  unfolding own-bytes begins? size-of end-after right-token?
+  less-operator t w =
+      let r = within ns (operator t) gs p end (b ∷ s) refl w in
+      (head-is (r .front), (tt, omega arith, r .others))
+
+  -- raw text and whatever operator ends it
+  pub less-text : (t n k : ℕ) → Is p end (b ∷ s) (Text t n) → Written ns p end (b ∷ s) (statement t ∷ raw (take n (drop 1 s)) ∷ operator k ∷ gs) → (k ≡ 0x9b) × Left (Text t n)
+  unfolding own-bytes begins? size-of end-after right-token?
+  less-text t n k i w =
+      let u : List ℕ = drop 1 s in
+      let d : List ℕ = take n u in
+      let r = begun ns (statement t) (raw d ∷ operator k ∷ gs) p end b s refl w in
+      let q = within ns (raw d) (operator k ∷ gs) (suc p + 1) b u refl (r .others) in
+      let a = within ns (operator k) gs (suc p + 1 + length d) b (drop (length d) u) refl (q .others) in
+      let h : 1 ≤ length s = front-long (t ∷ []) s u (r .front) in
+      let j : n ≡ run raw-byte? u = i .2 in
+      let l : length d ≡ n = length-take-le n u (omega (arith, run-within raw-byte? u, j)) in
+      let m : 1 ≤ length (drop (length d) u) = front-long (k ∷ []) (drop (length d) u) _ (a .front) in
+      let o : n < length u = omega (arith, length-drop (length d) u) in
+      let v : length u ≡ length s - 1 = length-drop 1 s in
+      let x : k ≡ getD u n 0 = ap (λ (z : List ℕ). getD z 0 0) (a .front) ∙ getD-drop (length d) u 0 0 ∙ (let z : length d + 0 ≡ n = omega arith in ap (λ (i : ℕ). getD u i 0) z) in
+      let y : raw-byte? (getD u n 0) ≡ false = subst (λ (z : ℕ). raw-byte? (getD u z 0) ≡ false) (sym j) (run-ends raw-byte? u (omega arith)) in
+      let e : drop 1 (drop (length d) u) ≡ drop (3 + n) (b ∷ s) =
+      drop-drop 1 (length d) u ∙ drop-drop (length d + 1) 1 s ∙ (let z : suc (1 + (length d + 1)) ≡ 3 + n = omega arith in ap (λ (i : ℕ). drop i (b ∷ s)) z) in
+      (x ∙ not-raw (getD u n 0) y, (omega arith, omega arith, at-place (omega arith) (at-bytes e (a .others))))
+
+-- ---- and one more
+
+pub known-there : (ns : List (List ℕ)) → Numbered ns → (i : ℕ) → i < length ns → T (known? ns (getD ns i []))
+unfolding known?
+known-there ns d i h = lt→ltb (number-of ns (getD ns i [])) (length ns) (omega (arith, d i h))
+
+whole : (s : List ℕ) (n : ℕ) (xs : List ℕ) → xs ≡ take n s → length xs ≡ n → xs ++ drop (length xs) s ≡ s
+whole s n xs e l = ap₂ (λ (a : List ℕ) (k : ℕ). a ++ drop k s) e l ∙ take-append-drop n s
+
+module _ (ns : List (List ℕ)) (d : Numbered ns) (p end b : ℕ) (s : List ℕ) (gs : List Token) where
+  -- what is written after a piece
+  abbrev pub Later : Piece → Type 0
+  Later c = Written ns (p + size-of c) (end-after end (b ∷ s) c) (drop (size-of c) (b ∷ s)) gs
+
+  one-front : (s : List ℕ) (t : ℕ) → 1 ≤ length s → t ≡ getD s 0 0 → t ∷ drop 1 s ≡ s
+  one-front s t h e = ap (λ (z : ℕ). z ∷ drop 1 s) e ∙ sym (drop-cons s 0 0 h)
+
+  two-front : (s : List ℕ) (t v : ℕ) → 2 ≤ length s → t ≡ getD s 0 0 → v ≡ getD s 1 0 → t ∷ v ∷ drop 2 s ≡ s
+  two-front s t v h e f =
+      ap (λ (z : ℕ). t ∷ z ∷ drop 2 s) f ∙ ap (λ (z : List ℕ). t ∷ z) (sym (drop-cons s 1 0 h)) ∙ one-front s t (omega arith) e
+
+  pub more-word : (t : ℕ) → Is p end (b ∷ s) (Word t) → Holds ns (b ∷ s) (Word t) → Later (Word t) → Written ns p end (b ∷ s) (statement t ∷ gs)
+  unfolding own-bytes begins? size-of end-after right-token?
+  more-word t i h w =
+      subst (λ (e : ℕ). Written ns p e (b ∷ s) (statement t ∷ gs)) (i .0)
+      (begun-up ns (statement t) gs p b s refl (record { is-right = tt; front = one-front s t (omega arith) (i .1); others = at-place (omega arith) w }))
+
+  pub more-target : (v : ℕ) → Is p end (b ∷ s) (Target v) → Holds ns (b ∷ s) (Target v) → Later (Target v) → Written ns p end (b ∷ s) (assigned (getD ns (v - 0x80) []) ∷ gs)
+  unfolding own-bytes variable-bytes begins? size-of end-after right-token?
+  more-target v i h w =
+      let n : List ℕ = getD ns (v - 0x80) [] in
+      let a : number-of ns n ≡ v - 0x80 = d (v - 0x80) (h .2) in
+      let x : 0x80 + number-of ns n ≡ getD s 1 0 = omega (arith, i .2, h .1) in
+      subst (λ (e : ℕ). Written ns p e (b ∷ s) (assigned n ∷ gs)) (i .0)
+      (begun-up ns (assigned n) gs p b s refl (record {
+        is-right = and-both (known? ns n) _ (known-there ns d (v - 0x80) (h .2)) (h .3);
+        front = two-front s 0x36 (0x80 + number-of ns n) (omega (arith, h .0)) (sym (i .1)) x;
+        others = at-place (omega arith) w;
+      }))
+
+  pub more-variable : (v : ℕ) → Is p end (b ∷ s) (Variable v) → Holds ns (b ∷ s) (Variable v) → Later (Variable v) → Written ns p end (b ∷ s) (variable (getD ns v []) ∷ gs)
+  unfolding own-bytes variable-bytes begins? size-of end-after right-token?
+  more-variable v i h w =
+      let n : List ℕ = getD ns v [] in
+      let a : number-of ns n ≡ v = d v h in
+      let x : 0x80 + number-of ns n ≡ b = omega (arith, i .0, i .1) in
+      within-up ns (variable n) gs p end (b ∷ s) refl (record { is-right = known-there ns d v h; front = ap (λ (z : ℕ). z ∷ s) x; others = w })
+
+  pub more-constant : Is p end (b ∷ s) Constant → Holds ns (b ∷ s) Constant → Later Constant → Written ns p end (b ∷ s) (constant (take 6 s) ∷ gs)
+  unfolding own-bytes begins? size-of end-after right-token?
+  more-constant i h w =
+      let l : length (take 6 s) ≡ 6 = six-long ns p end b s gs (take 6 s) h in
+      let m : suc (length (take 6 s)) ≡ 7 = ap suc l in
+      within-up ns (constant (take 6 s)) gs p end (b ∷ s) refl (record {
+        is-right = h;
+        front = whole (b ∷ s) 7 (0x0e ∷ take 6 s) (ap (λ (z : ℕ). z ∷ take 6 s) (sym i)) m;
+        others = subst (λ (k : ℕ). Written ns (p + k) end (drop k (b ∷ s)) gs) (sym m) w;
+      })
+
+  pub more-quoted : (n : ℕ) → Is p end (b ∷ s) (Quoted n) → Holds ns (b ∷ s) (Quoted n) → Later (Quoted n) → Written ns p end (b ∷ s) (string (take n (drop 1 s)) ∷ gs)
+  unfolding own-bytes begins? size-of end-after right-token?
+  more-quoted n i h w =
+      let u : List ℕ = drop 1 s in
+      let v : length u ≡ length s - 1 = length-drop 1 s in
+      let q : List ℕ = take n u in
+      let l : length q ≡ n = length-take-le n u (omega (arith, h .0)) in
+      let m : suc (suc (length q)) ≡ 2 + n = omega arith in
+      let f : 0x0f ∷ length q ∷ (q ++ drop (length q) u) ≡ b ∷ s =
+      ap (λ (z : List ℕ). 0x0f ∷ length q ∷ z) (whole u n q refl l) ∙ ap₂ (λ (x : ℕ) (z : List ℕ). x ∷ z) (sym (i .0)) (one-front s (length q) (omega (arith, h .0)) (l ∙ i .1)) in
+      let g : drop (length q) u ≡ drop (suc (length q)) s = drop-drop (length q) 1 s ∙ (let z : 1 + length q ≡ suc (length q) = omega arith in ap (λ (k : ℕ). drop k s) z) in
+      within-up ns (string q) gs p end (b ∷ s) refl (record {
+        is-right = h .1;
+        front = ap (λ (z : List ℕ). 0x0f ∷ length q ∷ (q ++ z)) (sym g) ∙ f;
+        others = subst (λ (k : ℕ). Written ns (p + k) end (drop k (b ∷ s)) gs) (sym m) w;
+      })
+
+  pub more-operator : Later (Operator b) → Written ns p end (b ∷ s) (operator b ∷ gs)
+  unfolding own-bytes begins? size-of end-after right-token?
+  more-operator w = within-up ns (operator b) gs p end (b ∷ s) refl (record { is-right = tt; front = refl; others = w })
+
+  pub more-text : (t n : ℕ) → Is p end (b ∷ s) (Text t n) → Holds ns (b ∷ s) (Text t n) → Later (Text t n) → Written ns p end (b ∷ s) (statement t ∷ raw (take n (drop 1 s)) ∷ operator 0x9b ∷ gs)
+  unfolding own-bytes begins? size-of end-after right-token?
+  more-text t n i h w =
+      let u : List ℕ = drop 1 s in
+      let a : List ℕ = take n u in
+      let v : length u ≡ length s - 1 = length-drop 1 s in
+      let j : n ≡ run raw-byte? u = i .2 in
+      let l : length a ≡ n = length-take-le n u (omega arith) in
+      let y : raw-byte? (getD u n 0) ≡ false = subst (λ (z : ℕ). raw-byte? (getD u z 0) ≡ false) (sym j) (run-ends raw-byte? u (omega arith)) in
+      let o : n < length u = omega arith in
+      let f : 0x9b ∷ drop (suc n) u ≡ drop n u = sym (drop-cons u n 0 o ∙ ap (λ (z : ℕ). z ∷ drop (suc n) u) (not-raw (getD u n 0) y)) in
+      let e : drop (3 + n) (b ∷ s) ≡ drop 1 (drop n u) =
+      (let z : 3 + n ≡ suc (1 + (n + 1)) = omega arith in ap (λ (k : ℕ). drop k (b ∷ s)) z) ∙ sym (drop-drop (n + 1) 1 s) ∙ sym (drop-drop 1 n u) in
+      let g : drop (suc n) u ≡ drop 1 (drop n u) = (let z : suc n ≡ n + 1 = omega arith in ap (λ (k : ℕ). drop k u) z) ∙ sym (drop-drop 1 n u) in
+      let third : Written ns (suc p + 1 + length a) b (drop (length a) u) (operator 0x9b ∷ gs) =
+      subst (λ (k : ℕ). Written ns (suc p + 1 + k) b (drop k u) (operator 0x9b ∷ gs)) (sym l)
+      (within-up ns (operator 0x9b) gs (suc p + 1 + n) b (drop n u) refl (record {
+        is-right = tt;
+        front = ap (λ (z : List ℕ). 0x9b ∷ z) (sym g) ∙ f;
+        others = at-place (omega arith) (at-bytes e w);
+      })) in
+      let second : Written ns (suc p + 1) b u (raw a ∷ operator 0x9b ∷ gs) =
+      within-up ns (raw a) (operator 0x9b ∷ gs) (suc p + 1) b u refl (record {
+        is-right = subst (λ (k : ℕ). T (every raw-byte? (take k u))) (sym j) (run-raw u);
+        front = whole u n a refl l;
+        others = third;
+      }) in
+      subst (λ (k : ℕ). Written ns p k (b ∷ s) (statement t ∷ raw a ∷ operator 0x9b ∷ gs)) (i .0)
+      (begun-up ns (statement t) (raw a ∷ operator 0x9b ∷ gs) p b s refl (record { is-right = tt; front = one-front s t (omega arith) (i .1); others = second }))

@@ -1,0 +1,188 @@
+-- What callers know of a place that was found, and of the answers to edits.
+use Prim.Native.Nat.{ℕ, _+_, _≤_}
+use native.Mathlib.Omega.{arith}
+use mathlib.Core.Path.{_≡_, refl, sym, ap, _∙_, subst}
+use mathlib.Core.Bool.{Bool, true, false}
+use mathlib.Core.List.{List, [], _∷_, _++_, append-assoc}
+use lib.Dec.{T, leb, leb→le}
+use lib.ListN.{length, take, drop, take-append-drop}
+use lib.Seq.{take-append-seam, drop-append-seam}
+use Rattle.paper.specs.Bytes.{pick, every, joined}
+use Rattle.paper.specs.Store.{lines-in, whole-line?, sound-store, lines-below, lines-not-below, first-is?, stored?, first-line, line-at, lines-above, take-out}
+use Rattle.laws.specs.Tests.{and-left, as-T}
+use Rattle.laws.specs.Lines.{every-second, both-sides, used-of, parts-of, sizes-of, old-line}
+use Rattle.store.specs.declared.Place.{Place}
+use Rattle.store.specs.declared.Found.the-variants.{Unsound, At}
+use Rattle.store.specs.declared.Stored.the-variants.{Done, NoRoom}
+use Rattle.store.specs.declared.Removed.the-variants.{Done as Gone, NotThere}
+use Rattle.store.specs.Answers.{place-of, found-answer, found-number, too-long, stored-answer, stored-number, stored-used, removed-answer, removed-number, removed-used}
+
+-- ---- the place of a number
+
+-- no whole line is empty
+whole-long : (l : List ℕ) → T (whole-line? l) → 6 ≤ length l
+unfolding whole-line?
+whole-long l t = leb→le 6 (length l) (and-left (leb 6 (length l)) _ t)
+
+first-long : (n : ℕ) (ls : List (List ℕ)) → T (every whole-line? ls) → first-is? n ls ≡ true → 6 ≤ length (first-line ls)
+unfolding every first-is? first-line
+first-long n [] t e = let z : _≡_ {A = ℕ} 0 1 = cc in absurd (omega arith)
+first-long n (l ∷ ls) t e = whole-long l (and-left (whole-line? l) (every whole-line? ls) t)
+
+module _ (store : List ℕ) (used n : ℕ) (sound : T (sound-store store used)) where
+  -- the line at the place lies within the used bytes
+  pub place-within : (p : Place) → p ≡ place-of n (lines-in (take used store)) → p .at + p .size ≤ used
+  unfolding place-of old-line
+  place-within p e = subst (λ (q : Place). q .at + q .size ≤ used) (sym e) (omega (arith, sizes-of store used n sound))
+
+  size-go : (b : Bool) → stored? n (lines-in (take used store)) ≡ b → (length (pick b (line-at n (lines-in (take used store))) []) ≡ 0 → b ≡ false) × ((length (pick b (line-at n (lines-in (take used store))) []) ≡ 0 → ⊥) → b ≡ true)
+  unfolding stored? line-at
+  size-go false e = ((λ z. refl), λ f. absurd (f refl))
+  size-go true e =
+      let ls : List (List ℕ) = lines-in (take used store) in
+      let w : T (every whole-line? (lines-not-below n ls)) =
+      every-second whole-line? (lines-below n ls) (lines-not-below n ls) (subst (λ (x : List (List ℕ)). T (every whole-line? x)) (sym (both-sides n ls)) (used-of store used sound .whole)) in
+      ((λ z. absurd (omega (arith, first-long n (lines-not-below n ls) w e))), λ f. refl)
+
+  -- a size of 0 says that no line has the number
+  pub missing : (p : Place) → p ≡ place-of n (lines-in (take used store)) → p .size ≡ 0 → stored? n (lines-in (take used store)) ≡ false
+  unfolding place-of old-line
+  missing p e h = size-go (stored? n (lines-in (take used store))) refl .0 (sym (ap (λ (q : Place). q .size) e) ∙ h)
+
+  -- another size says that one has
+  pub there : (p : Place) → p ≡ place-of n (lines-in (take used store)) → (p .size ≡ 0 → ⊥) → stored? n (lines-in (take used store)) ≡ true
+  unfolding place-of old-line
+  there p e h = size-go (stored? n (lines-in (take used store))) refl .1 (λ z. h (ap (λ (q : Place). q .size) e ∙ z))
+
+  -- the bytes at the place are the line with the number, if there is one
+  pub line-there : (p : Place) → p ≡ place-of n (lines-in (take used store)) → (p .size ≡ 0 → ⊥) → take (p .size) (drop (p .at) store) ≡ line-at n (lines-in (take used store))
+  unfolding place-of old-line
+  line-there p e h =
+      let ls : List (List ℕ) = lines-in (take used store) in
+      let b : List ℕ = joined (lines-below n ls) in
+      let o : List ℕ = old-line n ls in
+      let a : List ℕ = joined (lines-above n ls) in
+      let w : store ≡ b ++ ((o ++ a) ++ drop used store) =
+      sym (take-append-drop used store) ∙ ap (λ (z : List ℕ). z ++ drop used store) (sym (parts-of store used n sound)) ∙ append-assoc b (o ++ a) (drop used store) in
+      ap (λ (q : Place). take (q .size) (drop (q .at) store)) e
+      ∙ ap (λ (z : List ℕ). take (length o) (drop (length b) z)) w
+      ∙ ap (take (length o)) (drop-append-seam b ((o ++ a) ++ drop used store) ∙ append-assoc o a (drop used store))
+      ∙ take-append-seam o (a ++ drop used store)
+      ∙ ap (λ (x : Bool). pick x (line-at n ls) []) (there p e h)
+
+-- the place of a number is that of its own
+pub own-place : (n : ℕ) (ls : List (List ℕ)) (p : Place) → p ≡ place-of n ls → p ≡ place-of (p .number) ls
+unfolding place-of
+own-place n ls p e = e ∙ ap (λ (k : ℕ). place-of k ls) (sym (ap (λ (q : Place). q .number) e))
+
+-- ---- the answer to a search
+
+at-go : (b : Bool) (q p : Place) → pick b (At q) Unsound ≡ At p → (b ≡ true) × (p ≡ q)
+at-go true q p e = (refl, (cc))
+at-go false q p e = let z : _≡_ {A = ℕ} 0 1 = cc in absurd (omega arith)
+
+-- a place was found: the store is sound
+pub found-sound : (store : List ℕ) (used n : ℕ) (p : Place) → found-answer store used n ≡ At p → (T (sound-store store used)) × (p ≡ place-of n (lines-in (take used store)))
+unfolding found-answer
+found-sound store used n p e =
+    let g = at-go (sound-store store used) (place-of n (lines-in (take used store))) p e in
+    (as-T (sound-store store used) (g .0), g .1)
+
+none-go : (b : Bool) (q : Place) → pick b (At q) Unsound ≡ Unsound → b ≡ false
+none-go true q e = let z : _≡_ {A = ℕ} 0 1 = cc in absurd (omega arith)
+none-go false q e = refl
+
+-- none was: it is not
+pub found-unsound : (store : List ℕ) (used n : ℕ) → found-answer store used n ≡ Unsound → sound-store store used ≡ false
+unfolding found-answer
+found-unsound store used n e = none-go (sound-store store used) (place-of n (lines-in (take used store))) e
+
+-- ---- answers, as facts about the lines that the store would hold
+
+done-go : (b : Bool) (m n : ℕ) → pick b NoRoom (Done m) ≡ Done n → (b ≡ false) × (n ≡ m)
+done-go true m n e = let z : _≡_ {A = ℕ} 0 1 = cc in absurd (omega arith)
+done-go false m n e = (refl, (cc))
+
+-- a line was put in
+pub stored-done : (store : List ℕ) (ls : List (List ℕ)) (n : ℕ) → stored-answer store ls ≡ Done n → (too-long store ls ≡ false) × (n ≡ length (joined ls))
+unfolding stored-answer
+stored-done store ls n e = done-go (too-long store ls) (length (joined ls)) n e
+
+no-room-go : (b : Bool) (m : ℕ) → pick b NoRoom (Done m) ≡ NoRoom → b ≡ true
+no-room-go true m e = refl
+no-room-go false m e = let z : _≡_ {A = ℕ} 0 1 = cc in absurd (omega arith)
+
+-- it found no room
+pub stored-no-room : (store : List ℕ) (ls : List (List ℕ)) → stored-answer store ls ≡ NoRoom → too-long store ls ≡ true
+unfolding stored-answer
+stored-no-room store ls e = no-room-go (too-long store ls) (length (joined ls)) e
+
+gone-go : (b : Bool) (m n : ℕ) → pick b (Gone m) NotThere ≡ Gone n → (b ≡ true) × (n ≡ m)
+gone-go true m n e = (refl, (cc))
+gone-go false m n e = let z : _≡_ {A = ℕ} 0 1 = cc in absurd (omega arith)
+
+-- a line was taken out
+pub removed-done : (n : ℕ) (ls : List (List ℕ)) (m : ℕ) → removed-answer n ls ≡ Gone m → (stored? n ls ≡ true) × (m ≡ length (joined (take-out n ls)))
+unfolding removed-answer
+removed-done n ls m e = gone-go (stored? n ls) (length (joined (take-out n ls))) m e
+
+not-there-go : (b : Bool) (m : ℕ) → pick b (Gone m) NotThere ≡ NotThere → b ≡ false
+not-there-go true m e = let z : _≡_ {A = ℕ} 0 1 = cc in absurd (omega arith)
+not-there-go false m e = refl
+
+-- there was none
+pub removed-not-there : (n : ℕ) (ls : List (List ℕ)) → removed-answer n ls ≡ NotThere → stored? n ls ≡ false
+unfolding removed-answer
+removed-not-there n ls e = not-there-go (stored? n ls) (length (joined (take-out n ls))) e
+
+-- ---- answers, as the numbers and counts of document 01
+
+found-number-go : (b : Bool) (p : Place) → found-number (pick b (At p) Unsound) ≡ pick b 0 1
+unfolding found-number
+found-number-go true p = refl
+found-number-go false p = refl
+
+-- 1 if the store is not sound
+pub found-number-is : (store : List ℕ) (used n : ℕ) → found-number (found-answer store used n) ≡ pick (sound-store store used) 0 1
+unfolding found-answer
+found-number-is store used n = found-number-go (sound-store store used) (place-of n (lines-in (take used store)))
+
+number-go : (b : Bool) (m : ℕ) → stored-number (pick b NoRoom (Done m)) ≡ pick b 8 0
+unfolding stored-number
+number-go true m = refl
+number-go false m = refl
+
+-- 8 if the lines would pass the room
+pub stored-number-is : (store : List ℕ) (ls : List (List ℕ)) → stored-number (stored-answer store ls) ≡ pick (too-long store ls) 8 0
+unfolding stored-answer
+stored-number-is store ls = number-go (too-long store ls) (length (joined ls))
+
+used-go : (b : Bool) (used m : ℕ) → stored-used used (pick b NoRoom (Done m)) ≡ pick b used m
+unfolding stored-used
+used-go true used m = refl
+used-go false used m = refl
+
+-- the used count is that of the lines, or as given
+pub stored-used-is : (store : List ℕ) (used : ℕ) (ls : List (List ℕ)) → stored-used used (stored-answer store ls) ≡ pick (too-long store ls) used (length (joined ls))
+unfolding stored-answer
+stored-used-is store used ls = used-go (too-long store ls) used (length (joined ls))
+
+out-number-go : (b : Bool) (m : ℕ) → removed-number (pick b (Gone m) NotThere) ≡ pick b 0 9
+unfolding removed-number
+out-number-go true m = refl
+out-number-go false m = refl
+
+-- 9 if no line has the number
+pub removed-number-is : (n : ℕ) (ls : List (List ℕ)) → removed-number (removed-answer n ls) ≡ pick (stored? n ls) 0 9
+unfolding removed-answer
+removed-number-is n ls = out-number-go (stored? n ls) (length (joined (take-out n ls)))
+
+out-used-go : (b : Bool) (used m : ℕ) → removed-used used (pick b (Gone m) NotThere) ≡ pick b m used
+unfolding removed-used
+out-used-go true used m = refl
+out-used-go false used m = refl
+
+-- the used count is that of the lines left, or as given
+pub removed-used-is : (used n : ℕ) (ls : List (List ℕ)) → removed-used used (removed-answer n ls) ≡ pick (stored? n ls) (length (joined (take-out n ls))) used
+unfolding removed-answer
+removed-used-is used n ls = out-used-go (stored? n ls) used (length (joined (take-out n ls)))
