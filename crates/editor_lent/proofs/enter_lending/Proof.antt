@@ -244,4 +244,4 @@ enter-lending-spec 𝓤 H 𝓜 𝓖 𝓡 =
     entry 𝓤 H (tripleOf 𝓤 H (𝓖 .A) f.signature (f.spec 𝓤 H (𝓖 .A) (𝓜 .mem) (𝓡 .run)))
     (tables 𝓤 H 𝓜 𝓡 code.env .C) (tables 𝓤 H 𝓜 𝓡 code.env .Λ) #lent·enter-lending code.function (code.unfolded 𝓤 H 𝓜 𝓡)
     (enter-lending-meets 𝓤 H (𝓖 .A) (givenOf 𝓤 H 𝓜 𝓖) (𝓜 .mem) (𝓡 .run) (tablesOf 𝓤 H 𝓜 (tables 𝓤 H 𝓜 𝓡 code.env))
-    (cited 𝓤 H (Lent 𝓤 H (𝓖 .A) (𝓜 .mem) (𝓡 .run)) 𝓜 𝓡 code.env #lent·enter-lent lent-def.routine code.calls-lent·enter-lent (lent-thm.met 𝓤 H 𝓜 𝓖 𝓡)))
+    (cited 𝓤 H (Lent 𝓤 H (𝓖 .A) (𝓜 .mem) (𝓡 .run)) 𝓜 𝓡 code.env #lent·enter-lent lent-def.routine code.calls-editor-lent·enter-lent (lent-thm.met 𝓤 H 𝓜 𝓖 𝓡)))
