@@ -14,7 +14,7 @@ use Rattle.paper.specs.Items.{Item, items}
 use Rattle.paper.specs.Machine.{Taken, Run, left, done, bad, read}
 use Rattle.paper.specs.Grammar.{Gives, given, look-item, look-in-range, start}
 use Rattle.paper.specs.Line.{line-bytes, lawful-number?}
-use Rattle.paper.specs.WellFormed.{tokens-of, right-token?, WellFormed}
+use Rattle.paper.specs.WellFormed.{tokens-of, Lawful, right-token?, WellFormed}
 use Rattle.paper.specs.Calls.{tokens, outcome, translate}
 use Rattle.laws.specs.Tests.{and-left, and-right, and-both}
 use Rattle.promises.specs.NameTable.{add-knows, names-keep, new-token?}
@@ -116,6 +116,10 @@ translate-says : (p : ℕ) (s : List ℕ) (ts : List Token) → translate p s �
 unfolding translate
 translate-says p s ts e = outcome-says (items p s) (read look-in-range start (items p s)) ts (agrees start (items p s)) e
 
+-- what is translated is a lawful sequence
+pub translated-lawful : (p : ℕ) (s : List ℕ) (ts : List Token) → translate p s ≡ tokens ts → Lawful (items p s) ts
+translated-lawful p s ts e = let a = translate-says p s ts e in record { taken = a .taken; reads = a .reads; gives = a .gives }
+
 run-right : (ns : List (List ℕ)) (xs : List (Taken Gives Item)) → AllFit fits class (on-taken token-of xs) → AllRight (sources xs) → NoneOut xs → AllNamed ns (tokens-of xs) → T (every (right-token? ns) (tokens-of xs))
 unfolding tokens-of on-taken sources token-of every out?
 run-right ns [] f r o n = tt
@@ -162,7 +166,7 @@ stored-well-formed ns n p s ts h e =
       number = n;
       items = items p s;
       tokens = ts;
-      lawful = record { taken = a .taken; reads = a .reads; gives = a .gives };
+      lawful = translated-lawful p s ts e;
       bytes = refl;
       lawful-number = h;
       right = subst (λ (z : List Token). T (every (right-token? (add-names ns ts)) z)) (a .gives) w;

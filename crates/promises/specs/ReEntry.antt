@@ -18,12 +18,12 @@ use Rattle.paper.specs.WellFormed.{WellFormed}
 use Rattle.paper.specs.Store.{whole-line?, room, lines-below, lines-not-below, lines-above, first-is?, first-line, stored?, line-at, put-line, overwritten}
 use Rattle.paper.specs.Calls.{State, names-of, lines-of, sound-state, stored, lacks-room, accept, enter, Listed, list}
 use Rattle.laws.specs.Tests.{and-left, and-right, is-true}
-use Rattle.promises.specs.Terms.{bytes?, old-size, with-lines, accepted-with}
+use Rattle.promises.specs.Terms.{SoundState, bytes?, old-size, with-lines, accepted-with}
 use Rattle.promises.specs.Lists.{every-left, every-right}
 use Rattle.promises.specs.RoundTrip.{no-new-names}
 use Rattle.promises.specs.WellFormedTest.{test-says}
 use Rattle.promises.specs.Stored.{old-lines, room-least, over-take}
-use Rattle.promises.specs.States.{SoundState, state-says}
+use Rattle.promises.specs.States.{state-says}
 use Rattle.promises.specs.Answers.{ListAnswer, not-written, written-out, list-answer, not-listed-so}
 use Rattle.promises.specs.Entering.{enter-listing}
 use Rattle.promises.specs.Editing.{well-formed-whole, used-bytes}

@@ -13,20 +13,10 @@ use Rattle.paper.specs.Names.{names-in, name-bytes, name?, all-different, most-
 use Rattle.paper.specs.Store.{sound-lines, room, sound-store, overwritten}
 use Rattle.paper.specs.Calls.{State, names-of, lines-of, sound-state, stored, lacks-room}
 use Rattle.laws.specs.Tests.{and-left, and-right, and-both, as-T}
-use Rattle.promises.specs.Terms.{Kept}
+use Rattle.promises.specs.Terms.{SoundState, Kept}
 use Rattle.promises.specs.Lists.{or-false-left, or-false-right, same-eq, same-refl}
 use Rattle.promises.specs.NameTable.{NamesGood, names-back, name-bytes-append}
 use Rattle.promises.specs.Stored.{Extended, extended, over-past, Holds}
-
--- what a sound state is
-pub record SoundState (s : State) : Type 0 where
-  pub table-fits : s .name-size ≤ length (s .names)
-  pub bytes : name-bytes (names-of s) ≡ take (s .name-size) (s .names)
-  pub count : length (names-of s) ≡ s .name-count
-  pub names : T (sound-names (names-of s))
-  pub values-fit : 8 * s .name-count ≤ length (s .values)
-  pub used-fits : s .used ≤ room (s .store)
-  pub lines : T (sound-lines (lines-of s))
 
 -- what the test of soundness says
 pub state-says : (s : State) → T (sound-state s) → SoundState s
