@@ -99,7 +99,7 @@ given-new e unreadable f r = absurd (taken-fit e unfit f)
 
 -- ---- the run
 
-record Accepts (is : List Item) (ts : List Token) : Type 0 where
+pub record Accepts (is : List Item) (ts : List Token) : Type 0 where
   pub taken : List (Taken Gives Item)
   pub reads : read look-item start is ≡ left taken []
   pub gives : tokens-of taken ≡ ts
@@ -112,7 +112,8 @@ outcome-says is (left xs (f ∷ fs)) ts a h = let z : _≡_ {A = ℕ} 0 1 = cc i
 outcome-says is (done xs r) ts a h = let z : _≡_ {A = ℕ} 0 1 = cc in absurd (omega arith)
 outcome-says is (bad k xs r) ts a h = let z : _≡_ {A = ℕ} 0 1 = cc in absurd (omega arith)
 
-translate-says : (p : ℕ) (s : List ℕ) (ts : List Token) → translate p s ≡ tokens ts → Accepts (items p s) ts
+-- what is translated is accepted
+pub translate-says : (p : ℕ) (s : List ℕ) (ts : List Token) → translate p s ≡ tokens ts → Accepts (items p s) ts
 unfolding translate
 translate-says p s ts e = outcome-says (items p s) (read look-in-range start (items p s)) ts (agrees start (items p s)) e
 

@@ -64,7 +64,8 @@ from-items is l = ap end-of (l .1 .reads)
 
 -- ---- refusal 4
 
-none-out : (ts : List (Taken Gives Item)) → NoneOut ts → T (every in-range? (sources ts))
+-- the items of such a run are in range
+pub none-out : (ts : List (Taken Gives Item)) → NoneOut ts → T (every in-range? (sources ts))
 unfolding every sources in-range? out?
 none-out [] n = tt
 none-out (t ∷ ts) n = and-both (in-range? (t .from)) (every in-range? (sources ts)) (subst (λ (b : Bool). T (not b)) (sym (n .0)) tt) (none-out ts (n .1))

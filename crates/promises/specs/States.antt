@@ -7,10 +7,10 @@ use mathlib.Core.List.{List, [], _∷_, _++_}
 use lib.Dec.{T, leb, ltb, eqb, leb→le, le→leb, eqb→eq, eqb-refl}
 use lib.ListN.{length, take, drop, length-append}
 use lib.Seq.{drop-append-seam}
-use borrow.Author.Tests.{ltb-false, lt-ltb}
+use borrow.Author.Tests.{ltb-false, lt-ltb, eq-eqb}
 use Rattle.paper.specs.Bytes.{every, same, joined}
 use Rattle.paper.specs.Names.{names-in, name-bytes, name?, all-different, most-names, sound-names, sound-table, value-entries}
-use Rattle.paper.specs.Store.{sound-lines, room, sound-store, overwritten}
+use Rattle.paper.specs.Store.{room, sound-store, overwritten}
 use Rattle.paper.specs.Calls.{State, names-of, lines-of, sound-state, stored, lacks-room}
 use Rattle.laws.specs.Tests.{and-left, and-right, and-both, as-T}
 use Rattle.promises.specs.Terms.{SoundState, Kept}
@@ -37,6 +37,17 @@ state-says s t =
       used-fits = leb→le (s .used) (room (s .store)) (and-left (leb (s .used) (room (s .store))) _ e);
       lines = and-right (leb (s .used) (room (s .store))) _ e;
     }
+
+-- and the other way round
+pub says-state : (s : State) → SoundState s → T (sound-state s)
+unfolding sound-state sound-table sound-store names-of lines-of
+says-state s o =
+    let bs : List ℕ = take (s .name-size) (s .names) in
+    and-both (sound-table (s .names) (s .name-size) (s .name-count)) _
+    (and-both (leb (s .name-size) (length (s .names))) _ (le→leb _ _ (o .table-fits))
+    (and-both (same (name-bytes (names-in bs)) bs) _ (as-T _ (ap (λ (z : List ℕ). same z bs) (o .bytes) ∙ same-refl bs))
+    (and-both (eqb (length (names-in bs)) (s .name-count)) _ (as-T _ (eq-eqb _ _ (o .count))) (o .names))))
+    (and-both (leb (8 * s .name-count) (length (s .values))) _ (le→leb _ _ (o .values-fit)) (and-both (leb (s .used) (room (s .store))) _ (le→leb _ _ (o .used-fits)) (o .lines)))
 
 -- ---- names of a sound table
 

@@ -136,7 +136,8 @@ lower k n (y ∷ ys) h t =
     let m : n < line-number y = ltb→lt n (line-number y) (and-left (ltb n (line-number y)) (rising-above (line-number y) ys) t) in
     and-both (ltb k (line-number y)) _ (lt→ltb k (line-number y) (omega arith)) (and-right (ltb n (line-number y)) (rising-above (line-number y) ys) t)
 
-no-lower : (n : ℕ) (ys : List (List ℕ)) → T (rising-above n ys) → T (rising ys)
+-- so do they rise
+pub no-lower : (n : ℕ) (ys : List (List ℕ)) → T (rising-above n ys) → T (rising ys)
 unfolding rising-above rising
 no-lower n [] t = tt
 no-lower n (y ∷ ys) t = and-right (ltb n (line-number y)) (rising-above (line-number y) ys) t

@@ -4,7 +4,7 @@ use mathlib.Core.Path.{_≡_}
 use mathlib.Core.Bool.{Bool, not}
 use mathlib.Core.Logic.{_↔_, _⊎_}
 use mathlib.Core.List.{List, [], _∷_, _++_, List·Memᴰ}
-use lib.Dec.{T, ltb}
+use lib.Dec.{T}
 use lib.ListN.{length, take, drop}
 use Rattle.paper.specs.Bytes.{pick, every, joined, blank?, digit?, run}
 use Rattle.paper.specs.Tokens.{Token, out-of-range, out-of-range?}
@@ -138,8 +138,8 @@ abbrev pub names-with : State → List Token → List (List ℕ)
 names-with s ts = add-names (names-of s) ts
 
 -- 6: names would pass 128, or lack name or value room
-abbrev pub NamesLackRoom : State → List Token → Type 0
-NamesLackRoom s ts = (most-names < length (names-with s ts)) ⊎ ((length (s .names) < length (name-bytes (names-with s ts))) ⊎ (length (s .values) < 8 * length (names-with s ts)))
+abbrev pub NamesLackRoom : State → List (List ℕ) → Type 0
+NamesLackRoom s ns = (most-names < length ns) ⊎ ((length (s .names) < length (name-bytes ns)) ⊎ (length (s .values) < 8 * length ns))
 
 -- the token line of a number and tokens
 abbrev pub line-with : State → ℕ → List Token → List ℕ
@@ -173,7 +173,7 @@ entry-refusals text s =
     ∷ (3, NoLineNumber text)
     ∷ (4, Unread (items-in text))
     ∷ (5, TooFar (items-in text))
-    ∷ (6, Giving (items-in text) (NamesLackRoom s))
+    ∷ (6, Giving (items-in text) (λ ts. NamesLackRoom s (names-with s ts)))
     ∷ (7, Giving (items-in text) (LineTooLong s (number-in text)))
     ∷ (8, Giving (items-in text) (StoreLacksRoom s (number-in text)))
     ∷ []
@@ -269,10 +269,6 @@ pub record CutTo (v u d : ℕ) : Type 0 where
   pub not-more : v * 10 ^ u * 100 ^ 53 < (q + 1) * (10 ^ d * 100 ^ k)
 
 -- ---- re-entry
-
--- every entry is a byte
-unfoldable pub bytes? : List ℕ → Bool
-bytes? l = every (λ b. ltb b 256) l
 
 -- the state with these lines in the store, and nothing else changed
 unfoldable pub with-lines : State → List (List ℕ) → State
