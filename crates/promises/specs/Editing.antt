@@ -15,9 +15,11 @@ use Rattle.paper.specs.Machine.{Taken, left, read}
 use Rattle.paper.specs.Grammar.{Gives, start}
 use Rattle.paper.specs.Line.{variable-bytes, own-bytes, begins?, to-next, token-bytes, line-bytes, line-number, lawful-number?}
 use Rattle.paper.specs.WellFormed.{WellFormed, right-token?}
-use Rattle.paper.specs.Store.{lines-from, lines-in, whole-line?, sound-lines, room, first-is?, lines-below, lines-not-below, lines-above, stored?, put-line, take-out}
+use Rattle.paper.specs.Store.{whole-line?, sound-lines, room, first-is?, lines-below, lines-not-below, lines-above, stored?, put-line, take-out}
 use Rattle.paper.specs.Calls.{State, names-of, lines-of, sound-state, Entered, refusal, tokens, translate, stored, lacks-room, enter}
 use Rattle.laws.specs.Tests.{and-left, and-both, or-else, is-true}
+use Rattle.laws.specs.Lines.{bytes-back, both-sides}
+use Rattle.laws.specs.Names.{names-added, adds-front}
 use Rattle.promises.specs.Place.{sources}
 use Rattle.promises.specs.TokenRuns.{on-taken, on-run}
 use Rattle.promises.specs.Given.{look-token, tokens-given}
@@ -28,9 +30,9 @@ use Rattle.promises.specs.Decoding.{Shapes, no-tokens, a-statement, a-te
 use Rattle.promises.specs.Shaped.{shapes, starts-statement, first-only}
 use Rattle.promises.specs.RoundTrip.{token-of, as-tokens, tokens-same, Known, known}
 use Rattle.promises.specs.Accepted.{translated-lawful, names-new, stored-well-formed}
-use Rattle.promises.specs.NameTable.{NamesGood, adds-good, adds-longer}
+use Rattle.promises.specs.NameTable.{NamesGood, adds-good}
 use Rattle.promises.specs.Refusals.{four-or-five}
-use Rattle.promises.specs.Stored.{old-lines, put-sound, out-sound, out-less, bytes-back, Holds, holds}
+use Rattle.promises.specs.Stored.{put-sound, out-sound, out-less, Holds, holds}
 use Rattle.promises.specs.States.{state-says, names-good, Room, no-more, room-for, made, stored-made, kept}
 use Rattle.promises.specs.Answers.{not-outright, Numbered, Answer, refused-outright, refused-there, puts-line, drops-line, answer}
 use Rattle.promises.specs.Terms.{number-in, number-end, after-number, items-in, names-with, line-with, SoundState, Kept, AtMostOne, no-line, one-line, PutIn, TakenOut, Edited, line-put, line-gone}
@@ -126,7 +128,7 @@ put-in l ls =
       below = lines-below n ls;
       replaced = c .there;
       above = lines-above n ls;
-      was = sym (old-lines n ls) ∙ ap (λ (z : List (List ℕ)). lines-below n ls ++ z) (c .are);
+      was = sym (both-sides n ls) ∙ ap (λ (z : List (List ℕ)). lines-below n ls ++ z) (c .are);
       is = refl;
       number = refl;
       same-number = c .one;
@@ -141,14 +143,12 @@ removed-go n ls (l ∷ r) t e =
 
 taken-out : (n : ℕ) (ls : List (List ℕ)) → T (stored? n ls) → TakenOut n ls (take-out n ls)
 unfolding take-out lines-above stored?
-taken-out n ls t = removed-go n ls (lines-not-below n ls) t (old-lines n ls)
+taken-out n ls t = removed-go n ls (lines-not-below n ls) t (both-sides n ls)
 
 -- what the old lines take is what is used
 pub used-bytes : (s : State) → T (sound-state s) → joined (lines-of s) ≡ take (s .used) (s .store)
-unfolding lines-of lines-in sound-lines
-used-bytes s t =
-    let ls : List (List ℕ) = lines-from 0 (take (s .used) (s .store)) in
-    bytes-back (take (s .used) (s .store)) 0 (and-left (every whole-line? ls) _ (state-says s t .lines))
+unfolding lines-of sound-lines
+used-bytes s t = bytes-back (take (s .used) (s .store)) (and-left (every whole-line? (lines-of s)) _ (state-says s t .lines))
 
 -- ---- an accepted text
 
@@ -161,9 +161,8 @@ put-done : (text : List ℕ) (s : State) → Numbered text s → (ts : List Toke
     → Edited text s (record { number = 0; place = 0; added = length ns - length (names-of s); after = stored s ns (put-line (line-bytes ns (number-in text) ts) (lines-of s)) })
 put-done text s t ts tr ns en lacks fits =
     let o : SoundState s = state-says s (t .sound) in
-    let longer = adds-longer ts (names-of s) in
-    let new : List (List ℕ) = longer .0 in
-    let is : ns ≡ names-of s ++ new = sym en ∙ longer .1 in
+    let new : List (List ℕ) = names-added (names-of s) ts in
+    let is : ns ≡ names-of s ++ new = sym en ∙ adds-front (names-of s) ts in
     let n : ℕ = number-in text in
     let l : List ℕ = line-bytes ns n ts in
     let ls : List (List ℕ) = put-line l (lines-of s) in

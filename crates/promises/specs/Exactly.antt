@@ -19,10 +19,10 @@ use Rattle.paper.specs.Listing.{listing}
 use Rattle.paper.specs.Store.{whole-line?, rising-above, rising, sound-lines, room, lines-not-below, first-is?, first-line, stored?, line-at, put-line}
 use Rattle.paper.specs.Calls.{State, names-of, lines-of, sound-state, Entered, refusal, Translated, tokens, refused-at, translate, lacks-room, accept, answered, delete, numbered, too-great, no-digit, head-of, at-head, enter-sound, enter, Listed, not-listed, list-sound, list}
 use Rattle.laws.specs.Tests.{and-left, and-right, as-T, or-else}
+use Rattle.laws.specs.Names.{names-added, adds-front, name-bytes-append}
 use Rattle.promises.specs.Terms.{after-blanks, digit-count, number-in, number-end, after-number, FirstHolding, none, here, later, Exactly, SoundState, Unsound, TextTooLong, NoLineNumber, Unread, TooFar, Giving, names-with, NamesLackRoom, line-with, LineTooLong, old-size, StoreLacksRoom, NoSuchLine, OfLine, entry-refusals, deletion-refusals, text-refusals, listing-refusals}
 use Rattle.promises.specs.WellFormedTest.{test-says, says-test}
 use Rattle.promises.specs.Decoding.{line-number-of}
-use Rattle.promises.specs.NameTable.{adds-longer, name-bytes-append}
 use Rattle.promises.specs.Stored.{no-lower}
 use Rattle.promises.specs.States.{state-says, says-state, room-for}
 use Rattle.promises.specs.Refusals.{Refusal, no-reading, too-far, translation-refused}
@@ -65,8 +65,8 @@ module _ (s : State) (o : SoundState s) (new : List (List ℕ)) where
 -- the test of the new names says it of the whole table
 says-lacking : (s : State) → SoundState s → (ts : List Token) → Says (lacks-room s (names-with s ts)) (NamesLackRoom s (names-with s ts))
 says-lacking s o ts =
-    let l = adds-longer ts (names-of s) in
-    subst (λ (ns : List (List ℕ)). Says (lacks-room s ns) (NamesLackRoom s ns)) (sym (l .1)) (lacks-so s o (l .0), room-so s o (l .0))
+    let new : List (List ℕ) = names-added (names-of s) ts in
+    subst (λ (ns : List (List ℕ)). Says (lacks-room s ns) (NamesLackRoom s ns)) (sym (adds-front (names-of s) ts)) (lacks-so s o new, room-so s o new)
 
 -- ---- 8: store room
 

@@ -14,10 +14,10 @@ use Rattle.paper.specs.Grammar.{Gives, itself, for-strings, as-prefix, put, giv
 use Rattle.paper.specs.Listing.{token-text, operator-text, body-text}
 use Rattle.paper.specs.WellFormed.{right-token?}
 use Rattle.paper.specs.Open.{all-Bytes, all-Words, all-Tokens, all-Grammar, all-Machine, all-Listing}
-use Rattle.laws.specs.Tests.{and-left, and-right, or-else}
+use Rattle.laws.specs.Tests.{and-left, and-right, is-true, or-else}
+use Rattle.laws.specs.Names.{same-eq}
 use Rattle.promises.specs.Place.{by-class, sources}
 use Rattle.promises.specs.TokenRuns.{row-fits, Fits, find-fits, AllFit, RunFits, read-fits}
-use Rattle.promises.specs.Lists.{same-eq}
 
 -- ---- a test at every word of a table holds at the word of a token, if that is there
 
@@ -109,7 +109,7 @@ unfolding operator-fits
 op-both e j t =
     let k : ℕ = given-operator e j in
     let r = and-right (eqb (read-as k) j) _ t in
-    (eqb→eq (read-as k) j (and-left (eqb (read-as k) j) _ t), same-eq (operator-text k) (operator-text j) (and-left (same (operator-text k) (operator-text j)) _ r), and-right (same (operator-text k) (operator-text j)) (plain-byte? k) r)
+    (eqb→eq (read-as k) j (and-left (eqb (read-as k) j) _ t), same-eq (operator-text k) (operator-text j) (is-true (same (operator-text k) (operator-text j)) (and-left (same (operator-text k) (operator-text j)) _ r)), and-right (same (operator-text k) (operator-text j)) (plain-byte? k) r)
 
 -- the test of an operator j, from the test of its class
 pub op-fits : (e : Gives) (j : ℕ) → T (fits e (operator-class j)) → T (operator-fits e j)

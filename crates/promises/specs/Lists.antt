@@ -1,12 +1,11 @@
--- Tests of which none passes, two lists of bytes that are the same, and tests over lists end to end.
+-- Tests of which none passes, and tests over lists end to end.
 use Prim.Native.Nat.{ℕ}
 use native.Mathlib.Omega.{arith}
-use mathlib.Core.Path.{_≡_, refl, ap, _∙_}
+use mathlib.Core.Path.{_≡_, refl}
 use mathlib.Core.Bool.{Bool, true, false, _||_}
 use mathlib.Core.List.{List, [], _∷_, _++_}
-use lib.Dec.{T, eqb}
-use borrow.Author.Tests.{eqb-true, eq-eqb}
-use Rattle.paper.specs.Bytes.{pick, same, every}
+use lib.Dec.{T}
+use Rattle.paper.specs.Bytes.{every}
 use Rattle.laws.specs.Tests.{and-left, and-right, and-both}
 
 -- one of two that passes
@@ -28,24 +27,6 @@ or-false-left false b e = refl
 pub or-false-right : (a b : Bool) → a || b ≡ false → b ≡ false
 or-false-right true b e = let z : _≡_ {A = ℕ} 0 1 = cc in absurd (omega arith)
 or-false-right false b e = e
-
-same-go : (x y : ℕ) (xs ys : List ℕ) (b : Bool) → eqb x y ≡ b → (T (same xs ys) → xs ≡ ys) → T (pick b (same xs ys) false) → x ∷ xs ≡ y ∷ ys
-same-go x y xs ys true e ih t = ap (λ (z : ℕ). z ∷ xs) (eqb-true x y e) ∙ ap (λ (l : List ℕ). y ∷ l) (ih t)
-same-go x y xs ys false e ih t = absurd t
-
--- what the test calls the same is equal
-pub same-eq : (xs ys : List ℕ) → T (same xs ys) → xs ≡ ys
-unfolding same
-same-eq [] [] t = refl
-same-eq [] (y ∷ ys) t = absurd t
-same-eq (x ∷ xs) [] t = absurd t
-same-eq (x ∷ xs) (y ∷ ys) t = same-go x y xs ys (eqb x y) refl (λ h. same-eq xs ys h) t
-
--- a list is the same as itself
-pub same-refl : (l : List ℕ) → same l l ≡ true
-unfolding same
-same-refl [] = refl
-same-refl (x ∷ l) = rw (eq-eqb x x refl) (same-refl l)
 
 -- a test of every entry of two lists passes at every entry of both end to end
 pub every-append : {A : Type 0} (p : A → Bool) (xs ys : List A) → T (every p xs) → T (every p ys) → T (every p (xs ++ ys))

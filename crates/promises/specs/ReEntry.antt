@@ -4,7 +4,7 @@ use native.Mathlib.Nat.{add-zero}
 use native.Mathlib.Omega.{arith}
 use mathlib.Core.Path.{_≡_, refl, sym, ap, _∙_}
 use mathlib.Core.Bool.{Bool, true, false}
-use mathlib.Core.List.{List, [], _∷_, _++_, append-assoc, append-nil}
+use mathlib.Core.List.{List, [], _∷_, _++_, append-nil}
 use lib.Dec.{T, eqb, eqb→eq}
 use lib.ListN.{length, take, drop, length-append, take-append-drop}
 use lib.Seq.{drop-length, length-take-le}
@@ -18,21 +18,17 @@ use Rattle.paper.specs.WellFormed.{WellFormed}
 use Rattle.paper.specs.Store.{room, lines-below, lines-not-below, lines-above, first-is?, first-line, stored?, line-at, put-line, overwritten}
 use Rattle.paper.specs.Calls.{State, names-of, lines-of, sound-state, stored, lacks-room, accept, enter, Listed, list}
 use Rattle.laws.specs.Tests.{is-true}
+use Rattle.laws.specs.Lines.{joined-append, both-sides, room-lent}
 use Rattle.promises.specs.Terms.{SoundState, old-size, with-lines, accepted-with}
 use Rattle.promises.specs.RoundTrip.{no-new-names}
 use Rattle.promises.specs.WellFormedTest.{test-says}
-use Rattle.promises.specs.Stored.{old-lines, room-least, over-take}
+use Rattle.promises.specs.Stored.{over-take}
 use Rattle.promises.specs.States.{state-says}
 use Rattle.promises.specs.Answers.{ListAnswer, not-written, written-out, list-answer, not-listed-so}
 use Rattle.promises.specs.Entering.{enter-listing}
 use Rattle.promises.specs.Editing.{used-bytes}
 
 -- ---- the size of the store with a line put in
-
-joined-append : (xs ys : List (List ℕ)) → joined (xs ++ ys) ≡ joined xs ++ joined ys
-unfolding joined
-joined-append [] ys = refl
-joined-append (x ∷ xs) ys = ap (λ (z : List ℕ). x ++ z) (joined-append xs ys) ∙ sym (append-assoc x (joined xs) (joined ys))
 
 size-append : (xs ys : List (List ℕ)) → length (joined (xs ++ ys)) ≡ length (joined xs) + length (joined ys)
 size-append xs ys = ap length (joined-append xs ys) ∙ length-append (joined xs) (joined ys)
@@ -47,7 +43,7 @@ cut-size n (l ∷ r) = go (eqb (line-number l) n)
     go false = omega arith
 
 used-in : (s : State) → T (sound-state s) → s .used ≤ length (s .store)
-used-in s o = omega (arith, state-says s o .used-fits, room-least (s .store))
+used-in s o = omega (arith, state-says s o .used-fits, room-lent (s .store))
 
 -- the lines take as many bytes as are used
 lines-size : (s : State) → T (sound-state s) → length (joined (lines-of s)) ≡ s .used
@@ -64,7 +60,7 @@ put-size s o l =
     let a = size-append (lines-below n ls) (l ∷ above) in
     let b = size-append (lines-below n ls) r in
     let c = cut-size n r in
-    let d = ap (λ (z : List (List ℕ)). length (joined z)) (old-lines n ls) in
+    let d = ap (λ (z : List (List ℕ)). length (joined z)) (both-sides n ls) in
     omega (arith, lines-size s o, length-append l (joined above))
 
 -- ---- no new name: the tables stay
@@ -109,7 +105,7 @@ put-there n ls l r h e =
     ∙ ap (λ (z : List (List ℕ)). lines-below n ls ++ l ∷ pick (first-is? n z) (drop 1 z) z) h
     ∙ ap (λ (b : Bool). lines-below n ls ++ l ∷ pick b r (l ∷ r)) (eq-eqb (line-number l) n e)
     ∙ ap (λ (z : List (List ℕ)). lines-below n ls ++ z) (sym h)
-    ∙ old-lines n ls
+    ∙ both-sides n ls
 
 same-go : (n : ℕ) (ls r : List (List ℕ)) → lines-not-below n ls ≡ r → T (first-is? n r) → (line-number (first-line r) ≡ n) × (put-line (first-line r) ls ≡ ls)
 unfolding first-is? first-line

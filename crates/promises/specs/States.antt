@@ -12,10 +12,11 @@ use Rattle.paper.specs.Bytes.{every, same, joined}
 use Rattle.paper.specs.Names.{names-in, name-bytes, name?, all-different, most-names, sound-names, sound-table, value-entries}
 use Rattle.paper.specs.Store.{room, sound-store, overwritten}
 use Rattle.paper.specs.Calls.{State, names-of, lines-of, sound-state, stored, lacks-room}
-use Rattle.laws.specs.Tests.{and-left, and-right, and-both, as-T}
+use Rattle.laws.specs.Tests.{and-left, and-right, and-both, as-T, is-true}
+use Rattle.laws.specs.Names.{same-self, same-eq, name-bytes-append}
 use Rattle.promises.specs.Terms.{SoundState, Kept}
-use Rattle.promises.specs.Lists.{or-false-left, or-false-right, same-eq, same-refl}
-use Rattle.promises.specs.NameTable.{NamesGood, names-back, name-bytes-append}
+use Rattle.promises.specs.Lists.{or-false-left, or-false-right}
+use Rattle.promises.specs.NameTable.{NamesGood, names-back}
 use Rattle.promises.specs.Stored.{Extended, extended, over-past, Holds}
 
 -- what the test of soundness says
@@ -30,7 +31,7 @@ state-says s t =
     let e = and-right (leb (8 * s .name-count) (length (s .values))) _ d in
     record {
       table-fits = leb→le (s .name-size) (length (s .names)) (and-left (leb (s .name-size) (length (s .names))) _ a);
-      bytes = same-eq (name-bytes (names-in bs)) bs (and-left (same (name-bytes (names-in bs)) bs) _ b);
+      bytes = same-eq (name-bytes (names-in bs)) bs (is-true (same (name-bytes (names-in bs)) bs) (and-left (same (name-bytes (names-in bs)) bs) _ b));
       count = eqb→eq (length (names-in bs)) (s .name-count) (and-left (eqb (length (names-in bs)) (s .name-count)) _ c);
       names = and-right (eqb (length (names-in bs)) (s .name-count)) _ c;
       values-fit = leb→le (8 * s .name-count) (length (s .values)) (and-left (leb (8 * s .name-count) (length (s .values))) _ d);
@@ -45,7 +46,7 @@ says-state s o =
     let bs : List ℕ = take (s .name-size) (s .names) in
     and-both (sound-table (s .names) (s .name-size) (s .name-count)) _
     (and-both (leb (s .name-size) (length (s .names))) _ (le→leb _ _ (o .table-fits))
-    (and-both (same (name-bytes (names-in bs)) bs) _ (as-T _ (ap (λ (z : List ℕ). same z bs) (o .bytes) ∙ same-refl bs))
+    (and-both (same (name-bytes (names-in bs)) bs) _ (as-T _ (ap (λ (z : List ℕ). same z bs) (o .bytes) ∙ same-self bs))
     (and-both (eqb (length (names-in bs)) (s .name-count)) _ (as-T _ (eq-eqb _ _ (o .count))) (o .names))))
     (and-both (leb (8 * s .name-count) (length (s .values))) _ (le→leb _ _ (o .values-fit)) (and-both (leb (s .used) (room (s .store))) _ (le→leb _ _ (o .used-fits)) (o .lines)))
 
@@ -136,7 +137,7 @@ table-sound s new o g r out e l =
       back,
       and-both (leb size (length out)) _ (le→leb size (length out) (subst (λ (z : ℕ). size ≤ z) (sym l) (r .bytes)))
           (and-both (same (name-bytes (names-in (take size out))) (take size out)) _
-          (as-T _ (ap₂ same (ap name-bytes back) bytes ∙ same-refl (name-bytes ns)))
+          (as-T _ (ap₂ same (ap name-bytes back) bytes ∙ same-self (name-bytes ns)))
           (and-both (eqb (length (names-in (take size out))) (length ns)) _
           (subst (λ (z : List (List ℕ)). T (eqb (length z) (length ns))) (sym back) (eqb-refl (length ns)))
           (subst (λ (z : List (List ℕ)). T (sound-names z)) (sym back) (good-names ns few g)))),
