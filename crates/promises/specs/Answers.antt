@@ -1,13 +1,13 @@
 -- All answers that `enter` and `list` give, each with what holds where it is given.
-use Prim.Native.Nat.{ℕ, suc, _-_, _≤_}
+use Prim.Native.Nat.{ℕ, _-_, _≤_}
 use native.Mathlib.Omega.{arith}
 use mathlib.Core.Path.{_≡_, refl, subst, sym, _∙_}
-use mathlib.Core.Bool.{Bool, true, false, not, _&&_}
+use mathlib.Core.Bool.{Bool, true, false, not}
 use mathlib.Core.List.{List, [], _∷_}
-use lib.Dec.{T, T-not, eqb, ltb, eqb·suc-suc}
+use lib.Dec.{T, T-not, eqb, ltb}
 use lib.ListN.{length}
-use borrow.Author.Tests.{ltb-false, eq-eqb, ne-eqb}
-use Rattle.paper.specs.Bytes.{pick, blank?, run, every, among, joined}
+use borrow.Author.Tests.{ltb-false}
+use Rattle.paper.specs.Bytes.{pick, blank?, every, among, joined}
 use Rattle.paper.specs.Tokens.{Token}
 use Rattle.paper.specs.Line.{lawful-number?}
 use Rattle.paper.specs.WellFormed.{well-formed?}
@@ -15,7 +15,8 @@ use Rattle.paper.specs.Listing.{listing}
 use Rattle.paper.specs.Store.{room, stored?, line-at, put-line, take-out, overwritten}
 use Rattle.paper.specs.Calls.{State, names-of, lines-of, sound-state, Entered, refusal, Translated, tokens, refused-at, translate, stored, lacks-room, accept, answered, delete, numbered, too-great, no-digit, head-of, at-head, enter-sound, enter, Listed, not-listed, list-sound, list}
 use Rattle.laws.specs.Tests.{as-T}
-use Rattle.promises.specs.Terms.{after-blanks, digit-count, number-in, number-end, after-number, items-in, NoReading, OutOfRange, names-with, line-with, Written}
+use Rattle.promises.specs.Terms.{after-blanks, digit-count, number-in, number-end, past-number, items-in, NoReading, OutOfRange, names-with, line-with, Written}
+use Rattle.promises.specs.Lists.{run-whole}
 use Rattle.promises.specs.Refusals.{Refusal, is-four, is-five, four-or-five, translation-refused}
 use Rattle.promises.specs.Stored.{over-take, over-past, over-length}
 
@@ -32,27 +33,17 @@ pub record Numbered (text : List ℕ) (s : State) : Type 0 where
 pub data Answer (text : List ℕ) (s : State) : Entered → Type 0 where
   refused-outright : (k : ℕ) → T (among k placeless) → Answer text s (refusal k 0 s)
   refused-there : (k q : ℕ) → Refusal (items-in text) k q → Answer text s (refusal k q s)
-  puts-line : Numbered text s → (ts : List Token) → translate (number-end text) (after-number text) ≡ tokens ts → lacks-room s (names-with s ts) ≡ false
+  puts-line : Numbered text s → (ts : List Token) → translate (number-end text) (past-number text) ≡ tokens ts → lacks-room s (names-with s ts) ≡ false
       → length (joined (put-line (line-with s (number-in text) ts) (lines-of s))) ≤ room (s .store)
       → Answer text s (record { number = 0; place = 0; added = length (names-with s ts) - length (names-of s); after = stored s (names-with s ts) (put-line (line-with s (number-in text) ts) (lines-of s)) })
-  drops-line : Numbered text s → T (every blank? (after-number text)) → T (stored? (number-in text) (lines-of s))
+  drops-line : Numbered text s → T (every blank? (past-number text)) → T (stored? (number-in text) (lines-of s))
       → Answer text s (record { number = 0; place = 0; added = 0; after = stored s (names-of s) (take-out (number-in text) (lines-of s)) })
-
--- nothing but blanks, as the call tests it
-pub all-blank : (l : List ℕ) → eqb (run blank? l) (length l) ≡ every blank? l
-unfolding run every
-all-blank [] = eq-eqb 0 0 refl
-all-blank (b ∷ l) = go (blank? b) (all-blank l)
-  where
-    go : (x : Bool) → eqb (run blank? l) (length l) ≡ every blank? l → eqb (pick x (suc (run blank? l)) 0) (suc (length l)) ≡ (x && every blank? l)
-    go true e = eqb·suc-suc (run blank? l) (length l) ∙ e
-    go false e = ne-eqb 0 (suc (length l)) (λ h. omega arith)
 
 module _ (text : List ℕ) (s : State) where
   outright : (k : ℕ) → T (among k placeless) → Answer text s (refusal k 0 s)
   outright k t = refused-outright k t
 
-  accept-says : Numbered text s → (ts : List Token) → translate (number-end text) (after-number text) ≡ tokens ts → Answer text s (accept s (number-in text) ts)
+  accept-says : Numbered text s → (ts : List Token) → translate (number-end text) (past-number text) ≡ tokens ts → Answer text s (accept s (number-in text) ts)
   unfolding accept among
   accept-says t ts e = go (lacks-room s (names-with s ts)) (ltb 255 (length line)) (ltb (room (s .store)) (length (joined lines))) refl refl
     where
@@ -69,30 +60,30 @@ module _ (text : List ℕ) (s : State) where
       go false false true x z = outright 8 tt
       go false false false x z = puts-line t ts e x (ltb-false _ _ z)
 
-  translation-says : Numbered text s → (r : Translated) → translate (number-end text) (after-number text) ≡ r → Answer text s (answered s (number-in text) r)
+  translation-says : Numbered text s → (r : Translated) → translate (number-end text) (past-number text) ≡ r → Answer text s (answered s (number-in text) r)
   unfolding answered
   translation-says t (tokens ts) e = accept-says t ts e
-  translation-says t (refused-at k q) e = refused-there k q (translation-refused (number-end text) (after-number text) k q e)
+  translation-says t (refused-at k q) e = refused-there k q (translation-refused (number-end text) (past-number text) k q e)
 
-  delete-go : Numbered text s → T (every blank? (after-number text)) → (b : Bool) → stored? (number-in text) (lines-of s) ≡ b
+  delete-go : Numbered text s → T (every blank? (past-number text)) → (b : Bool) → stored? (number-in text) (lines-of s) ≡ b
       → Answer text s (pick b (record { number = 0; place = 0; added = 0; after = stored s (names-of s) (take-out (number-in text) (lines-of s)) }) (refusal 9 0 s))
   unfolding among
   delete-go t e true x = drops-line t e (as-T _ x)
   delete-go t e false x = outright 9 tt
 
-  number-go : Numbered text s → (b : Bool) → every blank? (after-number text) ≡ b → Answer text s (pick b (delete s (number-in text)) (answered s (number-in text) (translate (number-end text) (after-number text))))
+  number-go : Numbered text s → (b : Bool) → every blank? (past-number text) ≡ b → Answer text s (pick b (delete s (number-in text)) (answered s (number-in text) (translate (number-end text) (past-number text))))
   unfolding delete
   number-go t true e = delete-go t (as-T _ e) (stored? (number-in text) (lines-of s)) refl
-  number-go t false e = translation-says t (translate (number-end text) (after-number text)) refl
+  number-go t false e = translation-says t (translate (number-end text) (past-number text)) refl
 
   head-says : T (sound-state s) → Answer text s (at-head s (head-of text))
-  unfolding at-head head-of after-blanks digit-count number-in number-end after-number among
+  unfolding at-head head-of after-blanks digit-count number-in number-end past-number among
   head-says o = go (eqb (digit-count text) 0) (lawful-number? (number-in text)) refl
     where
-      go : (a b : Bool) → lawful-number? (number-in text) ≡ b → Answer text s (at-head s (pick a no-digit (pick b (numbered (number-in text) (number-end text) (after-number text)) too-great)))
+      go : (a b : Bool) → lawful-number? (number-in text) ≡ b → Answer text s (at-head s (pick a no-digit (pick b (numbered (number-in text) (number-end text) (past-number text)) too-great)))
       go true b e = outright 3 tt
       go false false e = outright 3 tt
-      go false true e = rw (all-blank (after-number text)) (number-go (record { sound = o; lawful = as-T _ e }) (every blank? (after-number text)) refl)
+      go false true e = rw (run-whole blank? (past-number text)) (number-go (record { sound = o; lawful = as-T _ e }) (every blank? (past-number text)) refl)
 
   short-go : T (sound-state s) → (b : Bool) → Answer text s (pick b (refusal 2 0 s) (at-head s (head-of text)))
   unfolding among

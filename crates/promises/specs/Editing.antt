@@ -35,7 +35,7 @@ use Rattle.promises.specs.Refusals.{four-or-five}
 use Rattle.promises.specs.Stored.{put-sound, out-sound, out-less, Holds, holds}
 use Rattle.promises.specs.States.{state-says, names-good, Room, no-more, room-for, made, stored-made, kept}
 use Rattle.promises.specs.Answers.{not-outright, Numbered, Answer, refused-outright, refused-there, puts-line, drops-line, answer}
-use Rattle.promises.specs.Terms.{number-in, number-end, after-number, items-in, names-with, line-with, SoundState, Kept, AtMostOne, no-line, one-line, PutIn, TakenOut, Edited, line-put, line-gone}
+use Rattle.promises.specs.Terms.{number-in, number-end, past-number, items-in, names-with, line-with, SoundState, Kept, AtMostOne, no-line, one-line, PutIn, TakenOut, Edited, line-put, line-gone}
 
 -- ---- a well-formed line is a whole line
 
@@ -156,7 +156,7 @@ lines-are : (s : State) (ns ls : List (List ℕ)) → Holds ls (s .store) → li
 unfolding stored lines-of
 lines-are s ns ls h = h .lines
 
-put-done : (text : List ℕ) (s : State) → Numbered text s → (ts : List Token) → translate (number-end text) (after-number text) ≡ tokens ts → (ns : List (List ℕ)) → names-with s ts ≡ ns → lacks-room s ns ≡ false
+put-done : (text : List ℕ) (s : State) → Numbered text s → (ts : List Token) → translate (number-end text) (past-number text) ≡ tokens ts → (ns : List (List ℕ)) → names-with s ts ≡ ns → lacks-room s ns ≡ false
     → length (joined (put-line (line-bytes ns (number-in text) ts) (lines-of s))) ≤ room (s .store)
     → Edited text s (record { number = 0; place = 0; added = length ns - length (names-of s); after = stored s ns (put-line (line-bytes ns (number-in text) ts) (lines-of s)) })
 put-done text s t ts tr ns en lacks fits =
@@ -168,8 +168,8 @@ put-done text s t ts tr ns en lacks fits =
     let ls : List (List ℕ) = put-line l (lines-of s) in
     let a : State = stored s ns ls in
     let p : ℕ = number-end text in
-    let wf : WellFormed ns l = subst (λ (z : List (List ℕ)). WellFormed z (line-bytes z n ts)) en (stored-well-formed (names-of s) n p (after-number text) ts (t .lawful) tr) in
-    let good : NamesGood (names-of s ++ new) = subst NamesGood (en ∙ is) (adds-good ts (names-of s) (names-new p (after-number text) ts tr) (names-good (names-of s) (o .names))) in
+    let wf : WellFormed ns l = subst (λ (z : List (List ℕ)). WellFormed z (line-bytes z n ts)) en (stored-well-formed (names-of s) n p (past-number text) ts (t .lawful) tr) in
+    let good : NamesGood (names-of s ++ new) = subst NamesGood (en ∙ is) (adds-good ts (names-of s) (names-new p (past-number text) ts tr) (names-good (names-of s) (o .names))) in
     let r : Room s new = room-for s new o (subst (λ (z : List (List ℕ)). lacks-room s z ≡ false) is lacks) in
     let h : Holds ls (s .store) = holds ls (s .store) (put-sound l (lines-of s) (well-formed-whole ns l wf) (o .lines)) fits in
     let made-so : a ≡ made s new ls = ap (λ (z : List (List ℕ)). stored s z ls) is ∙ stored-made s new ls in
@@ -177,11 +177,11 @@ put-done text s t ts tr ns en lacks fits =
     let names : names-of a ≡ ns = k .names ∙ sym is in
     let put : PutIn n l (lines-of s) ls = subst (λ (z : ℕ). PutIn z l (lines-of s) ls) (line-number-of ns n ts) (put-in l (lines-of s)) in
     let line : l ≡ line-with s n ts = ap (λ (z : List (List ℕ)). line-bytes z n ts) (sym en) in
-    line-put ts new (translated-lawful p (after-number text) ts tr) (names ∙ sym en) (omega (arith, ap length is, length-append (names-of s) new)) k
+    line-put ts new (translated-lawful p (past-number text) ts tr) (names ∙ sym en) (omega (arith, ap length is, length-append (names-of s) new)) k
     (subst (λ (z : List ℕ). PutIn n z (lines-of s) (lines-of a)) line (subst (PutIn n l (lines-of s)) (sym (lines-are s ns ls h)) put))
     (subst (λ (z : List (List ℕ)). WellFormed z (line-with s n ts)) (sym names) (subst (WellFormed ns) line wf))
 
-gone-done : (text : List ℕ) (s : State) → Numbered text s → T (every blank? (after-number text)) → T (stored? (number-in text) (lines-of s))
+gone-done : (text : List ℕ) (s : State) → Numbered text s → T (every blank? (past-number text)) → T (stored? (number-in text) (lines-of s))
     → Edited text s (record { number = 0; place = 0; added = 0; after = stored s (names-of s) (take-out (number-in text) (lines-of s)) })
 gone-done text s t b st =
     let o : SoundState s = state-says s (t .sound) in

@@ -20,14 +20,14 @@ use Rattle.paper.specs.Store.{whole-line?, rising-above, rising, sound-lines, r
 use Rattle.paper.specs.Calls.{State, names-of, lines-of, sound-state, Entered, refusal, Translated, tokens, refused-at, translate, lacks-room, accept, answered, delete, numbered, too-great, no-digit, head-of, at-head, enter-sound, enter, Listed, not-listed, list-sound, list}
 use Rattle.laws.specs.Tests.{and-left, and-right, as-T, or-else}
 use Rattle.laws.specs.Names.{names-added, adds-front, name-bytes-append}
-use Rattle.promises.specs.Terms.{after-blanks, digit-count, number-in, number-end, after-number, FirstHolding, none, here, later, Exactly, SoundState, Unsound, TextTooLong, NoLineNumber, Unread, TooFar, Giving, names-with, NamesLackRoom, line-with, LineTooLong, old-size, StoreLacksRoom, NoSuchLine, OfLine, entry-refusals, deletion-refusals, text-refusals, listing-refusals}
+use Rattle.promises.specs.Terms.{after-blanks, digit-count, number-in, number-end, past-number, FirstHolding, none, here, later, Exactly, SoundState, Unsound, TextTooLong, NoLineNumber, Unread, TooFar, Giving, names-with, NamesLackRoom, line-with, LineTooLong, old-size, StoreLacksRoom, NoSuchLine, OfLine, entry-refusals, deletion-refusals, text-refusals, listing-refusals}
 use Rattle.promises.specs.WellFormedTest.{test-says, says-test}
 use Rattle.promises.specs.Decoding.{line-number-of}
 use Rattle.promises.specs.Stored.{no-lower}
 use Rattle.promises.specs.States.{state-says, says-state, room-for}
 use Rattle.promises.specs.Refusals.{Refusal, no-reading, too-far, translation-refused}
 use Rattle.promises.specs.Accepted.{translated-lawful}
-use Rattle.promises.specs.Answers.{all-blank}
+use Rattle.promises.specs.Lists.{run-whole}
 use Rattle.promises.specs.ReEntry.{put-size}
 use Rattle.promises.specs.OnePlace.{not-both, one-tokens, translated-readable, not-refused}
 use Rattle.promises.specs.Tested.{exactly, Says, says-less, says-not, tested, passed}
@@ -175,24 +175,24 @@ module _ (s : State) (o : T (sound-state s)) (n : ℕ) where
 module _ (text : List ℕ) (s : State) where
   -- nothing but blanks stands after the number
   abbrev alone : Bool
-  alone = every blank? (after-number text)
+  alone = every blank? (past-number text)
 
   -- 3, and then what is asked of a text with a number
-  number-first : (cs : List (ℕ × Type 0)) → FirstHolding cs ((pick alone (delete s (number-in text)) (answered s (number-in text) (translate (number-end text) (after-number text)))) .number)
+  number-first : (cs : List (ℕ × Type 0)) → FirstHolding cs ((pick alone (delete s (number-in text)) (answered s (number-in text) (translate (number-end text) (past-number text)))) .number)
       → FirstHolding ((3, NoLineNumber text) ∷ cs) ((at-head s (head-of text)) .number)
-  unfolding at-head head-of refusal after-blanks digit-count number-in number-end after-number lawful-number?
+  unfolding at-head head-of refusal after-blanks digit-count number-in number-end past-number lawful-number?
   number-first cs f = go (eqb (digit-count text) 0) refl (leb (number-in text) 32767) refl
     where
       go : (a : Bool) → eqb (digit-count text) 0 ≡ a → (b : Bool) → leb (number-in text) 32767 ≡ b
-          → FirstHolding ((3, NoLineNumber text) ∷ cs) ((at-head s (pick a no-digit (pick b (numbered (number-in text) (number-end text) (after-number text)) too-great))) .number)
+          → FirstHolding ((3, NoLineNumber text) ∷ cs) ((at-head s (pick a no-digit (pick b (numbered (number-in text) (number-end text) (past-number text)) too-great))) .number)
       go true x b y = here (inl (eqb-true _ _ x))
       go false x false y = here (inr (leb-false _ _ y))
       go false x true y = let k = leb-true (number-in text) 32767 y in
           let n : NoLineNumber text → ⊥ = ⊎-elim (eqb-false _ _ x) (λ h. omega arith) in
-          rw (all-blank (after-number text)) (later n f)
+          rw (run-whole blank? (past-number text)) (later n f)
 
   -- 1 and 2 before it
-  begin-first : (cs : List (ℕ × Type 0)) → (T (sound-state s) → FirstHolding cs ((pick alone (delete s (number-in text)) (answered s (number-in text) (translate (number-end text) (after-number text)))) .number))
+  begin-first : (cs : List (ℕ × Type 0)) → (T (sound-state s) → FirstHolding cs ((pick alone (delete s (number-in text)) (answered s (number-in text) (translate (number-end text) (past-number text)))) .number))
       → FirstHolding ((1, Unsound s) ∷ (2, TextTooLong text) ∷ (3, NoLineNumber text) ∷ cs) ((enter text s) .number)
   unfolding enter enter-sound refusal
   begin-first cs f = passed number-of (sound-state s) _ _ (says-unsound s) (λ o. tested number-of _ _ _ (says-less 120 (length text)) (λ e. number-first cs (f o)))
@@ -204,7 +204,7 @@ module _ (text : List ℕ) (s : State) where
     where
       go : (b : Bool) → alone ≡ b → Exactly (pick b (deletion-refusals text s) (entry-refusals text s)) ((enter text s) .number)
       go true e = exactly _ _ tt (begin-first _ (λ o. rw e (passed number-of (stored? (number-in text) (lines-of s)) _ _ (says-missing s o (number-in text)) (λ h. none))))
-      go false e = exactly _ _ tt (begin-first _ (λ o. rw e (answered-first s o (number-in text) (number-end text) (after-number text) _ refl)))
+      go false e = exactly _ _ tt (begin-first _ (λ o. rw e (answered-first s o (number-in text) (number-end text) (past-number text) _ refl)))
 
 -- ---- a listing
 

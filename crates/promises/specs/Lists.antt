@@ -1,11 +1,13 @@
--- Tests of which none passes, and tests over lists end to end.
-use Prim.Native.Nat.{ℕ}
+-- Tests of which one passes or none, and tests over lists.
+use Prim.Native.Nat.{ℕ, suc}
 use native.Mathlib.Omega.{arith}
-use mathlib.Core.Path.{_≡_, refl}
-use mathlib.Core.Bool.{Bool, true, false, _||_}
+use mathlib.Core.Path.{_≡_, refl, _∙_}
+use mathlib.Core.Bool.{Bool, true, false, _&&_, _||_}
 use mathlib.Core.List.{List, [], _∷_, _++_}
-use lib.Dec.{T}
-use Rattle.paper.specs.Bytes.{every}
+use lib.Dec.{T, eqb, eqb·suc-suc}
+use lib.ListN.{length}
+use borrow.Author.Tests.{eq-eqb, ne-eqb}
+use Rattle.paper.specs.Bytes.{pick, run, every}
 use Rattle.laws.specs.Tests.{and-left, and-right, and-both}
 
 -- one of two that passes
@@ -45,3 +47,13 @@ pub every-right : {A : Type 0} (p : A → Bool) (xs ys : List A) → T (every p 
 unfolding every
 every-right p [] ys t = t
 every-right p (x ∷ xs) ys t = every-right p xs ys (and-right (p x) (every p (xs ++ ys)) t)
+
+-- the longest run at the front is the whole list exactly if every entry passes
+pub run-whole : (p : ℕ → Bool) (l : List ℕ) → eqb (run p l) (length l) ≡ every p l
+unfolding run every
+run-whole p [] = eq-eqb 0 0 refl
+run-whole p (x ∷ l) = go (p x) (run-whole p l)
+  where
+    go : (b : Bool) → eqb (run p l) (length l) ≡ every p l → eqb (pick b (suc (run p l)) 0) (suc (length l)) ≡ (b && every p l)
+    go true e = eqb·suc-suc (run p l) (length l) ∙ e
+    go false e = ne-eqb 0 (suc (length l)) (λ h. omega arith)

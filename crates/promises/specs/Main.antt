@@ -15,7 +15,7 @@ use Rattle.paper.specs.WellFormed.{WellFormed, well-formed?}
 use Rattle.paper.specs.Listing.{listing}
 use Rattle.paper.specs.Store.{room, line-at, put-line}
 use Rattle.paper.specs.Calls.{State, names-of, lines-of, sound-state, Entered, enter, Listed, list}
-use Rattle.promises.specs.Terms.{number-end, after-number, items-in, NoReading, OutOfRange, Readable, Exactly, Unread, TooFar, text-refusals, listing-refusals, Edited, Written, HoldsWellFormed, CutTo, old-size, with-lines, accepted-with}
+use Rattle.promises.specs.Terms.{number-end, past-number, items-in, NoReading, OutOfRange, Readable, Exactly, Unread, TooFar, text-refusals, listing-refusals, Edited, Written, HoldsWellFormed, CutTo, old-size, with-lines, accepted-with}
 use Rattle.promises.specs.ConstantRight as ConstantRight′
 use Rattle.promises.specs.ConstantSize as ConstantSize′
 use Rattle.promises.specs.RoundTrip as RoundTrip′
@@ -129,7 +129,7 @@ listing-exactly n s output = Exactly′.listing-exactly n s output
 
 -- Neither 4 nor 5 is there exactly when the text's own items are a lawful sequence with every constant in range.
 pub neither-4-nor-5 : (text : List ℕ) → ((Unread (items-in text) → ⊥) × (TooFar (items-in text) → ⊥)) ↔ Readable (items-in text)
-neither-4-nor-5 text = OnePlace′.neither (number-end text) (after-number text)
+neither-4-nor-5 text = OnePlace′.neither (number-end text) (past-number text)
 
 -- The two are never there together, and each has one place.
 pub one-place : (is : List Item) (p q : ℕ) → (NoReading is p → OutOfRange is q → ⊥) × (NoReading is p → NoReading is q → p ≡ q) × (OutOfRange is p → OutOfRange is q → p ≡ q)

@@ -16,7 +16,7 @@ use Rattle.laws.specs.Tests.{and-left}
 use Rattle.promises.specs.Terms.{LawfulItems, in-range?, NoReading, OutOfRange, Readable, Unread, TooFar}
 use Rattle.promises.specs.Lists.{every-right}
 use Rattle.promises.specs.Place.{sources, Told, told}
-use Rattle.promises.specs.Refusals.{Refusal, no-reading, too-far, none-out, translation-refused}
+use Rattle.promises.specs.Refusals.{Refusal, no-reading, too-far, taken-in-range, translation-refused}
 use Rattle.promises.specs.Accepted.{translate-says, translated-lawful}
 
 -- ---- two items of one sequence
@@ -91,7 +91,7 @@ pub translated-readable : (p : ℕ) (s : List ℕ) (ts : List Token) → transla
 translated-readable p s ts e =
     let a = translate-says p s ts e in
     let is : items p s ≡ sources (a .taken) = subst (Told look-item start (items p s)) (a .reads) (told look-item start (items p s)) in
-    ((ts, translated-lawful p s ts e), subst (λ (z : List Item). T (every in-range? z)) (sym is) (none-out (a .taken) (a .none-out)))
+    ((ts, translated-lawful p s ts e), subst (λ (z : List Item). T (every in-range? z)) (sym is) (taken-in-range (a .taken) (a .none-out)))
 
 -- what is readable is refused with neither
 pub not-refused : (is : List Item) → Readable is → (Unread is → ⊥) × (TooFar is → ⊥)

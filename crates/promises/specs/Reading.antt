@@ -19,11 +19,12 @@ use Rattle.paper.specs.Listing.{token-text, operator-text, body-text}
 use Rattle.paper.specs.WellFormed.{right-token?}
 use Rattle.paper.specs.Open.{all-Bytes, all-Words, all-Listing}
 use Rattle.laws.specs.Tests.{and-left, and-right, is-true, is-false, or-else, as-T, and-both}
+use Rattle.laws.specs.Classes.{at-kind}
 use Rattle.laws.specs.Names.{same-eq}
 use Rattle.laws.specs.Runs.{All, all-every, run-all, seam}
 use Rattle.promises.specs.ConstantText.{ends-number, constant-reads, constant-starts}
 use Rattle.promises.specs.Lists.{or-right}
-use Rattle.promises.specs.Given.{at-word, at-class, at-kind}
+use Rattle.promises.specs.Given.{at-word, at-class}
 use Rattle.promises.specs.Neighbours.{apart, first-class?, operator-class?, Apart}
 use Rattle.promises.specs.Closed.{closed, end-class?}
 use Rattle.promises.specs.WordReading.{read-tokens, ends-name, after, Next, scan-item, at-each, OperatorReads, StatementNext, StatementReads, after-statement}

@@ -31,17 +31,17 @@ digit-count text = run digit? (after-blanks text)
 unfoldable pub number-in : List ℕ → ℕ
 number-in text = value 0 (take (digit-count text) (after-blanks text))
 
--- the place past them
+-- the place past it
 unfoldable pub number-end : List ℕ → ℕ
 number-end text = run blank? text + digit-count text
 
 -- what stands there
-unfoldable pub after-number : List ℕ → List ℕ
-after-number text = drop (digit-count text) (after-blanks text)
+unfoldable pub past-number : List ℕ → List ℕ
+past-number text = drop (digit-count text) (after-blanks text)
 
 -- the items of a text: those after its number, with places counted from the whole text's start
 abbrev pub items-in : List ℕ → List Item
-items-in text = items (number-end text) (after-number text)
+items-in text = items (number-end text) (past-number text)
 
 -- a sequence of items is lawful: it gives some tokens
 abbrev pub LawfulItems : List Item → Type 0
@@ -184,7 +184,7 @@ deletion-refusals text s = (1, Unsound s) ∷ (2, TextTooLong text) ∷ (3, NoLi
 
 -- a text with nothing but blanks after its number deletes, every other is entered
 abbrev pub text-refusals : List ℕ → State → List (ℕ × Type 0)
-text-refusals text s = pick (every blank? (after-number text)) (deletion-refusals text s) (entry-refusals text s)
+text-refusals text s = pick (every blank? (past-number text)) (deletion-refusals text s) (entry-refusals text s)
 
 -- listing a line; 10: it is not well-formed; 11: its listing is longer than the output buffer
 abbrev pub listing-refusals : ℕ → State → List ℕ → List (ℕ × Type 0)
@@ -241,7 +241,7 @@ pub record TakenOut (n : ℕ) (old new : List (List ℕ)) : Type 0 where
 pub data Edited (text : List ℕ) (s : State) (e : Entered) : Type 0 where
   line-put : (ts : List Token) (new : List (List ℕ)) → Lawful (items-in text) ts → names-of (e .after) ≡ names-with s ts → e .added ≡ length new → Kept s (e .after) new
       → PutIn (number-in text) (line-with s (number-in text) ts) (lines-of s) (lines-of (e .after)) → WellFormed (names-of (e .after)) (line-with s (number-in text) ts) → Edited text s e
-  line-gone : T (every blank? (after-number text)) → e .added ≡ 0 → Kept s (e .after) [] → TakenOut (number-in text) (lines-of s) (lines-of (e .after)) → Edited text s e
+  line-gone : T (every blank? (past-number text)) → e .added ≡ 0 → Kept s (e .after) [] → TakenOut (number-in text) (lines-of s) (lines-of (e .after)) → Edited text s e
 
 -- every line of the store is well-formed over the names
 abbrev pub HoldsWellFormed : State → Type 0
