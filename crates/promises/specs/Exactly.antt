@@ -20,7 +20,7 @@ use Rattle.paper.specs.Store.{whole-line?, rising-above, rising, sound-lines, r
 use Rattle.paper.specs.Calls.{State, names-of, lines-of, sound-state, Entered, refusal, Translated, tokens, refused-at, translate, lacks-room, accept, answered, delete, numbered, too-great, no-digit, head-of, at-head, enter-sound, enter, Listed, not-listed, list-sound, list}
 use Rattle.laws.specs.Tests.{and-left, and-right, as-T, or-else}
 use Rattle.laws.specs.Names.{names-added, adds-front, name-bytes-append}
-use Rattle.promises.specs.Terms.{after-blanks, digit-count, number-in, number-end, past-number, FirstHolding, none, here, later, Exactly, SoundState, Unsound, TextTooLong, NoLineNumber, Unread, TooFar, Giving, names-with, NamesLackRoom, line-with, LineTooLong, old-size, StoreLacksRoom, NoSuchLine, OfLine, entry-refusals, deletion-refusals, text-refusals, listing-refusals}
+use Rattle.promises.specs.Terms.{after-blanks, digit-count, number-in, number-end, past-number, FirstHolding, none-holds, this-holds, later-holds, Exactly, SoundState, Unsound, TextTooLong, NoLineNumber, Unread, TooFar, Giving, names-with, NamesLackRoom, line-with, LineTooLong, old-size, StoreLacksRoom, NoSuchLine, OfLine, entry-refusals, deletion-refusals, text-refusals, listing-refusals}
 use Rattle.promises.specs.WellFormedTest.{test-says, says-test}
 use Rattle.promises.specs.Decoding.{line-number-of}
 use Rattle.promises.specs.Stored.{no-lower}
@@ -98,17 +98,17 @@ module _ (s : State) (o : T (sound-state s)) (n : ℕ) where
   unfolding accept refusal
   accept-first is ts l =
       tested number-of _ _ _ (says-giving is ts l (says-lacking s (state-says s o) ts))
-      (λ e. tested number-of _ _ _ (says-giving is ts l (says-less 255 (length (line-with s n ts)))) (λ e. tested number-of _ _ _ (says-giving is ts l (says-full s o n ts)) (λ e. none)))
+      (λ e. tested number-of _ _ _ (says-giving is ts l (says-less 255 (length (line-with s n ts)))) (λ e. tested number-of _ _ _ (says-giving is ts l (says-full s o n ts)) (λ e. none-holds)))
 
   -- 4 and 5
   refused-first : (is : List Item) (k q : ℕ) → Refusal is k q → FirstHolding (item-refusals is) k
-  refused-first is k q (no-reading h) = let u : Unread is = (q, h) in here u
-  refused-first is k q (too-far h) = let f : TooFar is = (q, h) in later (λ (u : Unread is). not-both is (u .0) q (u .1) h) (here f)
+  refused-first is k q (no-reading h) = let u : Unread is = (q, h) in this-holds u
+  refused-first is k q (too-far h) = let f : TooFar is = (q, h) in later-holds (λ (u : Unread is). not-both is (u .0) q (u .1) h) (this-holds f)
 
   -- all five
   answered-first : (p : ℕ) (rest : List ℕ) (r : Translated) → translate p rest ≡ r → FirstHolding (item-refusals (items p rest)) ((answered s n r) .number)
   unfolding answered refusal
-  answered-first p rest (tokens ts) e = let r = not-refused (items p rest) (translated-readable p rest ts e) in later (r .0) (later (r .1) (accept-first (items p rest) ts (translated-lawful p rest ts e)))
+  answered-first p rest (tokens ts) e = let r = not-refused (items p rest) (translated-readable p rest ts e) in later-holds (r .0) (later-holds (r .1) (accept-first (items p rest) ts (translated-lawful p rest ts e)))
   answered-first p rest (refused-at k q) e = refused-first (items p rest) k q (translation-refused p rest k q e)
 
 -- ---- 9: the line with a number
@@ -185,11 +185,11 @@ module _ (text : List ℕ) (s : State) where
     where
       go : (a : Bool) → eqb (digit-count text) 0 ≡ a → (b : Bool) → leb (number-in text) 32767 ≡ b
           → FirstHolding ((3, NoLineNumber text) ∷ cs) ((at-head s (pick a no-digit (pick b (numbered (number-in text) (number-end text) (past-number text)) too-great))) .number)
-      go true x b y = here (inl (eqb-true _ _ x))
-      go false x false y = here (inr (leb-false _ _ y))
+      go true x b y = this-holds (inl (eqb-true _ _ x))
+      go false x false y = this-holds (inr (leb-false _ _ y))
       go false x true y = let k = leb-true (number-in text) 32767 y in
           let n : NoLineNumber text → ⊥ = ⊎-elim (eqb-false _ _ x) (λ h. omega arith) in
-          rw (run-whole blank? (past-number text)) (later n f)
+          rw (run-whole blank? (past-number text)) (later-holds n f)
 
   -- 1 and 2 before it
   begin-first : (cs : List (ℕ × Type 0)) → (T (sound-state s) → FirstHolding cs ((pick alone (delete s (number-in text)) (answered s (number-in text) (translate (number-end text) (past-number text)))) .number))
@@ -203,7 +203,7 @@ module _ (text : List ℕ) (s : State) where
   text-exactly = go alone refl
     where
       go : (b : Bool) → alone ≡ b → Exactly (pick b (deletion-refusals text s) (entry-refusals text s)) ((enter text s) .number)
-      go true e = exactly _ _ tt (begin-first _ (λ o. rw e (passed number-of (stored? (number-in text) (lines-of s)) _ _ (says-missing s o (number-in text)) (λ h. none))))
+      go true e = exactly _ _ tt (begin-first _ (λ o. rw e (passed number-of (stored? (number-in text) (lines-of s)) _ _ (says-missing s o (number-in text)) (λ h. none-holds))))
       go false e = exactly _ _ tt (begin-first _ (λ o. rw e (answered-first s o (number-in text) (number-end text) (past-number text) _ refl)))
 
 -- ---- a listing
@@ -222,4 +222,4 @@ listing-exactly n s output =
     (λ o. tested listed-number _ _ _ (says-missing s o n)
     (λ e. let st : T (stored? n (lines-of s)) = as-T (stored? n (lines-of s)) (not-false _ e) in
     tested listed-number _ _ _ (says-line s o n st (says-not (well-formed? (names-of s) l) (test-says (names-of s) l) (says-test (names-of s) l)))
-    (λ e. tested listed-number _ _ _ (says-line s o n st (says-less (length output) (length (listing (names-of s) l)))) (λ e. none)))))
+    (λ e. tested listed-number _ _ _ (says-line s o n st (says-less (length output) (length (listing (names-of s) l)))) (λ e. none-holds)))))

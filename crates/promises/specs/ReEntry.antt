@@ -3,9 +3,9 @@ use Prim.Native.Nat.{ℕ, _+_, _-_, _*_, _≤_}
 use native.Mathlib.Nat.{add-zero}
 use native.Mathlib.Omega.{arith}
 use mathlib.Core.Path.{_≡_, refl, sym, ap, _∙_}
-use mathlib.Core.Bool.{Bool, true, false}
+use mathlib.Core.Bool.{Bool, false}
 use mathlib.Core.List.{List, [], _∷_, _++_, append-nil}
-use lib.Dec.{T, eqb, eqb→eq}
+use lib.Dec.{T, eqb→eq}
 use lib.ListN.{length, take, drop, length-append, take-append-drop}
 use lib.Seq.{drop-length, length-take-le}
 use borrow.Author.Tests.{le-ltb, eq-eqb}
@@ -18,7 +18,7 @@ use Rattle.paper.specs.WellFormed.{WellFormed}
 use Rattle.paper.specs.Store.{room, lines-below, lines-not-below, lines-above, first-is?, first-line, stored?, line-at, put-line, overwritten}
 use Rattle.paper.specs.Calls.{State, names-of, lines-of, sound-state, stored, lacks-room, accept, enter, Listed, list}
 use Rattle.laws.specs.Tests.{is-true}
-use Rattle.laws.specs.Lines.{joined-append, both-sides, room-lent}
+use Rattle.laws.specs.Lines.{joined-append, both-sides, old-line, three-parts, room-lent}
 use Rattle.promises.specs.Terms.{SoundState, old-size, with-lines, accepted-with}
 use Rattle.promises.specs.RoundTrip.{no-new-names}
 use Rattle.promises.specs.WellFormedTest.{test-says}
@@ -30,18 +30,6 @@ use Rattle.promises.specs.Editing.{used-bytes}
 
 -- ---- the size of the store with a line put in
 
-size-append : (xs ys : List (List ℕ)) → length (joined (xs ++ ys)) ≡ length (joined xs) + length (joined ys)
-size-append xs ys = ap length (joined-append xs ys) ∙ length-append (joined xs) (joined ys)
-
-cut-size : (n : ℕ) (r : List (List ℕ)) → length (joined (pick (first-is? n r) (drop 1 r) r)) + pick (first-is? n r) (length (first-line r)) 0 ≡ length (joined r)
-unfolding first-is? first-line joined
-cut-size n [] = refl
-cut-size n (l ∷ r) = go (eqb (line-number l) n)
-  where
-    go : (b : Bool) → length (joined (pick b r (l ∷ r))) + pick b (length l) 0 ≡ length (l ++ joined r)
-    go true = omega (arith, length-append l (joined r))
-    go false = omega arith
-
 used-in : (s : State) → T (sound-state s) → s .used ≤ length (s .store)
 used-in s o = omega (arith, state-says s o .used-fits, room-lent (s .store))
 
@@ -51,17 +39,15 @@ lines-size s o = ap length (used-bytes s o) ∙ length-take-le (s .used) (s .sto
 
 -- the bytes of all lines with one put in, and of the one that it replaces
 pub put-size : (s : State) → T (sound-state s) → (l : List ℕ) → length (joined (put-line l (lines-of s))) + old-size (line-number l) s ≡ s .used + length l
-unfolding put-line old-size lines-above stored? line-at joined
+unfolding put-line old-size old-line joined
 put-size s o l =
     let n : ℕ = line-number l in
     let ls : List (List ℕ) = lines-of s in
-    let r : List (List ℕ) = lines-not-below n ls in
-    let above : List (List ℕ) = pick (first-is? n r) (drop 1 r) r in
-    let a = size-append (lines-below n ls) (l ∷ above) in
-    let b = size-append (lines-below n ls) r in
-    let c = cut-size n r in
-    let d = ap (λ (z : List (List ℕ)). length (joined z)) (both-sides n ls) in
-    omega (arith, lines-size s o, length-append l (joined above))
+    let below : List ℕ = joined (lines-below n ls) in
+    let above : List ℕ = joined (lines-above n ls) in
+    let new = ap length (joined-append (lines-below n ls) (l ∷ lines-above n ls)) in
+    let old = ap length (three-parts n ls) in
+    omega (arith, lines-size s o, length-append below (l ++ above), length-append l above, length-append below (old-line n ls ++ above), length-append (old-line n ls) above)
 
 -- ---- no new name: the tables stay
 

@@ -17,7 +17,7 @@ use Rattle.paper.specs.Listing.{listing}
 use Rattle.paper.specs.Store.{sound-lines, room, stored?, line-at, overwritten}
 use Rattle.paper.specs.Calls.{State, names-of, lines-of, sound-state, Entered, Listed}
 
--- ---- the place of a refusal
+-- ---- a text's number and items
 
 -- what stands after a text's blanks
 unfoldable pub after-blanks : List ℕ → List ℕ
@@ -42,6 +42,8 @@ past-number text = drop (digit-count text) (after-blanks text)
 -- the items of a text: those after its number, with places counted from the whole text's start
 abbrev pub items-in : List ℕ → List Item
 items-in text = items (number-end text) (past-number text)
+
+-- ---- the place of a refusal
 
 -- a sequence of items is lawful: it gives some tokens
 abbrev pub LawfulItems : List Item → Type 0
@@ -81,12 +83,11 @@ Readable is = LawfulItems is × T (every in-range? is)
 
 -- ---- when each number is answered
 
--- Of numbers with their conditions, in the order of the tests, the number of the first condition that holds: none before it does. It is 0 if
--- none holds.
+-- Of numbers with their conditions, in the order of the tests, the number of the first condition that holds; 0 if none does.
 pub data FirstHolding : List (ℕ × Type 0) → ℕ → Type 1 where
-  none : FirstHolding [] 0
-  here : {k : ℕ} {C : Type 0} {cs : List (ℕ × Type 0)} → C → FirstHolding ((k, C) ∷ cs) k
-  later : {j k : ℕ} {C : Type 0} {cs : List (ℕ × Type 0)} → (C → ⊥) → FirstHolding cs k → FirstHolding ((j, C) ∷ cs) k
+  none-holds : FirstHolding [] 0
+  this-holds : {k : ℕ} {C : Type 0} {cs : List (ℕ × Type 0)} → C → FirstHolding ((k, C) ∷ cs) k
+  later-holds : {j k : ℕ} {C : Type 0} {cs : List (ℕ × Type 0)} → (C → ⊥) → FirstHolding cs k → FirstHolding ((j, C) ∷ cs) k
 
 -- no condition of a list holds
 abbrev pub NoneHolds : List (ℕ × Type 0) → Type 0
@@ -98,8 +99,8 @@ pub record Exactly (cs : List (ℕ × Type 0)) (number : ℕ) : Type 1 where
   pub each : (k : ℕ) → (number ≡ k) ↔ FirstHolding cs k
   pub done : (number ≡ 0) ↔ NoneHolds cs
 
--- Sound tables and store (document 01, "Tables"): the counted names end exactly at the byte count given, and are sound; the values have room
--- for all; the bytes used are within the room, and are sound lines.
+-- Sound tables and store, in the parts that document 01 ("Tables") lists: the counted names end exactly at the byte count given, and are sound;
+-- the values have room for all; the bytes used are within the room, and are sound lines.
 pub record SoundState (s : State) : Type 0 where
   pub table-fits : s .name-size ≤ length (s .names)
   pub bytes : name-bytes (names-of s) ≡ take (s .name-size) (s .names)
@@ -151,7 +152,7 @@ LineTooLong s n ts = 255 < length (line-with s n ts)
 
 -- how many bytes the line with a number takes in the store, 0 if none is stored
 unfoldable pub old-size : ℕ → State → ℕ
-old-size n s = pick (stored? n (lines-of s)) (length (line-at n (lines-of s))) 0
+old-size n s = length (pick (stored? n (lines-of s)) (line-at n (lines-of s)) [])
 
 -- 8: the store would pass its room; a replaced line's room counts as free
 abbrev pub StoreLacksRoom : State → ℕ → List Token → Type 0
@@ -236,8 +237,8 @@ pub record TakenOut (n : ℕ) (old new : List (List ℕ)) : Type 0 where
   pub is : new ≡ below ++ above
   pub number : line-number line ≡ n
 
--- What an accepted text did. If tokens stand after its number, their line over the new names, well-formed, was put in, and the names that
--- are new were added in order; if nothing but blanks does, the line with that number was taken out.
+-- What an accepted text did. Its items are a lawful sequence, and the line of their tokens over the new names, well-formed, was put in, and
+-- the names that are new were added in order; or nothing but blanks stands after its number, and the line with that number was taken out.
 pub data Edited (text : List ℕ) (s : State) (e : Entered) : Type 0 where
   line-put : (ts : List Token) (new : List (List ℕ)) → Lawful (items-in text) ts → names-of (e .after) ≡ names-with s ts → e .added ≡ length new → Kept s (e .after) new
       → PutIn (number-in text) (line-with s (number-in text) ts) (lines-of s) (lines-of (e .after)) → WellFormed (names-of (e .after)) (line-with s (number-in text) ts) → Edited text s e

@@ -8,15 +8,15 @@ use lib.Dec.{T, ltb, ltb→lt}
 use borrow.Author.Tests.{ltb-true, ltb-false}
 use Rattle.paper.specs.Bytes.{pick}
 use Rattle.laws.specs.Tests.{and-left, and-right}
-use Rattle.promises.specs.Terms.{FirstHolding, none, here, later, NoneHolds, Exactly}
+use Rattle.promises.specs.Terms.{FirstHolding, none-holds, this-holds, later-holds, NoneHolds, Exactly}
 
 -- a list has one first condition that holds
 one-first : {cs : List (ℕ × Type 0)} {j k : ℕ} → FirstHolding cs j → FirstHolding cs k → j ≡ k
-one-first none none = refl
-one-first (here a) (here b) = refl
-one-first (here a) (later n g) = absurd (n a)
-one-first (later m f) (here b) = absurd (m b)
-one-first (later m f) (later n g) = one-first f g
+one-first none-holds none-holds = refl
+one-first (this-holds a) (this-holds b) = refl
+one-first (this-holds a) (later-holds n g) = absurd (n a)
+one-first (later-holds m f) (this-holds b) = absurd (m b)
+one-first (later-holds m f) (later-holds n g) = one-first f g
 
 -- every number of a list is a refusal's
 abbrev pub refusals? : List (ℕ × Type 0) → Bool
@@ -24,13 +24,13 @@ refusals? [] = true
 refusals? (c ∷ cs) = ltb 0 (c .0) && refusals? cs
 
 none-of : {cs : List (ℕ × Type 0)} {k : ℕ} → T (refusals? cs) → FirstHolding cs k → k ≡ 0 → NoneHolds cs
-none-of r none e = tt
-none-of r (here {k} c) e = let h = ltb→lt 0 k (and-left (ltb 0 k) _ r) in absurd (omega arith)
-none-of r (later {j} n f) e = (n, none-of (and-right (ltb 0 j) _ r) f e)
+none-of r none-holds e = tt
+none-of r (this-holds {k} c) e = let h = ltb→lt 0 k (and-left (ltb 0 k) _ r) in absurd (omega arith)
+none-of r (later-holds {j} n f) e = (n, none-of (and-right (ltb 0 j) _ r) f e)
 
 of-none : (cs : List (ℕ × Type 0)) → NoneHolds cs → FirstHolding cs 0
-of-none [] n = none
-of-none (c ∷ cs) n = later (n .0) (of-none cs (n .1))
+of-none [] n = none-holds
+of-none (c ∷ cs) n = later-holds (n .0) (of-none cs (n .1))
 
 -- a call that answers the first one's number answers each number exactly when it is that
 pub exactly : (cs : List (ℕ × Type 0)) (n : ℕ) → T (refusals? cs) → FirstHolding cs n → Exactly cs n
@@ -56,10 +56,10 @@ says-not false f g = ((λ e. g), (λ e n. subst T e tt))
 
 -- a test that refuses, and those after it
 pub tested : {A C : Type 0} {cs : List (ℕ × Type 0)} (number : A → ℕ) (b : Bool) (x y : A) → Says b C → (b ≡ false → FirstHolding cs (number y)) → FirstHolding ((number x, C) ∷ cs) (number (pick b x y))
-tested number true x y s f = here (s .0 refl)
-tested number false x y s f = later (s .1 refl) (f refl)
+tested number true x y s f = this-holds (s .0 refl)
+tested number false x y s f = later-holds (s .1 refl) (f refl)
 
 -- a test that lets pass, and those after it
 pub passed : {A C : Type 0} {cs : List (ℕ × Type 0)} (number : A → ℕ) (b : Bool) (x y : A) → Says (not b) C → (T b → FirstHolding cs (number x)) → FirstHolding ((number y, C) ∷ cs) (number (pick b x y))
-passed number true x y s f = later (s .1 refl) (f tt)
-passed number false x y s f = here (s .0 refl)
+passed number true x y s f = later-holds (s .1 refl) (f tt)
+passed number false x y s f = this-holds (s .0 refl)
