@@ -14,10 +14,11 @@ use Rattle.paper.specs.Items.{Item, items}
 use Rattle.paper.specs.Machine.{Taken, Run, left, done, bad, read}
 use Rattle.paper.specs.Grammar.{Gives, given, look-item, look-in-range, start}
 use Rattle.paper.specs.Line.{line-bytes, lawful-number?}
-use Rattle.paper.specs.WellFormed.{tokens-of, right-token?, WellFormed}
+use Rattle.paper.specs.WellFormed.{tokens-of, Lawful, right-token?, WellFormed}
 use Rattle.paper.specs.Calls.{tokens, outcome, translate}
 use Rattle.laws.specs.Tests.{and-left, and-right, and-both}
-use Rattle.promises.specs.NameTable.{add-knows, names-keep, new-token?}
+use Rattle.laws.specs.Names.{name-passes}
+use Rattle.promises.specs.NameTable.{add-knows, names-keep}
 use Rattle.promises.specs.Scanned.{new-name?, scanned-right?, scanned-items, AllRight, all-right}
 use Rattle.promises.specs.Place.{sources, told, Told}
 use Rattle.promises.specs.InRange.{out?, NoneOut, Agrees, agrees}
@@ -85,21 +86,21 @@ given-right ns e (raw b) f r o n = own ns e (raw b) f r o n no-symbol-raw
 given-right ns e out-of-range f r o n = own ns e out-of-range f r o n no-symbol-number
 given-right ns e unreadable f r o n = absurd (taken-fit e unfit f)
 
-given-new : (e : Gives) (t : Token) → T (fits e (class t)) → T (scanned-right? t) → T (new-token? (given e t))
-unfolding class symbol-class? among scanned-right? new-token?
-given-new e (operator j) f r = subst (λ (z : Token). T (new-token? z)) (sym (given-op e j)) tt
-given-new e (statement k) f r = subst (λ (z : Token). T (new-token? z)) (sym (own-given e (statement k) f (no-symbol-statement k))) tt
-given-new e (assigned w) f r = subst (λ (z : Token). T (new-token? z)) (sym (own-given e (assigned w) f (no-symbol-name w first-numeric first-string first-array tt tt tt))) (and-left (new-name? w) _ r)
-given-new e (variable w) f r = subst (λ (z : Token). T (new-token? z)) (sym (own-given e (variable w) f (no-symbol-name w numeric-variable string-variable array tt tt tt))) r
-given-new e (constant b) f r = subst (λ (z : Token). T (new-token? z)) (sym (own-given e (constant b) f no-symbol-number)) tt
-given-new e (string b) f r = subst (λ (z : Token). T (new-token? z)) (sym (own-given e (string b) f no-symbol-quoted)) tt
-given-new e (raw b) f r = subst (λ (z : Token). T (new-token? z)) (sym (own-given e (raw b) f no-symbol-raw)) tt
-given-new e out-of-range f r = subst (λ (z : Token). T (new-token? z)) (sym (own-given e out-of-range f no-symbol-number)) tt
+given-new : (e : Gives) (t : Token) → T (fits e (class t)) → T (scanned-right? t) → T (name-passes new-name? (given e t))
+unfolding class symbol-class? among scanned-right? name-passes
+given-new e (operator j) f r = subst (λ (z : Token). T (name-passes new-name? z)) (sym (given-op e j)) tt
+given-new e (statement k) f r = subst (λ (z : Token). T (name-passes new-name? z)) (sym (own-given e (statement k) f (no-symbol-statement k))) tt
+given-new e (assigned w) f r = subst (λ (z : Token). T (name-passes new-name? z)) (sym (own-given e (assigned w) f (no-symbol-name w first-numeric first-string first-array tt tt tt))) (and-left (new-name? w) _ r)
+given-new e (variable w) f r = subst (λ (z : Token). T (name-passes new-name? z)) (sym (own-given e (variable w) f (no-symbol-name w numeric-variable string-variable array tt tt tt))) r
+given-new e (constant b) f r = subst (λ (z : Token). T (name-passes new-name? z)) (sym (own-given e (constant b) f no-symbol-number)) tt
+given-new e (string b) f r = subst (λ (z : Token). T (name-passes new-name? z)) (sym (own-given e (string b) f no-symbol-quoted)) tt
+given-new e (raw b) f r = subst (λ (z : Token). T (name-passes new-name? z)) (sym (own-given e (raw b) f no-symbol-raw)) tt
+given-new e out-of-range f r = subst (λ (z : Token). T (name-passes new-name? z)) (sym (own-given e out-of-range f no-symbol-number)) tt
 given-new e unreadable f r = absurd (taken-fit e unfit f)
 
 -- ---- the run
 
-record Accepts (is : List Item) (ts : List Token) : Type 0 where
+pub record Accepts (is : List Item) (ts : List Token) : Type 0 where
   pub taken : List (Taken Gives Item)
   pub reads : read look-item start is ≡ left taken []
   pub gives : tokens-of taken ≡ ts
@@ -112,9 +113,14 @@ outcome-says is (left xs (f ∷ fs)) ts a h = let z : _≡_ {A = ℕ} 0 1 = cc i
 outcome-says is (done xs r) ts a h = let z : _≡_ {A = ℕ} 0 1 = cc in absurd (omega arith)
 outcome-says is (bad k xs r) ts a h = let z : _≡_ {A = ℕ} 0 1 = cc in absurd (omega arith)
 
-translate-says : (p : ℕ) (s : List ℕ) (ts : List Token) → translate p s ≡ tokens ts → Accepts (items p s) ts
+-- what is translated is accepted
+pub translate-says : (p : ℕ) (s : List ℕ) (ts : List Token) → translate p s ≡ tokens ts → Accepts (items p s) ts
 unfolding translate
 translate-says p s ts e = outcome-says (items p s) (read look-in-range start (items p s)) ts (agrees start (items p s)) e
+
+-- what is translated is a lawful sequence
+pub translated-lawful : (p : ℕ) (s : List ℕ) (ts : List Token) → translate p s ≡ tokens ts → Lawful (items p s) ts
+translated-lawful p s ts e = let a = translate-says p s ts e in record { taken = a .taken; reads = a .reads; gives = a .gives }
 
 run-right : (ns : List (List ℕ)) (xs : List (Taken Gives Item)) → AllFit fits class (on-taken token-of xs) → AllRight (sources xs) → NoneOut xs → AllNamed ns (tokens-of xs) → T (every (right-token? ns) (tokens-of xs))
 unfolding tokens-of on-taken sources token-of every out?
@@ -122,11 +128,11 @@ run-right ns [] f r o n = tt
 run-right ns (x ∷ xs) f r o n =
     and-both (right-token? ns (given (x .gave) ((x .from) .token))) (every (right-token? ns) (tokens-of xs)) (given-right ns (x .gave) ((x .from) .token) (f .0) (r .0) (o .0) (n .0)) (run-right ns xs (f .1) (r .1) (o .1) (n .1))
 
-run-new : (xs : List (Taken Gives Item)) → AllFit fits class (on-taken token-of xs) → AllRight (sources xs) → T (every new-token? (tokens-of xs))
+run-new : (xs : List (Taken Gives Item)) → AllFit fits class (on-taken token-of xs) → AllRight (sources xs) → T (every (name-passes new-name?) (tokens-of xs))
 unfolding tokens-of on-taken sources token-of every
 run-new [] f r = tt
 run-new (x ∷ xs) f r =
-    and-both (new-token? (given (x .gave) ((x .from) .token))) (every new-token? (tokens-of xs)) (given-new (x .gave) ((x .from) .token) (f .0) (r .0)) (run-new xs (f .1) (r .1))
+    and-both (name-passes new-name? (given (x .gave) ((x .from) .token))) (every (name-passes new-name?) (tokens-of xs)) (given-new (x .gave) ((x .from) .token) (f .0) (r .0)) (run-new xs (f .1) (r .1))
 
 -- what is known of the run over a text that is translated
 record Ran (p : ℕ) (s : List ℕ) (ts : List Token) : Type 0 where
@@ -148,8 +154,8 @@ ran p s ts e =
     }
 
 -- the names of a text that is translated may be added to a table
-pub names-new : (p : ℕ) (s : List ℕ) (ts : List Token) → translate p s ≡ tokens ts → T (every new-token? ts)
-names-new p s ts e = let r = ran p s ts e in subst (λ (z : List Token). T (every new-token? z)) (r .accepts .gives) (run-new (r .accepts .taken) (r .fit) (r .right))
+pub names-new : (p : ℕ) (s : List ℕ) (ts : List Token) → translate p s ≡ tokens ts → T (every (name-passes new-name?) ts)
+names-new p s ts e = let r = ran p s ts e in subst (λ (z : List Token). T (every (name-passes new-name?) z)) (r .accepts .gives) (run-new (r .accepts .taken) (r .fit) (r .right))
 
 -- A text that is translated into tokens gives, with any number and over the names with the new ones added, a well-formed line.
 pub stored-well-formed : (ns : List (List ℕ)) (n p : ℕ) (s : List ℕ) (ts : List Token) → T (lawful-number? n) → translate p s ≡ tokens ts → WellFormed (add-names ns ts) (line-bytes (add-names ns ts) n ts)
@@ -162,7 +168,7 @@ stored-well-formed ns n p s ts h e =
       number = n;
       items = items p s;
       tokens = ts;
-      lawful = record { taken = a .taken; reads = a .reads; gives = a .gives };
+      lawful = translated-lawful p s ts e;
       bytes = refl;
       lawful-number = h;
       right = subst (λ (z : List Token). T (every (right-token? (add-names ns ts)) z)) (a .gives) w;

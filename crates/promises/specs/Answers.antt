@@ -1,23 +1,22 @@
 -- All answers that `enter` and `list` give, each with what holds where it is given.
-use Prim.Native.Nat.{ℕ, _+_, _-_, _≤_}
+use Prim.Native.Nat.{ℕ, _-_, _≤_}
 use native.Mathlib.Omega.{arith}
 use mathlib.Core.Path.{_≡_, refl, subst, sym, _∙_}
 use mathlib.Core.Bool.{Bool, true, false, not}
 use mathlib.Core.List.{List, [], _∷_}
 use lib.Dec.{T, T-not, eqb, ltb}
-use lib.ListN.{length, take, drop}
-use borrow.Author.Tests.{ltb-false, eqb-true}
-use Rattle.paper.specs.Bytes.{pick, blank?, digit?, run, among, joined}
+use lib.ListN.{length}
+use borrow.Author.Tests.{ltb-false}
+use Rattle.paper.specs.Bytes.{pick, blank?, every, among, joined}
 use Rattle.paper.specs.Tokens.{Token}
-use Rattle.paper.specs.Constants.{value}
-use Rattle.paper.specs.Names.{add-names}
-use Rattle.paper.specs.Line.{line-bytes, lawful-number?}
+use Rattle.paper.specs.Line.{lawful-number?}
 use Rattle.paper.specs.WellFormed.{well-formed?}
 use Rattle.paper.specs.Listing.{listing}
 use Rattle.paper.specs.Store.{room, stored?, line-at, put-line, take-out, overwritten}
-use Rattle.paper.specs.Calls.{State, names-of, lines-of, sound-state, Entered, refusal, Translated, tokens, refused-at, translate, stored, lacks-room, accept, answered, delete, Head, numbered, too-great, no-digit, head-of, at-head, enter-sound, enter, Listed, not-listed, list-sound, list}
+use Rattle.paper.specs.Calls.{State, names-of, lines-of, sound-state, Entered, refusal, Translated, tokens, refused-at, translate, stored, lacks-room, accept, answered, delete, numbered, too-great, no-digit, head-of, at-head, enter-sound, enter, Listed, not-listed, list-sound, list}
 use Rattle.laws.specs.Tests.{as-T}
-use Rattle.promises.specs.Terms.{items-after, items-in, NoReading, OutOfRange, Written}
+use Rattle.promises.specs.Terms.{after-blanks, digit-count, number-in, number-end, past-number, items-in, NoReading, OutOfRange, names-with, line-with, Written}
+use Rattle.promises.specs.Lists.{run-whole}
 use Rattle.promises.specs.Refusals.{Refusal, is-four, is-five, four-or-five, translation-refused}
 use Rattle.promises.specs.Stored.{over-take, over-past, over-length}
 
@@ -27,81 +26,69 @@ placeless = 1 ∷ 2 ∷ 3 ∷ 6 ∷ 7 ∷ 8 ∷ 9 ∷ []
 
 -- a text with a number, over a sound state
 pub record Numbered (text : List ℕ) (s : State) : Type 0 where
-  pub number : ℕ
-  pub place : ℕ
-  pub rest : List ℕ
   pub sound : T (sound-state s)
-  pub head : head-of text ≡ numbered number place rest
-  pub lawful : T (lawful-number? number)
+  pub lawful : T (lawful-number? (number-in text))
 
 -- What `enter` answers: a refusal with no place; a refusal with 4 or 5; the line put in; the line deleted
 pub data Answer (text : List ℕ) (s : State) : Entered → Type 0 where
   refused-outright : (k : ℕ) → T (among k placeless) → Answer text s (refusal k 0 s)
-  refused-there : (k q : ℕ) → Refusal (items-after (head-of text)) k q → Answer text s (refusal k q s)
-  puts-line : (t : Numbered text s) (ts : List Token) → translate (t .place) (t .rest) ≡ tokens ts → lacks-room s (add-names (names-of s) ts) ≡ false
-      → length (joined (put-line (line-bytes (add-names (names-of s) ts) (t .number) ts) (lines-of s))) ≤ room (s .store)
-      → Answer text s (record { number = 0; place = 0; added = length (add-names (names-of s) ts) - length (names-of s); after = stored s (add-names (names-of s) ts) (put-line (line-bytes (add-names (names-of s) ts) (t .number) ts) (lines-of s)) })
-  drops-line : (t : Numbered text s) → run blank? (t .rest) ≡ length (t .rest) → T (stored? (t .number) (lines-of s))
-      → Answer text s (record { number = 0; place = 0; added = 0; after = stored s (names-of s) (take-out (t .number) (lines-of s)) })
-
--- the number of a text is a lawful one
-head-lawful : (text : List ℕ) (n p : ℕ) (rest : List ℕ) → head-of text ≡ numbered n p rest → T (lawful-number? n)
-unfolding head-of
-head-lawful text n p rest e =
-    let t : List ℕ = drop (run blank? text) text in
-    go (eqb (run digit? t) 0) (value 0 (take (run digit? t) t)) (lawful-number? (value 0 (take (run digit? t) t))) refl (run blank? text + run digit? t) (drop (run digit? t) t) e
-  where
-    go : (a : Bool) (m : ℕ) (b : Bool) → lawful-number? m ≡ b → (q : ℕ) (r : List ℕ) → pick a no-digit (pick b (numbered m q r) too-great) ≡ numbered n p rest → T (lawful-number? n)
-    go true m b h q r e = let z : _≡_ {A = ℕ} 0 1 = cc in absurd (omega arith)
-    go false m true h q r e = let z : m ≡ n = cc in subst (λ (k : ℕ). T (lawful-number? k)) z (as-T (lawful-number? m) h)
-    go false m false h q r e = let z : _≡_ {A = ℕ} 0 1 = cc in absurd (omega arith)
+  refused-there : (k q : ℕ) → Refusal (items-in text) k q → Answer text s (refusal k q s)
+  puts-line : Numbered text s → (ts : List Token) → translate (number-end text) (past-number text) ≡ tokens ts → lacks-room s (names-with s ts) ≡ false
+      → length (joined (put-line (line-with s (number-in text) ts) (lines-of s))) ≤ room (s .store)
+      → Answer text s (record { number = 0; place = 0; added = length (names-with s ts) - length (names-of s); after = stored s (names-with s ts) (put-line (line-with s (number-in text) ts) (lines-of s)) })
+  drops-line : Numbered text s → T (every blank? (past-number text)) → T (stored? (number-in text) (lines-of s))
+      → Answer text s (record { number = 0; place = 0; added = 0; after = stored s (names-of s) (take-out (number-in text) (lines-of s)) })
 
 module _ (text : List ℕ) (s : State) where
   outright : (k : ℕ) → T (among k placeless) → Answer text s (refusal k 0 s)
   outright k t = refused-outright k t
 
-  accept-go : (t : Numbered text s) (ts : List Token) → translate (t .place) (t .rest) ≡ tokens ts → (a b c : Bool) → lacks-room s (add-names (names-of s) ts) ≡ a → ltb (room (s .store)) (length (joined (put-line (line-bytes (add-names (names-of s) ts) (t .number) ts) (lines-of s)))) ≡ c
-      → Answer text s (pick a (refusal 6 0 s) (pick b (refusal 7 0 s) (pick c (refusal 8 0 s) (record { number = 0; place = 0; added = length (add-names (names-of s) ts) - length (names-of s); after = stored s (add-names (names-of s) ts) (put-line (line-bytes (add-names (names-of s) ts) (t .number) ts) (lines-of s)) }))))
-  unfolding among
-  accept-go t ts e true b c x z = outright 6 tt
-  accept-go t ts e false true c x z = outright 7 tt
-  accept-go t ts e false false true x z = outright 8 tt
-  accept-go t ts e false false false x z = puts-line t ts e x (ltb-false _ _ z)
+  accept-says : Numbered text s → (ts : List Token) → translate (number-end text) (past-number text) ≡ tokens ts → Answer text s (accept s (number-in text) ts)
+  unfolding accept among
+  accept-says t ts e = go (lacks-room s (names-with s ts)) (ltb 255 (length line)) (ltb (room (s .store)) (length (joined lines))) refl refl
+    where
+      line : List ℕ
+      line = line-with s (number-in text) ts
 
-  accept-says : (t : Numbered text s) (ts : List Token) → translate (t .place) (t .rest) ≡ tokens ts → Answer text s (accept s (t .number) ts)
-  unfolding accept
-  accept-says t ts e =
-      accept-go t ts e (lacks-room s (add-names (names-of s) ts)) (ltb 255 (length (line-bytes (add-names (names-of s) ts) (t .number) ts)))
-      (ltb (room (s .store)) (length (joined (put-line (line-bytes (add-names (names-of s) ts) (t .number) ts) (lines-of s))))) refl refl
+      lines : List (List ℕ)
+      lines = put-line line (lines-of s)
 
-  translation-says : (t : Numbered text s) (r : Translated) → translate (t .place) (t .rest) ≡ r → Answer text s (answered s (t .number) r)
-  unfolding answered items-after
+      go : (a b c : Bool) → lacks-room s (names-with s ts) ≡ a → ltb (room (s .store)) (length (joined lines)) ≡ c
+          → Answer text s (pick a (refusal 6 0 s) (pick b (refusal 7 0 s) (pick c (refusal 8 0 s) (record { number = 0; place = 0; added = length (names-with s ts) - length (names-of s); after = stored s (names-with s ts) lines }))))
+      go true b c x z = outright 6 tt
+      go false true c x z = outright 7 tt
+      go false false true x z = outright 8 tt
+      go false false false x z = puts-line t ts e x (ltb-false _ _ z)
+
+  translation-says : Numbered text s → (r : Translated) → translate (number-end text) (past-number text) ≡ r → Answer text s (answered s (number-in text) r)
+  unfolding answered
   translation-says t (tokens ts) e = accept-says t ts e
-  translation-says t (refused-at k q) e =
-      refused-there k q (subst (λ (h : Head). Refusal (items-after h) k q) (sym (t .head)) (translation-refused (t .place) (t .rest) k q e))
+  translation-says t (refused-at k q) e = refused-there k q (translation-refused (number-end text) (past-number text) k q e)
 
-  delete-go : (t : Numbered text s) → run blank? (t .rest) ≡ length (t .rest) → (b : Bool) → stored? (t .number) (lines-of s) ≡ b
-      → Answer text s (pick b (record { number = 0; place = 0; added = 0; after = stored s (names-of s) (take-out (t .number) (lines-of s)) }) (refusal 9 0 s))
+  delete-go : Numbered text s → T (every blank? (past-number text)) → (b : Bool) → stored? (number-in text) (lines-of s) ≡ b
+      → Answer text s (pick b (record { number = 0; place = 0; added = 0; after = stored s (names-of s) (take-out (number-in text) (lines-of s)) }) (refusal 9 0 s))
   unfolding among
   delete-go t e true x = drops-line t e (as-T _ x)
   delete-go t e false x = outright 9 tt
 
-  head-go : (t : Numbered text s) (b : Bool) → eqb (run blank? (t .rest)) (length (t .rest)) ≡ b → Answer text s (pick b (delete s (t .number)) (answered s (t .number) (translate (t .place) (t .rest))))
+  number-go : Numbered text s → (b : Bool) → every blank? (past-number text) ≡ b → Answer text s (pick b (delete s (number-in text)) (answered s (number-in text) (translate (number-end text) (past-number text))))
   unfolding delete
-  head-go t true e = delete-go t (eqb-true _ _ e) (stored? (t .number) (lines-of s)) refl
-  head-go t false e = translation-says t (translate (t .place) (t .rest)) refl
+  number-go t true e = delete-go t (as-T _ e) (stored? (number-in text) (lines-of s)) refl
+  number-go t false e = translation-says t (translate (number-end text) (past-number text)) refl
 
-  head-says : (h : Head) → head-of text ≡ h → T (sound-state s) → Answer text s (at-head s h)
-  unfolding at-head among
-  head-says (numbered n p rest) e o =
-      head-go (record { number = n; place = p; rest = rest; sound = o; head = e; lawful = head-lawful text n p rest e }) (eqb (run blank? rest) (length rest)) refl
-  head-says too-great e o = outright 3 tt
-  head-says no-digit e o = outright 3 tt
+  head-says : T (sound-state s) → Answer text s (at-head s (head-of text))
+  unfolding at-head head-of after-blanks digit-count number-in number-end past-number among
+  head-says o = go (eqb (digit-count text) 0) (lawful-number? (number-in text)) refl
+    where
+      go : (a b : Bool) → lawful-number? (number-in text) ≡ b → Answer text s (at-head s (pick a no-digit (pick b (numbered (number-in text) (number-end text) (past-number text)) too-great)))
+      go true b e = outright 3 tt
+      go false false e = outright 3 tt
+      go false true e = rw (run-whole blank? (past-number text)) (number-go (record { sound = o; lawful = as-T _ e }) (every blank? (past-number text)) refl)
 
   short-go : T (sound-state s) → (b : Bool) → Answer text s (pick b (refusal 2 0 s) (at-head s (head-of text)))
   unfolding among
   short-go o true = outright 2 tt
-  short-go o false = head-says (head-of text) refl o
+  short-go o false = head-says o
 
   sound-go : (b : Bool) → sound-state s ≡ b → Answer text s (pick b (enter-sound text s) (refusal 1 0 s))
   unfolding enter-sound among

@@ -14,10 +14,10 @@ use Rattle.paper.specs.Tokens.{Token, constant}
 use Rattle.paper.specs.Constants.{value, constant-of, five, decimal-byte, decimal?, right-constant?, zero-bytes, digits-of, put-digit, trimmed, whole-part, with-point, plain-text, power-text, power-of-ten-text, text-of, constant-text}
 use Rattle.paper.specs.Items.{item, sign-size, power-size, with-power, number-at, item-at}
 use Rattle.paper.specs.Open.{all-Constants}
-use Rattle.laws.specs.Tests.{and-left, and-right, is-false, as-T, or-else}
+use Rattle.laws.specs.Tests.{and-left, and-right, is-true, is-false, as-T, or-else}
+use Rattle.laws.specs.Names.{same-eq}
 use Rattle.laws.specs.Runs.{All, all-take, all-drop, run-all, seam, past}
 use Rattle.promises.specs.ConstantValue.{constant-is}
-use Rattle.promises.specs.Lists.{same-eq}
 
 -- ---- digits
 
@@ -406,7 +406,7 @@ pub constant-reads : (s : List ℕ) → T (right-constant? s) → (first : Bool)
 unfolding right-constant? constant-text text-of zero-bytes digits-of five-of
 constant-reads s t first p ys h =
     or-else (same s zero-bytes) _ (and-right (eqb (length s) 6) _ t)
-    (λ z. subst (λ (l : List ℕ). item-at first p (text-of (getD l 0 0) (digits-of (drop 1 l)) ++ ys) ≡ item p (length (text-of (getD l 0 0) (digits-of (drop 1 l)))) (constant l)) (sym (same-eq s zero-bytes z)) (zero-case h))
+    (λ z. subst (λ (l : List ℕ). item-at first p (text-of (getD l 0 0) (digits-of (drop 1 l)) ++ ys) ≡ item p (length (text-of (getD l 0 0) (digits-of (drop 1 l)))) (constant l)) (sym (same-eq s zero-bytes (is-true (same s zero-bytes) z))) (zero-case h))
     (λ n. other s (eqb→eq (length s) 6 (and-left (eqb (length s) 6) _ t)) n)
   where
     zero-case : T (ends-number (getD ys 0 0)) → item-at first p (text-of (getD zero-bytes 0 0) (digits-of (drop 1 zero-bytes)) ++ ys) ≡ item p (length (text-of (getD zero-bytes 0 0) (digits-of (drop 1 zero-bytes)))) (constant zero-bytes)
@@ -477,7 +477,7 @@ pub constant-starts : (s : List ℕ) → T (right-constant? s) → digit? (getD 
 unfolding right-constant? constant-text text-of zero-bytes digits-of five-of
 constant-starts s t =
     or-else (same s zero-bytes) _ (and-right (eqb (length s) 6) _ t)
-    (λ z. subst (λ (l : List ℕ). Starts (text-of (getD l 0 0) (digits-of (drop 1 l)))) (sym (same-eq s zero-bytes z)) forty-eight)
+    (λ z. subst (λ (l : List ℕ). Starts (text-of (getD l 0 0) (digits-of (drop 1 l)))) (sym (same-eq s zero-bytes (is-true (same s zero-bytes) z))) forty-eight)
     (λ n. other s (eqb→eq (length s) 6 (and-left (eqb (length s) 6) _ t)) n)
   where
     other : (s : List ℕ) → length s ≡ 6 → T (leb 0x0f (getD s 0 0) && (leb (getD s 0 0) 0x70 && (every decimal? (drop 1 s) && not (eqb (getD s 1 0) 0)))) → Starts (text-of (getD s 0 0) (digits-of (drop 1 s)))

@@ -14,9 +14,8 @@ use Rattle.paper.specs.Tokens.{Token, statement, assigned, operator, variable, 
 use Rattle.paper.specs.Names.{number-of, known?}
 use Rattle.paper.specs.Items.{raw-byte?}
 use Rattle.paper.specs.Line.{to-next, token-bytes, line-bytes, line-number, variable-bytes, own-bytes, begins?, variable-name, raw-statement?, tokens-from, line-tokens}
-use Rattle.laws.specs.Tests.{as-T}
+use Rattle.laws.specs.Names.{same-eq}
 use Rattle.laws.specs.Runs.{All, run-all}
-use Rattle.promises.specs.Lists.{same-eq}
 
 -- token lists whose bytes can be told apart: each token's bytes are what its kind has, and raw text stands after REM or DATA alone
 pub data Shapes (ns : List (List ℕ)) : List Token → Type 0 where
@@ -89,7 +88,7 @@ module _ (ns : List (List ℕ)) where
 -- ---- names by their numbers
 
 known-go : (m : List ℕ) (ms : List (List ℕ)) (n : List ℕ) (b : Bool) → same m n ≡ b → (T (ltb (number-of ms n) (length ms)) → getD ms (number-of ms n) [] ≡ n) → T (ltb (pick b 0 (suc (number-of ms n))) (suc (length ms))) → getD (m ∷ ms) (pick b 0 (suc (number-of ms n))) [] ≡ n
-known-go m ms n true e ih k = same-eq m n (as-T (same m n) e)
+known-go m ms n true e ih k = same-eq m n e
 known-go m ms n false e ih k = ih (subst T (leb·suc-suc (suc (number-of ms n)) (length ms)) k)
 
 known-at : (ns : List (List ℕ)) (n : List ℕ) → T (known? ns n) → getD ns (number-of ns n) [] ≡ n

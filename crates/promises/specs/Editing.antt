@@ -8,17 +8,18 @@ use mathlib.Core.List.{List, [], _∷_, _++_, append-nil, map}
 use lib.Dec.{T, eqb, leb, eqb→eq, le→leb}
 use lib.ListN.{length, take, drop, length-append, length-take}
 use borrow.Author.Tests.{eq-eqb, eqb-true}
-use Rattle.paper.specs.Bytes.{pick, blank?, run, every, among, joined}
+use Rattle.paper.specs.Bytes.{pick, blank?, every, among, joined}
 use Rattle.paper.specs.Classes.{colon, line-end, raw-end}
 use Rattle.paper.specs.Tokens.{Token, class}
-use Rattle.paper.specs.Names.{add-names}
 use Rattle.paper.specs.Machine.{Taken, left, read}
 use Rattle.paper.specs.Grammar.{Gives, start}
 use Rattle.paper.specs.Line.{variable-bytes, own-bytes, begins?, to-next, token-bytes, line-bytes, line-number, lawful-number?}
 use Rattle.paper.specs.WellFormed.{WellFormed, right-token?}
-use Rattle.paper.specs.Store.{lines-from, lines-in, whole-line?, sound-lines, room, first-is?, lines-below, lines-not-below, lines-above, stored?, put-line, take-out}
-use Rattle.paper.specs.Calls.{State, names-of, lines-of, sound-state, Entered, refusal, tokens, translate, stored, lacks-room, head-of, enter}
+use Rattle.paper.specs.Store.{whole-line?, sound-lines, room, first-is?, lines-below, lines-not-below, lines-above, stored?, put-line, take-out}
+use Rattle.paper.specs.Calls.{State, names-of, lines-of, sound-state, Entered, refusal, tokens, translate, stored, lacks-room, enter}
 use Rattle.laws.specs.Tests.{and-left, and-both, or-else, is-true}
+use Rattle.laws.specs.Lines.{bytes-back, both-sides}
+use Rattle.laws.specs.Names.{names-added, adds-front}
 use Rattle.promises.specs.Place.{sources}
 use Rattle.promises.specs.TokenRuns.{on-taken, on-run}
 use Rattle.promises.specs.Given.{look-token, tokens-given}
@@ -28,13 +29,13 @@ use Rattle.promises.specs.Reading.{side}
 use Rattle.promises.specs.Decoding.{Shapes, no-tokens, a-statement, a-text, a-target, an-operator, a-variable, a-constant, a-string, line-number-of}
 use Rattle.promises.specs.Shaped.{shapes, starts-statement, first-only}
 use Rattle.promises.specs.RoundTrip.{token-of, as-tokens, tokens-same, Known, known}
-use Rattle.promises.specs.Accepted.{names-new, stored-well-formed}
-use Rattle.promises.specs.NameTable.{NamesGood, adds-good, adds-longer}
+use Rattle.promises.specs.Accepted.{translated-lawful, names-new, stored-well-formed}
+use Rattle.promises.specs.NameTable.{NamesGood, adds-good}
 use Rattle.promises.specs.Refusals.{four-or-five}
-use Rattle.promises.specs.Stored.{old-lines, put-sound, out-sound, out-less, bytes-back, Holds, holds}
-use Rattle.promises.specs.States.{SoundState, state-says, names-good, Room, no-more, room-for, made, stored-made, kept}
+use Rattle.promises.specs.Stored.{put-sound, out-sound, out-less, Holds, holds}
+use Rattle.promises.specs.States.{state-says, names-good, Room, no-more, room-for, made, stored-made, kept}
 use Rattle.promises.specs.Answers.{not-outright, Numbered, Answer, refused-outright, refused-there, puts-line, drops-line, answer}
-use Rattle.promises.specs.Terms.{items-after, Kept, AtMostOne, no-line, one-line, PutIn, TakenOut, Edited, line-put, line-gone}
+use Rattle.promises.specs.Terms.{number-in, number-end, past-number, items-in, names-with, line-with, SoundState, Kept, AtMostOne, no-line, one-line, PutIn, TakenOut, Edited, line-put, line-gone}
 
 -- ---- a well-formed line is a whole line
 
@@ -127,7 +128,7 @@ put-in l ls =
       below = lines-below n ls;
       replaced = c .there;
       above = lines-above n ls;
-      was = sym (old-lines n ls) ∙ ap (λ (z : List (List ℕ)). lines-below n ls ++ z) (c .are);
+      was = sym (both-sides n ls) ∙ ap (λ (z : List (List ℕ)). lines-below n ls ++ z) (c .are);
       is = refl;
       number = refl;
       same-number = c .one;
@@ -142,14 +143,12 @@ removed-go n ls (l ∷ r) t e =
 
 taken-out : (n : ℕ) (ls : List (List ℕ)) → T (stored? n ls) → TakenOut n ls (take-out n ls)
 unfolding take-out lines-above stored?
-taken-out n ls t = removed-go n ls (lines-not-below n ls) t (old-lines n ls)
+taken-out n ls t = removed-go n ls (lines-not-below n ls) t (both-sides n ls)
 
 -- what the old lines take is what is used
 pub used-bytes : (s : State) → T (sound-state s) → joined (lines-of s) ≡ take (s .used) (s .store)
-unfolding lines-of lines-in sound-lines
-used-bytes s t =
-    let ls : List (List ℕ) = lines-from 0 (take (s .used) (s .store)) in
-    bytes-back (take (s .used) (s .store)) 0 (and-left (every whole-line? ls) _ (state-says s t .lines))
+unfolding lines-of sound-lines
+used-bytes s t = bytes-back (take (s .used) (s .store)) (and-left (every whole-line? (lines-of s)) _ (state-says s t .lines))
 
 -- ---- an accepted text
 
@@ -157,35 +156,36 @@ lines-are : (s : State) (ns ls : List (List ℕ)) → Holds ls (s .store) → li
 unfolding stored lines-of
 lines-are s ns ls h = h .lines
 
-put-done : (text : List ℕ) (s : State) (t : Numbered text s) (ts : List Token) → translate (t .place) (t .rest) ≡ tokens ts → (ns : List (List ℕ)) → add-names (names-of s) ts ≡ ns → lacks-room s ns ≡ false
-    → length (joined (put-line (line-bytes ns (t .number) ts) (lines-of s))) ≤ room (s .store)
-    → Edited text s (record { number = 0; place = 0; added = length ns - length (names-of s); after = stored s ns (put-line (line-bytes ns (t .number) ts) (lines-of s)) })
+put-done : (text : List ℕ) (s : State) → Numbered text s → (ts : List Token) → translate (number-end text) (past-number text) ≡ tokens ts → (ns : List (List ℕ)) → names-with s ts ≡ ns → lacks-room s ns ≡ false
+    → length (joined (put-line (line-bytes ns (number-in text) ts) (lines-of s))) ≤ room (s .store)
+    → Edited text s (record { number = 0; place = 0; added = length ns - length (names-of s); after = stored s ns (put-line (line-bytes ns (number-in text) ts) (lines-of s)) })
 put-done text s t ts tr ns en lacks fits =
     let o : SoundState s = state-says s (t .sound) in
-    let longer = adds-longer ts (names-of s) in
-    let new : List (List ℕ) = longer .0 in
-    let is : ns ≡ names-of s ++ new = sym en ∙ longer .1 in
-    let n : ℕ = t .number in
+    let new : List (List ℕ) = names-added (names-of s) ts in
+    let is : ns ≡ names-of s ++ new = sym en ∙ adds-front (names-of s) ts in
+    let n : ℕ = number-in text in
     let l : List ℕ = line-bytes ns n ts in
     let ls : List (List ℕ) = put-line l (lines-of s) in
     let a : State = stored s ns ls in
-    let wf : WellFormed ns l = subst (λ (z : List (List ℕ)). WellFormed z (line-bytes z n ts)) en (stored-well-formed (names-of s) n (t .place) (t .rest) ts (t .lawful) tr) in
-    let good : NamesGood (names-of s ++ new) = subst NamesGood (en ∙ is) (adds-good ts (names-of s) (names-new (t .place) (t .rest) ts tr) (names-good (names-of s) (o .names))) in
+    let p : ℕ = number-end text in
+    let wf : WellFormed ns l = subst (λ (z : List (List ℕ)). WellFormed z (line-bytes z n ts)) en (stored-well-formed (names-of s) n p (past-number text) ts (t .lawful) tr) in
+    let good : NamesGood (names-of s ++ new) = subst NamesGood (en ∙ is) (adds-good ts (names-of s) (names-new p (past-number text) ts tr) (names-good (names-of s) (o .names))) in
     let r : Room s new = room-for s new o (subst (λ (z : List (List ℕ)). lacks-room s z ≡ false) is lacks) in
     let h : Holds ls (s .store) = holds ls (s .store) (put-sound l (lines-of s) (well-formed-whole ns l wf) (o .lines)) fits in
     let made-so : a ≡ made s new ls = ap (λ (z : List (List ℕ)). stored s z ls) is ∙ stored-made s new ls in
     let k : Kept s a new = subst (λ (z : State). Kept s z new) (sym made-so) (kept s new ls o good r h) in
     let names : names-of a ≡ ns = k .names ∙ sym is in
     let put : PutIn n l (lines-of s) ls = subst (λ (z : ℕ). PutIn z l (lines-of s) ls) (line-number-of ns n ts) (put-in l (lines-of s)) in
-    line-put n (t .place) (t .rest) ts new (t .head) tr (names ∙ sym en) (omega (arith, ap length is, length-append (names-of s) new)) k
-    (subst (λ (z : List (List ℕ)). PutIn n (line-bytes z n ts) (lines-of s) (lines-of a)) (sym names) (subst (PutIn n l (lines-of s)) (sym (lines-are s ns ls h)) put))
-    (subst (λ (z : List (List ℕ)). WellFormed z (line-bytes z n ts)) (sym names) wf)
+    let line : l ≡ line-with s n ts = ap (λ (z : List (List ℕ)). line-bytes z n ts) (sym en) in
+    line-put ts new (translated-lawful p (past-number text) ts tr) (names ∙ sym en) (omega (arith, ap length is, length-append (names-of s) new)) k
+    (subst (λ (z : List ℕ). PutIn n z (lines-of s) (lines-of a)) line (subst (PutIn n l (lines-of s)) (sym (lines-are s ns ls h)) put))
+    (subst (λ (z : List (List ℕ)). WellFormed z (line-with s n ts)) (sym names) (subst (WellFormed ns) line wf))
 
-gone-done : (text : List ℕ) (s : State) (t : Numbered text s) → run blank? (t .rest) ≡ length (t .rest) → T (stored? (t .number) (lines-of s))
-    → Edited text s (record { number = 0; place = 0; added = 0; after = stored s (names-of s) (take-out (t .number) (lines-of s)) })
+gone-done : (text : List ℕ) (s : State) → Numbered text s → T (every blank? (past-number text)) → T (stored? (number-in text) (lines-of s))
+    → Edited text s (record { number = 0; place = 0; added = 0; after = stored s (names-of s) (take-out (number-in text) (lines-of s)) })
 gone-done text s t b st =
     let o : SoundState s = state-says s (t .sound) in
-    let n : ℕ = t .number in
+    let n : ℕ = number-in text in
     let ls : List (List ℕ) = take-out n (lines-of s) in
     let a : State = stored s (names-of s) ls in
     let is : names-of s ≡ names-of s ++ [] = sym (append-nil (names-of s)) in
@@ -194,14 +194,14 @@ gone-done text s t b st =
     let h : Holds ls (s .store) = holds ls (s .store) (out-sound n (lines-of s) (o .lines)) fits in
     let made-so : a ≡ made s [] ls = ap (λ (z : List (List ℕ)). stored s z ls) is ∙ stored-made s [] ls in
     let k : Kept s a [] = subst (λ (z : State). Kept s z []) (sym made-so) (kept s [] ls o (subst NamesGood is (names-good (names-of s) (o .names))) (no-more s o) h) in
-    line-gone n (t .place) (t .rest) (t .head) b refl k (subst (TakenOut n (lines-of s)) (sym (lines-are s (names-of s) ls h)) (taken-out n (lines-of s) st))
+    line-gone b refl k (subst (TakenOut n (lines-of s)) (sym (lines-are s (names-of s) ls h)) (taken-out n (lines-of s) st))
 
 -- an answer with number 0 is one of the two edits
 pub edited-so : (text : List ℕ) (s : State) (e : Entered) → Answer text s e → e .number ≡ 0 → Edited text s e
 unfolding refusal among
 edited-so text s e (refused-outright k h) z = absurd (not-outright k 0 h tt z)
-edited-so text s e (refused-there k q h) z = absurd (four-or-five (items-after (head-of text)) k q h (λ x. omega arith) (λ x. omega arith))
-edited-so text s e (puts-line t ts tr lacks fits) z = put-done text s t ts tr (add-names (names-of s) ts) refl lacks fits
+edited-so text s e (refused-there k q h) z = absurd (four-or-five (items-in text) k q h (λ x. omega arith) (λ x. omega arith))
+edited-so text s e (puts-line t ts tr lacks fits) z = put-done text s t ts tr (names-with s ts) refl lacks fits
 edited-so text s e (drops-line t b st) z = gone-done text s t b st
 
 -- every accepted text did one of the two edits

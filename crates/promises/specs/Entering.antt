@@ -4,11 +4,11 @@ use native.Mathlib.Omega.{arith}
 use mathlib.Core.Path.{_≡_, refl, subst, sym, ap, ap₂, _∙_}
 use mathlib.Core.Bool.{Bool, true, false, _&&_}
 use mathlib.Core.List.{List, [], _∷_, _++_}
-use lib.Dec.{T, eqb, leb, ltb}
+use lib.Dec.{T, leb, ltb}
 use lib.ListN.{length, take, drop, length-append}
 use lib.Seq.{take-append-seam, drop-append-seam}
 use borrow.Author.Tests.{ne-eqb, le-ltb}
-use Rattle.paper.specs.Bytes.{pick, digit?, blank, blank?, run}
+use Rattle.paper.specs.Bytes.{every, pick, digit?, blank, blank?, run}
 use Rattle.paper.specs.Tokens.{Token, operator}
 use Rattle.paper.specs.Constants.{value}
 use Rattle.paper.specs.Items.{Item, item, items, scan}
@@ -19,9 +19,10 @@ use Rattle.paper.specs.Listing.{decimal, body-text, listing-text, listing}
 use Rattle.paper.specs.WellFormed.{WellFormed}
 use Rattle.paper.specs.Calls.{State, names-of, sound-state, tokens, refused-at, place-of, outcome, translate, accept, answered, numbered, head-of, at-head, enter-sound, enter}
 use Rattle.paper.specs.Open.{all-Bytes, all-Words, all-Tokens, all-Items, all-Grammar, all-Machine}
-use Rattle.laws.specs.Tests.{is-true}
+use Rattle.laws.specs.Tests.{and-left, and-right, is-true, as-T}
 use Rattle.laws.specs.Runs.{All, run-all}
-use Rattle.promises.specs.RoundTrip.{number-text, translated-again, decoded, numbered-so}
+use Rattle.promises.specs.Lists.{run-whole}
+use Rattle.promises.specs.RoundTrip.{blank-no-digit, number-text, translated-again, decoded, numbered-so}
 use Rattle.promises.specs.States.{state-says}
 
 -- ---- the listing of a well-formed line, entered
@@ -31,36 +32,33 @@ scan-blank : (b : ℕ) (s : List ℕ) (first : Bool) (p : ℕ) → blank? b ≡ 
 unfolding scan
 scan-blank b s first p h = rw h
 
-all-blank : (b : ℕ) (s : List ℕ) (x : Bool) → blank? b ≡ x → pick x (suc (run blank? s)) 0 ≡ suc (length s) → (blank? b ≡ true) × (run blank? s ≡ length s)
-all-blank b s true h e = (h, omega arith)
-all-blank b s false h e = absurd (omega arith)
-
 end-scan : (first : Bool) (p : ℕ) → scan 0 first p [] ≡ item p 0 (operator 0x16) ∷ []
 unfolding scan
 end-scan first p = refl
 
-scan-blanks : (s : List ℕ) (first : Bool) (p : ℕ) → run blank? s ≡ length s → (q : ℕ) × (scan 0 first p s ≡ item q 0 (operator 0x16) ∷ [])
-unfolding run
-scan-blanks [] first p e = (p, end-scan first p)
-scan-blanks (b ∷ s) first p e =
-    let a = all-blank b s (blank? b) refl e in
-    let r = scan-blanks s first (suc p) (a .1) in
-    (r .0, scan-blank b s first p (a .0) ∙ r .1)
+scan-blanks : (s : List ℕ) (first : Bool) (p : ℕ) → T (every blank? s) → (q : ℕ) × (scan 0 first p s ≡ item q 0 (operator 0x16) ∷ [])
+unfolding every
+scan-blanks [] first p t = (p, end-scan first p)
+scan-blanks (b ∷ s) first p t =
+    let r = scan-blanks s first (suc p) (and-right (blank? b) _ t) in
+    (r .0, scan-blank b s first p (is-true (blank? b) (and-left (blank? b) _ t)) ∙ r .1)
 
 only-end : (q : ℕ) → outcome (read look-in-range start (item q 0 (operator 0x16) ∷ [])) ≡ refused-at 4 q
 unfolding outcome place-of all-Bytes all-Words all-Tokens all-Items all-Grammar all-Machine
 only-end q = refl
 
 -- a text that is translated is not only blanks
-not-blank : (p : ℕ) (s : List ℕ) (ts : List Token) → translate p s ≡ tokens ts → eqb (run blank? s) (length s) ≡ false
+not-blank : (p : ℕ) (s : List ℕ) (ts : List Token) → translate p s ≡ tokens ts → every blank? s ≡ false
 unfolding translate items
-not-blank p s ts e =
-    ne-eqb (run blank? s) (length s)
-    (λ h.
-    let r = scan-blanks s true p h in
-    let a : refused-at 4 (r .0) ≡ tokens ts = sym (only-end (r .0)) ∙ ap (λ (z : List Item). outcome (read look-in-range start z)) (sym (r .1)) ∙ e in
-    let z : _≡_ {A = ℕ} 0 1 = cc in
-    omega arith)
+not-blank p s ts e = go (every blank? s) refl
+  where
+    go : (b : Bool) → every blank? s ≡ b → b ≡ false
+    go false h = refl
+    go true h =
+        let r = scan-blanks s true p (as-T _ h) in
+        let a : refused-at 4 (r .0) ≡ tokens ts = sym (only-end (r .0)) ∙ ap (λ (z : List Item). outcome (read look-in-range start z)) (sym (r .1)) ∙ e in
+        let z : _≡_ {A = ℕ} 0 1 = cc in
+        absurd (omega arith)
 
 digit-no-blank : (x : ℕ) → digit? x ≡ true → blank? x ≡ false
 unfolding digit? blank?
@@ -73,10 +71,6 @@ no-blanks : (l ys : List ℕ) → All digit? l → (length l ≡ 0 → ⊥) → 
 unfolding run
 no-blanks [] ys a n = absurd (n refl)
 no-blanks (x ∷ l) ys a n = rw (digit-no-blank x (a .0))
-
-blank-no-digit : digit? blank ≡ false
-unfolding digit?
-blank-no-digit = refl
 
 is-blank : blank? blank ≡ true
 unfolding blank?
@@ -102,7 +96,7 @@ head-is n ds rest b0 dg tk dr wo so at = rw (b0, dg, tk, dr, wo, ne-eqb (length 
 
 entered : (s : State) (n p : ℕ) (ts : List Token) (text rest : List ℕ) → T (sound-state s) → length text ≤ 120 → head-of text ≡ numbered n p rest → translate p rest ≡ tokens ts → enter text s ≡ accept s n ts
 unfolding enter enter-sound at-head answered
-entered s n p ts text rest o h hd tr = rw (is-true (sound-state s) o, le-ltb 120 (length text) h, hd, not-blank p rest ts tr, tr)
+entered s n p ts text rest o h hd tr = rw (is-true (sound-state s) o, le-ltb 120 (length text) h, hd, run-whole blank? rest, not-blank p rest ts tr, tr)
 
 -- Over a sound state, the listing of a well-formed line, if it is no longer than a text may be, is entered as the tokens of that line.
 pub enter-listing : (s : State) → T (sound-state s) → (l : List ℕ) (w : WellFormed (names-of s) l) → length (listing (names-of s) l) ≤ 120 → enter (listing (names-of s) l) s ≡ accept s (w .number) (w .tokens)

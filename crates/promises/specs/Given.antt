@@ -14,10 +14,11 @@ use Rattle.paper.specs.Grammar.{Gives, itself, for-strings, as-prefix, put, giv
 use Rattle.paper.specs.Listing.{token-text, operator-text, body-text}
 use Rattle.paper.specs.WellFormed.{right-token?}
 use Rattle.paper.specs.Open.{all-Bytes, all-Words, all-Tokens, all-Grammar, all-Machine, all-Listing}
-use Rattle.laws.specs.Tests.{and-left, and-right, or-else}
+use Rattle.laws.specs.Tests.{and-left, and-right, is-true, or-else}
+use Rattle.laws.specs.Classes.{at-kind}
+use Rattle.laws.specs.Names.{same-eq}
 use Rattle.promises.specs.Place.{by-class, sources}
 use Rattle.promises.specs.TokenRuns.{row-fits, Fits, find-fits, AllFit, RunFits, read-fits}
-use Rattle.promises.specs.Lists.{same-eq}
 
 -- ---- a test at every word of a table holds at the word of a token, if that is there
 
@@ -42,18 +43,6 @@ at-class q (w ∷ ws) t e u = go (eqb (w .token) t) (at-class q ws t (and-right 
     go : (b : Bool) → T (q ((word-of ws t) .class)) → T (q ((pick b w (word-of ws t)) .class))
     go true k = and-left (q (w .class)) (every (λ (w : Word). q (w .class)) ws) e
     go false k = k
-
--- a test of three classes passes at the kind of any name
-pub at-kind : (q : ℕ → Bool) (n : List ℕ) (a b c : ℕ) → T (q a) → T (q b) → T (q c) → T (q (by-kind n a b c))
-unfolding by-kind
-at-kind q [] a b c x y z = x
-at-kind q (m ∷ []) a b c x y z = go (eqb m 36) (eqb m 40)
-  where
-    go : (s t : Bool) → T (q (pick s b (pick t c a)))
-    go true t = y
-    go false true = z
-    go false false = x
-at-kind q (m ∷ k ∷ n) a b c x y z = at-kind q (k ∷ n) a b c x y z
 
 -- ---- the test of a row
 
@@ -109,7 +98,7 @@ unfolding operator-fits
 op-both e j t =
     let k : ℕ = given-operator e j in
     let r = and-right (eqb (read-as k) j) _ t in
-    (eqb→eq (read-as k) j (and-left (eqb (read-as k) j) _ t), same-eq (operator-text k) (operator-text j) (and-left (same (operator-text k) (operator-text j)) _ r), and-right (same (operator-text k) (operator-text j)) (plain-byte? k) r)
+    (eqb→eq (read-as k) j (and-left (eqb (read-as k) j) _ t), same-eq (operator-text k) (operator-text j) (is-true (same (operator-text k) (operator-text j)) (and-left (same (operator-text k) (operator-text j)) _ r)), and-right (same (operator-text k) (operator-text j)) (plain-byte? k) r)
 
 -- the test of an operator j, from the test of its class
 pub op-fits : (e : Gives) (j : ℕ) → T (fits e (operator-class j)) → T (operator-fits e j)

@@ -36,5 +36,7 @@ pub mod Editing
 pub mod Growing
 pub mod WellFormedLines
 pub mod ReEntry
-pub mod Tables
+pub mod Tested
+pub mod OnePlace
+pub mod Exactly
 pub mod Main

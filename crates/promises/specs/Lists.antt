@@ -1,12 +1,13 @@
--- Tests of which none passes, two lists of bytes that are the same, and tests over lists end to end.
-use Prim.Native.Nat.{ℕ}
+-- Tests of which one passes or none, and tests over lists.
+use Prim.Native.Nat.{ℕ, suc}
 use native.Mathlib.Omega.{arith}
-use mathlib.Core.Path.{_≡_, refl, ap, _∙_}
-use mathlib.Core.Bool.{Bool, true, false, _||_}
+use mathlib.Core.Path.{_≡_, refl, _∙_}
+use mathlib.Core.Bool.{Bool, true, false, _&&_, _||_}
 use mathlib.Core.List.{List, [], _∷_, _++_}
-use lib.Dec.{T, eqb}
-use borrow.Author.Tests.{eqb-true, eq-eqb}
-use Rattle.paper.specs.Bytes.{pick, same, every}
+use lib.Dec.{T, eqb, eqb·suc-suc}
+use lib.ListN.{length}
+use borrow.Author.Tests.{eq-eqb, ne-eqb}
+use Rattle.paper.specs.Bytes.{pick, run, every}
 use Rattle.laws.specs.Tests.{and-left, and-right, and-both}
 
 -- one of two that passes
@@ -29,24 +30,6 @@ pub or-false-right : (a b : Bool) → a || b ≡ false → b ≡ false
 or-false-right true b e = let z : _≡_ {A = ℕ} 0 1 = cc in absurd (omega arith)
 or-false-right false b e = e
 
-same-go : (x y : ℕ) (xs ys : List ℕ) (b : Bool) → eqb x y ≡ b → (T (same xs ys) → xs ≡ ys) → T (pick b (same xs ys) false) → x ∷ xs ≡ y ∷ ys
-same-go x y xs ys true e ih t = ap (λ (z : ℕ). z ∷ xs) (eqb-true x y e) ∙ ap (λ (l : List ℕ). y ∷ l) (ih t)
-same-go x y xs ys false e ih t = absurd t
-
--- what the test calls the same is equal
-pub same-eq : (xs ys : List ℕ) → T (same xs ys) → xs ≡ ys
-unfolding same
-same-eq [] [] t = refl
-same-eq [] (y ∷ ys) t = absurd t
-same-eq (x ∷ xs) [] t = absurd t
-same-eq (x ∷ xs) (y ∷ ys) t = same-go x y xs ys (eqb x y) refl (λ h. same-eq xs ys h) t
-
--- a list is the same as itself
-pub same-refl : (l : List ℕ) → same l l ≡ true
-unfolding same
-same-refl [] = refl
-same-refl (x ∷ l) = rw (eq-eqb x x refl) (same-refl l)
-
 -- a test of every entry of two lists passes at every entry of both end to end
 pub every-append : {A : Type 0} (p : A → Bool) (xs ys : List A) → T (every p xs) → T (every p ys) → T (every p (xs ++ ys))
 unfolding every
@@ -64,3 +47,13 @@ pub every-right : {A : Type 0} (p : A → Bool) (xs ys : List A) → T (every p 
 unfolding every
 every-right p [] ys t = t
 every-right p (x ∷ xs) ys t = every-right p xs ys (and-right (p x) (every p (xs ++ ys)) t)
+
+-- the longest run at the front is the whole list exactly if every entry passes
+pub run-whole : (p : ℕ → Bool) (l : List ℕ) → eqb (run p l) (length l) ≡ every p l
+unfolding run every
+run-whole p [] = eq-eqb 0 0 refl
+run-whole p (x ∷ l) = go (p x) (run-whole p l)
+  where
+    go : (b : Bool) → eqb (run p l) (length l) ≡ every p l → eqb (pick b (suc (run p l)) 0) (suc (length l)) ≡ (b && every p l)
+    go true e = eqb·suc-suc (run p l) (length l) ∙ e
+    go false e = ne-eqb 0 (suc (length l)) (λ h. omega arith)

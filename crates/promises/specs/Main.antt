@@ -2,20 +2,20 @@
 use Prim.Native.Nat.{ℕ, zero, _+_, _≤_, _<_}
 use mathlib.Core.Path.{_≡_, sym, _∙_}
 use mathlib.Core.Bool.{Bool}
-use mathlib.Core.Logic.{_⊎_}
+use mathlib.Core.Logic.{_↔_, _⊎_}
 use mathlib.Core.List.{List, List·Memᴰ}
 use lib.Dec.{T}
 use lib.ListN.{length, take}
 use Rattle.paper.specs.Tokens.{constant}
 use Rattle.paper.specs.Constants.{in-range, six, zero-bytes, right-constant?, constant-text}
 use Rattle.paper.specs.Names.{sound-names}
-use Rattle.paper.specs.Items.{item, item-at}
+use Rattle.paper.specs.Items.{Item, item, item-at}
 use Rattle.paper.specs.Line.{line-number}
 use Rattle.paper.specs.WellFormed.{WellFormed, well-formed?}
 use Rattle.paper.specs.Listing.{listing}
-use Rattle.paper.specs.Store.{room, put-line}
+use Rattle.paper.specs.Store.{room, line-at, put-line}
 use Rattle.paper.specs.Calls.{State, names-of, lines-of, sound-state, Entered, enter, Listed, list}
-use Rattle.promises.specs.Terms.{items-in, NoReading, OutOfRange, Edited, Written, HoldsWellFormed, CutTo, bytes?, old-size, with-lines, accepted-with}
+use Rattle.promises.specs.Terms.{number-end, past-number, items-in, NoReading, OutOfRange, Readable, Exactly, Unread, TooFar, text-refusals, listing-refusals, Edited, Written, HoldsWellFormed, CutTo, old-size, with-lines, accepted-with}
 use Rattle.promises.specs.ConstantRight as ConstantRight′
 use Rattle.promises.specs.ConstantSize as ConstantSize′
 use Rattle.promises.specs.RoundTrip as RoundTrip′
@@ -24,6 +24,8 @@ use Rattle.promises.specs.Answers as Answers′
 use Rattle.promises.specs.Editing as Editing′
 use Rattle.promises.specs.WellFormedLines as WellFormedLines′
 use Rattle.promises.specs.ReEntry as ReEntry′
+use Rattle.promises.specs.OnePlace as OnePlace′
+use Rattle.promises.specs.Exactly as Exactly′
 
 -- 1. Place. At the place of refusal 4 stands the first item such that no lawful sequence begins with the items up to it. At the place of
 -- refusal 5 stands the first constant out of range; the grammar takes it there, so that no place for 4 stands left of it, or there.
@@ -92,15 +94,15 @@ stored-lines text s h = WellFormedLines′.stays-well-formed text s h
 pub well-formed-test : (ns : List (List ℕ)) (l : List ℕ) → (T (well-formed? ns l) → WellFormed ns l) × (WellFormed ns l → T (well-formed? ns l))
 well-formed-test ns l = (WellFormedTest′.test-says ns l, WellFormedTest′.says-test ns l)
 
--- 6. Re-entry. Over sound tables with room for it, a well-formed line whose listing has at most 120 bytes is put in, byte for byte, by
--- entering that listing; no name is added, and nothing else changes. So a line that is listed from the store, entered again, leaves the
--- state as it is.
-pub re-entry : (s : State) → T (sound-state s) → (l : List ℕ) → T (bytes? l) → WellFormed (names-of s) l → length (listing (names-of s) l) ≤ 120 → s .used + length l ≤ room (s .store) + old-size (line-number l) s
+-- 6. Re-entry. Over sound tables with room for it, a well-formed line of at most 255 bytes whose listing has at most 120 is put in, byte for
+-- byte, by entering that listing; no name is added, and nothing else changes. So a line that is listed from the store, entered again, leaves
+-- the state as it is. (Its length byte counts it, so where the entries of the store are bytes it has no more than 255.)
+pub re-entry : (s : State) → T (sound-state s) → (l : List ℕ) → length l ≤ 255 → WellFormed (names-of s) l → length (listing (names-of s) l) ≤ 120 → s .used + length l ≤ room (s .store) + old-size (line-number l) s
     → enter (listing (names-of s) l) s ≡ accepted-with (with-lines s (put-line l (lines-of s)))
 re-entry s o l b w h r = ReEntry′.entered-again s o l w h b r
 
 -- listed, and entered again
-pub listed-again : (n : ℕ) (s : State) (output : List ℕ) → T (bytes? (s .store)) → (list n s output) .number ≡ 0 → (list n s output) .written ≤ 120
+pub listed-again : (n : ℕ) (s : State) (output : List ℕ) → length (line-at n (lines-of s)) ≤ 255 → (list n s output) .number ≡ 0 → (list n s output) .written ≤ 120
     → enter (take ((list n s output) .written) ((list n s output) .output)) s ≡ accepted-with s
 listed-again n s output b h k = ReEntry′.listed-again n s output h k b
 
@@ -115,3 +117,20 @@ one-entered text s a b h k = h ∙ sym k
 -- the same of a listing
 pub one-listed : (n : ℕ) (s : State) (output : List ℕ) (a b : Listed) → a ≡ list n s output → b ≡ list n s output → a ≡ b
 one-listed n s output a b h k = h ∙ sym k
+
+-- 9. Exactly when. Terms.antt lists the numbers of each call with their conditions, in the order and the words of document 01: of a text that is
+-- entered, of one that deletes, of a listing. A call answers k exactly when k's condition holds and none before it does, and 0 exactly when none holds.
+pub text-exactly : (text : List ℕ) (s : State) → Exactly (text-refusals text s) ((enter text s) .number)
+text-exactly text s = Exactly′.text-exactly text s
+
+-- the same of a listing
+pub listing-exactly : (n : ℕ) (s : State) (output : List ℕ) → Exactly (listing-refusals n s output) ((list n s output) .number)
+listing-exactly n s output = Exactly′.listing-exactly n s output
+
+-- Neither 4 nor 5 is there exactly when the text's own items are a lawful sequence with every constant in range.
+pub neither-4-nor-5 : (text : List ℕ) → ((Unread (items-in text) → ⊥) × (TooFar (items-in text) → ⊥)) ↔ Readable (items-in text)
+neither-4-nor-5 text = OnePlace′.neither (number-end text) (past-number text)
+
+-- The two are never there together, and each has one place.
+pub one-place : (is : List Item) (p q : ℕ) → (NoReading is p → OutOfRange is q → ⊥) × (NoReading is p → NoReading is q → p ≡ q) × (OutOfRange is p → OutOfRange is q → p ≡ q)
+one-place is p q = (OnePlace′.not-both is p q, OnePlace′.one-4 is p q, OnePlace′.one-5 is p q)

@@ -1,86 +1,53 @@
 -- The listing of a well-formed line, entered: the line itself is put in, and nothing else changes. And a line listed and entered again.
-use Prim.Native.Nat.{ℕ, zero, suc, _+_, _-_, _*_, _≤_, _<_}
+use Prim.Native.Nat.{ℕ, _+_, _-_, _*_, _≤_}
 use native.Mathlib.Nat.{add-zero}
 use native.Mathlib.Omega.{arith}
-use mathlib.Core.Path.{_≡_, refl, subst, sym, ap, _∙_}
-use mathlib.Core.Bool.{Bool, true, false}
-use mathlib.Core.List.{List, [], _∷_, _++_, append-assoc, append-nil}
-use lib.Dec.{T, eqb, leb, ltb, ltb→lt, eqb→eq}
-use lib.ListN.{length, take, drop, getD, length-append, take-append-drop}
+use mathlib.Core.Path.{_≡_, refl, sym, ap, _∙_}
+use mathlib.Core.Bool.{Bool, false}
+use mathlib.Core.List.{List, [], _∷_, _++_, append-nil}
+use lib.Dec.{T, eqb→eq}
+use lib.ListN.{length, take, drop, length-append, take-append-drop}
 use lib.Seq.{drop-length, length-take-le}
 use borrow.Author.Tests.{le-ltb, eq-eqb}
-use Rattle.paper.specs.Bytes.{pick, every, joined}
+use Rattle.paper.specs.Bytes.{pick, joined}
 use Rattle.paper.specs.Tokens.{Token}
 use Rattle.paper.specs.Names.{name-bytes, add-names, value-entries}
 use Rattle.paper.specs.Line.{line-bytes, line-number}
 use Rattle.paper.specs.Listing.{listing}
 use Rattle.paper.specs.WellFormed.{WellFormed}
-use Rattle.paper.specs.Store.{whole-line?, room, lines-below, lines-not-below, lines-above, first-is?, first-line, stored?, line-at, put-line, overwritten}
+use Rattle.paper.specs.Store.{room, lines-below, lines-not-below, lines-above, first-is?, first-line, stored?, line-at, put-line, overwritten}
 use Rattle.paper.specs.Calls.{State, names-of, lines-of, sound-state, stored, lacks-room, accept, enter, Listed, list}
-use Rattle.laws.specs.Tests.{and-left, and-right, is-true}
-use Rattle.promises.specs.Terms.{bytes?, old-size, with-lines, accepted-with}
-use Rattle.promises.specs.Lists.{every-left, every-right}
+use Rattle.laws.specs.Tests.{is-true}
+use Rattle.laws.specs.Lines.{joined-append, both-sides, old-line, three-parts, room-lent}
+use Rattle.promises.specs.Terms.{SoundState, old-size, with-lines, accepted-with}
 use Rattle.promises.specs.RoundTrip.{no-new-names}
 use Rattle.promises.specs.WellFormedTest.{test-says}
-use Rattle.promises.specs.Stored.{old-lines, room-least, over-take}
-use Rattle.promises.specs.States.{SoundState, state-says}
+use Rattle.promises.specs.Stored.{over-take}
+use Rattle.promises.specs.States.{state-says}
 use Rattle.promises.specs.Answers.{ListAnswer, not-written, written-out, list-answer, not-listed-so}
 use Rattle.promises.specs.Entering.{enter-listing}
-use Rattle.promises.specs.Editing.{well-formed-whole, used-bytes}
-
--- ---- a line of bytes has at most 255 of them
-
-byte-at : (l : List ℕ) (i : ℕ) → T (bytes? l) → getD l i 0 < 256
-unfolding bytes? every
-byte-at [] i t = omega arith
-byte-at (b ∷ l) zero t = ltb→lt b 256 (and-left (ltb b 256) _ t)
-byte-at (b ∷ l) (suc i) t = byte-at l i (and-right (ltb b 256) _ t)
-
-whole-short : (l : List ℕ) → T (whole-line? l) → T (bytes? l) → length l ≤ 255
-unfolding whole-line?
-whole-short l w b =
-    let e : getD l 2 0 ≡ length l = eqb→eq (getD l 2 0) (length l) (and-left (eqb (getD l 2 0) (length l)) _ (and-right (leb 6 (length l)) _ w)) in
-    let h = byte-at l 2 b in
-    omega arith
+use Rattle.promises.specs.Editing.{used-bytes}
 
 -- ---- the size of the store with a line put in
 
-joined-append : (xs ys : List (List ℕ)) → joined (xs ++ ys) ≡ joined xs ++ joined ys
-unfolding joined
-joined-append [] ys = refl
-joined-append (x ∷ xs) ys = ap (λ (z : List ℕ). x ++ z) (joined-append xs ys) ∙ sym (append-assoc x (joined xs) (joined ys))
-
-size-append : (xs ys : List (List ℕ)) → length (joined (xs ++ ys)) ≡ length (joined xs) + length (joined ys)
-size-append xs ys = ap length (joined-append xs ys) ∙ length-append (joined xs) (joined ys)
-
-cut-size : (n : ℕ) (r : List (List ℕ)) → length (joined (pick (first-is? n r) (drop 1 r) r)) + pick (first-is? n r) (length (first-line r)) 0 ≡ length (joined r)
-unfolding first-is? first-line joined
-cut-size n [] = refl
-cut-size n (l ∷ r) = go (eqb (line-number l) n)
-  where
-    go : (b : Bool) → length (joined (pick b r (l ∷ r))) + pick b (length l) 0 ≡ length (l ++ joined r)
-    go true = omega (arith, length-append l (joined r))
-    go false = omega arith
-
 used-in : (s : State) → T (sound-state s) → s .used ≤ length (s .store)
-used-in s o = omega (arith, state-says s o .used-fits, room-least (s .store))
+used-in s o = omega (arith, state-says s o .used-fits, room-lent (s .store))
 
 -- the lines take as many bytes as are used
 lines-size : (s : State) → T (sound-state s) → length (joined (lines-of s)) ≡ s .used
 lines-size s o = ap length (used-bytes s o) ∙ length-take-le (s .used) (s .store) (used-in s o)
 
-put-size : (s : State) → T (sound-state s) → (l : List ℕ) → length (joined (put-line l (lines-of s))) + old-size (line-number l) s ≡ s .used + length l
-unfolding put-line old-size lines-above stored? line-at joined
+-- the bytes of all lines with one put in, and of the one that it replaces
+pub put-size : (s : State) → T (sound-state s) → (l : List ℕ) → length (joined (put-line l (lines-of s))) + old-size (line-number l) s ≡ s .used + length l
+unfolding put-line old-size old-line joined
 put-size s o l =
     let n : ℕ = line-number l in
     let ls : List (List ℕ) = lines-of s in
-    let r : List (List ℕ) = lines-not-below n ls in
-    let above : List (List ℕ) = pick (first-is? n r) (drop 1 r) r in
-    let a = size-append (lines-below n ls) (l ∷ above) in
-    let b = size-append (lines-below n ls) r in
-    let c = cut-size n r in
-    let d = ap (λ (z : List (List ℕ)). length (joined z)) (old-lines n ls) in
-    omega (arith, lines-size s o, length-append l (joined above))
+    let below : List ℕ = joined (lines-below n ls) in
+    let above : List ℕ = joined (lines-above n ls) in
+    let new = ap length (joined-append (lines-below n ls) (l ∷ lines-above n ls)) in
+    let old = ap length (three-parts n ls) in
+    omega (arith, lines-size s o, length-append below (l ++ above), length-append l above, length-append below (old-line n ls ++ above), length-append (old-line n ls) above)
 
 -- ---- no new name: the tables stay
 
@@ -108,31 +75,13 @@ accepted s o n ts l names line short fits =
     rw (names, line, no-lack s, le-ltb 255 (length l) short, le-ltb (room (s .store)) (length (joined (put-line l (lines-of s)))) fits, tables-stay s o (put-line l (lines-of s)), none)
 
 -- the listing of a well-formed line, entered over a sound state with room, puts that line in, and nothing else changes
-pub entered-again : (s : State) → T (sound-state s) → (l : List ℕ) → WellFormed (names-of s) l → length (listing (names-of s) l) ≤ 120 → T (bytes? l) → s .used + length l ≤ room (s .store) + old-size (line-number l) s
+pub entered-again : (s : State) → T (sound-state s) → (l : List ℕ) → WellFormed (names-of s) l → length (listing (names-of s) l) ≤ 120 → length l ≤ 255 → s .used + length l ≤ room (s .store) + old-size (line-number l) s
     → enter (listing (names-of s) l) s ≡ accepted-with (with-lines s (put-line l (lines-of s)))
 entered-again s o l w h b r =
     enter-listing s o l w h
-    ∙ accepted s (state-says s o) (w .number) (w .tokens) l (no-new-names (names-of s) (w .tokens) (w .right)) (w .bytes) (whole-short l (well-formed-whole (names-of s) l w) b) (omega (arith, put-size s o l))
+    ∙ accepted s (state-says s o) (w .number) (w .tokens) l (no-new-names (names-of s) (w .tokens) (w .right)) (w .bytes) b (omega (arith, put-size s o l))
 
 -- ---- a line of the store, listed and entered again
-
--- the bytes of a stored line are bytes of the store
-first-bytes : (ls : List (List ℕ)) → T (bytes? (joined ls)) → T (bytes? (first-line ls))
-unfolding joined first-line bytes?
-first-bytes [] t = t
-first-bytes (l ∷ ls) t = every-left (λ b. ltb b 256) l (joined ls) t
-
-stored-bytes : (n : ℕ) (ls : List (List ℕ)) → T (bytes? (joined ls)) → T (bytes? (line-at n ls))
-unfolding line-at bytes?
-stored-bytes n ls t =
-    let e : joined ls ≡ joined (lines-below n ls) ++ joined (lines-not-below n ls) = ap joined (sym (old-lines n ls)) ∙ joined-append (lines-below n ls) (lines-not-below n ls) in
-    first-bytes (lines-not-below n ls) (every-right (λ b. ltb b 256) (joined (lines-below n ls)) (joined (lines-not-below n ls)) (subst (λ (z : List ℕ). T (bytes? z)) e t))
-
-used-are-bytes : (s : State) → T (sound-state s) → T (bytes? (s .store)) → T (bytes? (joined (lines-of s)))
-unfolding bytes?
-used-are-bytes s o t =
-    subst (λ (z : List ℕ). T (bytes? z)) (sym (used-bytes s o))
-    (every-left (λ b. ltb b 256) (take (s .used) (s .store)) (drop (s .used) (s .store)) (subst (λ (z : List ℕ). T (bytes? z)) (sym (take-append-drop (s .used) (s .store))) t))
 
 -- a stored line put in again
 put-there : (n : ℕ) (ls : List (List ℕ)) (l : List ℕ) (r : List (List ℕ)) → lines-not-below n ls ≡ l ∷ r → line-number l ≡ n → put-line l ls ≡ ls
@@ -142,7 +91,7 @@ put-there n ls l r h e =
     ∙ ap (λ (z : List (List ℕ)). lines-below n ls ++ l ∷ pick (first-is? n z) (drop 1 z) z) h
     ∙ ap (λ (b : Bool). lines-below n ls ++ l ∷ pick b r (l ∷ r)) (eq-eqb (line-number l) n e)
     ∙ ap (λ (z : List (List ℕ)). lines-below n ls ++ z) (sym h)
-    ∙ old-lines n ls
+    ∙ both-sides n ls
 
 same-go : (n : ℕ) (ls r : List (List ℕ)) → lines-not-below n ls ≡ r → T (first-is? n r) → (line-number (first-line r) ≡ n) × (put-line (first-line r) ls ≡ ls)
 unfolding first-is? first-line
@@ -161,19 +110,18 @@ size-there : (n : ℕ) (s : State) → T (stored? n (lines-of s)) → old-size n
 unfolding old-size
 size-there n s t = rw (is-true (stored? n (lines-of s)) t)
 
-again-so : (n : ℕ) (s : State) (output : List ℕ) (e : Listed) → ListAnswer n s output e → e .number ≡ 0 → e .written ≤ 120 → T (bytes? (s .store)) → enter (take (e .written) (e .output)) s ≡ accepted-with s
+again-so : (n : ℕ) (s : State) (output : List ℕ) (e : Listed) → ListAnswer n s output e → e .number ≡ 0 → e .written ≤ 120 → length (line-at n (lines-of s)) ≤ 255 → enter (take (e .written) (e .output)) s ≡ accepted-with s
 again-so n s output e (not-written k h) z short b = absurd (not-listed-so k output h z)
 again-so n s output e (written-out o st wf fits) z short b =
     let l : List ℕ = line-at n (lines-of s) in
     let text : List ℕ = listing (names-of s) l in
     let p = put-same n (lines-of s) st in
-    let lb : T (bytes? l) = stored-bytes n (lines-of s) (used-are-bytes s o b) in
     let size : old-size (line-number l) s ≡ length l = ap (λ (z : ℕ). old-size z s) (p .0) ∙ size-there n s st in
     ap (λ (z : List ℕ). enter z s) (over-take text output)
-    ∙ entered-again s o l (test-says (names-of s) l wf) short lb (omega (arith, state-says s o .used-fits))
+    ∙ entered-again s o l (test-says (names-of s) l wf) short b (omega (arith, state-says s o .used-fits))
     ∙ ap accepted-with (ap (with-lines s) (p .1) ∙ store-same s o)
 
 -- a line of the store that is listed, entered again, leaves the state as it is
-pub listed-again : (n : ℕ) (s : State) (output : List ℕ) → (list n s output) .number ≡ 0 → (list n s output) .written ≤ 120 → T (bytes? (s .store))
+pub listed-again : (n : ℕ) (s : State) (output : List ℕ) → (list n s output) .number ≡ 0 → (list n s output) .written ≤ 120 → length (line-at n (lines-of s)) ≤ 255
     → enter (take ((list n s output) .written) ((list n s output) .output)) s ≡ accepted-with s
 listed-again n s output z short b = again-so n s output (list n s output) (list-answer n s output) z short b

@@ -19,10 +19,12 @@ use Rattle.paper.specs.Listing.{token-text, operator-text, body-text}
 use Rattle.paper.specs.WellFormed.{right-token?}
 use Rattle.paper.specs.Open.{all-Bytes, all-Words, all-Listing}
 use Rattle.laws.specs.Tests.{and-left, and-right, is-true, is-false, or-else, as-T, and-both}
+use Rattle.laws.specs.Classes.{at-kind}
+use Rattle.laws.specs.Names.{same-eq}
 use Rattle.laws.specs.Runs.{All, all-every, run-all, seam}
 use Rattle.promises.specs.ConstantText.{ends-number, constant-reads, constant-starts}
-use Rattle.promises.specs.Lists.{or-right, same-eq}
-use Rattle.promises.specs.Given.{at-word, at-class, at-kind}
+use Rattle.promises.specs.Lists.{or-right}
+use Rattle.promises.specs.Given.{at-word, at-class}
 use Rattle.promises.specs.Neighbours.{apart, first-class?, operator-class?, Apart}
 use Rattle.promises.specs.Closed.{closed, end-class?}
 use Rattle.promises.specs.WordReading.{read-tokens, ends-name, after, Next, scan-item, at-each, OperatorReads, StatementNext, StatementReads, after-statement}
@@ -132,7 +134,7 @@ known-every q [] n e k = absurd k
 known-every q (m ∷ ms) n e k = known-go q m ms n (same m n) refl (and-left (q m) (every q ms) e) (λ h. known-every q ms n (and-right (q m) (every q ms) e) h) k
   where
     known-go : (q : List ℕ → Bool) (m : List ℕ) (ms : List (List ℕ)) (n : List ℕ) (b : Bool) → same m n ≡ b → T (q m) → (T (ltb (number-of ms n) (length ms)) → T (q n)) → T (ltb (pick b 0 (suc (number-of ms n))) (suc (length ms))) → T (q n)
-    known-go q m ms n true e h ih k = subst (λ (z : List ℕ). T (q z)) (same-eq m n (as-T (same m n) e)) h
+    known-go q m ms n true e h ih k = subst (λ (z : List ℕ). T (q z)) (same-eq m n e) h
     known-go q m ms n false e h ih k = ih (subst T (leb·suc-suc (suc (number-of ms n)) (length ms)) k)
 
 record NameFine (n : List ℕ) : Type 0 where

@@ -64,10 +64,11 @@ from-items is l = ap end-of (l .1 .reads)
 
 -- ---- refusal 4
 
-none-out : (ts : List (Taken Gives Item)) → NoneOut ts → T (every in-range? (sources ts))
+-- the items of such a run are in range
+pub taken-in-range : (ts : List (Taken Gives Item)) → NoneOut ts → T (every in-range? (sources ts))
 unfolding every sources in-range? out?
-none-out [] n = tt
-none-out (t ∷ ts) n = and-both (in-range? (t .from)) (every in-range? (sources ts)) (subst (λ (b : Bool). T (not b)) (sym (n .0)) tt) (none-out ts (n .1))
+taken-in-range [] n = tt
+taken-in-range (t ∷ ts) n = and-both (in-range? (t .from)) (every in-range? (sources ts)) (subst (λ (b : Bool). T (not b)) (sym (n .0)) tt) (taken-in-range ts (n .1))
 
 first-item : (is : List Item) (ts : List (Taken Gives Item)) (i : Item) (rest : List Item) → NoneOut ts → First is (sources ts) i rest → NoReading is (i .place)
 first-item is ts i rest n f =
@@ -79,7 +80,7 @@ first-item is ts i rest n f =
       at = refl;
       none-begins = (λ more l. f .none more (from-items (sources ts ++ i ∷ more) l));
       some-begins = (f .some .0, to-items (sources ts ++ f .some .0) (f .some .1));
-      in-range = none-out ts n;
+      in-range = taken-in-range ts n;
     }
 
 -- ---- refusal 5
@@ -127,7 +128,7 @@ out-item is ts i rest e next n w o t =
       at = refl;
       out = is-out (i .token) o;
       some-begins = (more, to-items (sources ts ++ i ∷ more) (subst (Place′.Lawful look-item start) (append-assoc (sources ts) (i ∷ []) more) l));
-      in-range = none-out ts n;
+      in-range = taken-in-range ts n;
     }
 
 -- ---- a text's translation

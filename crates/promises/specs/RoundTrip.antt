@@ -231,7 +231,8 @@ text-number s = value 0 (take (run digit? s) s)
 unfoldable text-body : List ℕ → List ℕ
 text-body s = drop (suc (run digit? s)) s
 
-blank-no-digit : digit? blank ≡ false
+-- a blank is no digit
+pub blank-no-digit : digit? blank ≡ false
 unfolding digit?
 blank-no-digit = refl
 

@@ -20,9 +20,10 @@ use Rattle.paper.specs.Line.{raw-statement?, begins?, to-next}
 use Rattle.paper.specs.WellFormed.{right-token?}
 use Rattle.paper.specs.Open.{all-Bytes, all-Words}
 use Rattle.laws.specs.Tests.{and-left, and-right, is-true, is-false, or-else, as-T, and-both}
+use Rattle.laws.specs.Classes.{at-kind}
 use Rattle.promises.specs.Place.{sources}
 use Rattle.promises.specs.TokenRuns.{AllFit}
-use Rattle.promises.specs.Given.{fits, tokens-given, given-operator, plain-byte?, op-both, op-fits, given-op, symbol-class?, own-given, own-all, no-symbol-statement, no-symbol-name, no-symbol-number, no-symbol-quoted, at-word, at-kind}
+use Rattle.promises.specs.Given.{fits, tokens-given, given-operator, plain-byte?, op-both, op-fits, given-op, symbol-class?, own-given, own-all, no-symbol-statement, no-symbol-name, no-symbol-number, no-symbol-quoted, at-word}
 use Rattle.promises.specs.Neighbours.{Apart, first-class?}
 use Rattle.promises.specs.Closed.{closed, end-class?}
 use Rattle.promises.specs.Reading.{Fine, Side, side, op-known, op-line, op-raw-end, nothing-after, raw-shape, closed-rest, statement-first, quiet, quiet-name, quiet-first, quiet-value, end-is, raw-first, both}

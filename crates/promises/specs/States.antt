@@ -7,26 +7,17 @@ use mathlib.Core.List.{List, [], _∷_, _++_}
 use lib.Dec.{T, leb, ltb, eqb, leb→le, le→leb, eqb→eq, eqb-refl}
 use lib.ListN.{length, take, drop, length-append}
 use lib.Seq.{drop-append-seam}
-use borrow.Author.Tests.{ltb-false, lt-ltb}
+use borrow.Author.Tests.{ltb-false, lt-ltb, eq-eqb}
 use Rattle.paper.specs.Bytes.{every, same, joined}
 use Rattle.paper.specs.Names.{names-in, name-bytes, name?, all-different, most-names, sound-names, sound-table, value-entries}
-use Rattle.paper.specs.Store.{sound-lines, room, sound-store, overwritten}
+use Rattle.paper.specs.Store.{room, sound-store, overwritten}
 use Rattle.paper.specs.Calls.{State, names-of, lines-of, sound-state, stored, lacks-room}
-use Rattle.laws.specs.Tests.{and-left, and-right, and-both, as-T}
-use Rattle.promises.specs.Terms.{Kept}
-use Rattle.promises.specs.Lists.{or-false-left, or-false-right, same-eq, same-refl}
-use Rattle.promises.specs.NameTable.{NamesGood, names-back, name-bytes-append}
+use Rattle.laws.specs.Tests.{and-left, and-right, and-both, as-T, is-true}
+use Rattle.laws.specs.Names.{same-self, same-eq, name-bytes-append}
+use Rattle.promises.specs.Terms.{SoundState, Kept}
+use Rattle.promises.specs.Lists.{or-false-left, or-false-right}
+use Rattle.promises.specs.NameTable.{NamesGood, names-back}
 use Rattle.promises.specs.Stored.{Extended, extended, over-past, Holds}
-
--- what a sound state is
-pub record SoundState (s : State) : Type 0 where
-  pub table-fits : s .name-size ≤ length (s .names)
-  pub bytes : name-bytes (names-of s) ≡ take (s .name-size) (s .names)
-  pub count : length (names-of s) ≡ s .name-count
-  pub names : T (sound-names (names-of s))
-  pub values-fit : 8 * s .name-count ≤ length (s .values)
-  pub used-fits : s .used ≤ room (s .store)
-  pub lines : T (sound-lines (lines-of s))
 
 -- what the test of soundness says
 pub state-says : (s : State) → T (sound-state s) → SoundState s
@@ -40,13 +31,24 @@ state-says s t =
     let e = and-right (leb (8 * s .name-count) (length (s .values))) _ d in
     record {
       table-fits = leb→le (s .name-size) (length (s .names)) (and-left (leb (s .name-size) (length (s .names))) _ a);
-      bytes = same-eq (name-bytes (names-in bs)) bs (and-left (same (name-bytes (names-in bs)) bs) _ b);
+      bytes = same-eq (name-bytes (names-in bs)) bs (is-true (same (name-bytes (names-in bs)) bs) (and-left (same (name-bytes (names-in bs)) bs) _ b));
       count = eqb→eq (length (names-in bs)) (s .name-count) (and-left (eqb (length (names-in bs)) (s .name-count)) _ c);
       names = and-right (eqb (length (names-in bs)) (s .name-count)) _ c;
       values-fit = leb→le (8 * s .name-count) (length (s .values)) (and-left (leb (8 * s .name-count) (length (s .values))) _ d);
       used-fits = leb→le (s .used) (room (s .store)) (and-left (leb (s .used) (room (s .store))) _ e);
       lines = and-right (leb (s .used) (room (s .store))) _ e;
     }
+
+-- and the other way round
+pub says-state : (s : State) → SoundState s → T (sound-state s)
+unfolding sound-state sound-table sound-store names-of lines-of
+says-state s o =
+    let bs : List ℕ = take (s .name-size) (s .names) in
+    and-both (sound-table (s .names) (s .name-size) (s .name-count)) _
+    (and-both (leb (s .name-size) (length (s .names))) _ (le→leb _ _ (o .table-fits))
+    (and-both (same (name-bytes (names-in bs)) bs) _ (as-T _ (ap (λ (z : List ℕ). same z bs) (o .bytes) ∙ same-self bs))
+    (and-both (eqb (length (names-in bs)) (s .name-count)) _ (as-T _ (eq-eqb _ _ (o .count))) (o .names))))
+    (and-both (leb (8 * s .name-count) (length (s .values))) _ (le→leb _ _ (o .values-fit)) (and-both (leb (s .used) (room (s .store))) _ (le→leb _ _ (o .used-fits)) (o .lines)))
 
 -- ---- names of a sound table
 
@@ -135,7 +137,7 @@ table-sound s new o g r out e l =
       back,
       and-both (leb size (length out)) _ (le→leb size (length out) (subst (λ (z : ℕ). size ≤ z) (sym l) (r .bytes)))
           (and-both (same (name-bytes (names-in (take size out))) (take size out)) _
-          (as-T _ (ap₂ same (ap name-bytes back) bytes ∙ same-refl (name-bytes ns)))
+          (as-T _ (ap₂ same (ap name-bytes back) bytes ∙ same-self (name-bytes ns)))
           (and-both (eqb (length (names-in (take size out))) (length ns)) _
           (subst (λ (z : List (List ℕ)). T (eqb (length z) (length ns))) (sym back) (eqb-refl (length ns)))
           (subst (λ (z : List (List ℕ)). T (sound-names z)) (sym back) (good-names ns few g)))),

@@ -1,41 +1,19 @@
 -- The store after an edit: its lines are the old ones with one put in, replaced or taken out; it is sound.
-use Prim.Native.Nat.{ℕ, zero, suc, pred, _+_, _≤_, _<_}
+use Prim.Native.Nat.{ℕ, _+_, _≤_, _<_}
 use native.Mathlib.Omega.{arith}
-use mathlib.Core.Path.{_≡_, refl, subst, sym, ap, ap₂, _∙_}
+use mathlib.Core.Path.{_≡_, refl, subst, sym, ap, _∙_}
 use mathlib.Core.Bool.{Bool, true, false}
 use mathlib.Core.List.{List, [], _∷_, _++_, append-assoc, append-nil}
-use lib.Dec.{T, eqb, leb, ltb, le→leb, ltb→lt, lt→ltb, eqb→eq}
-use lib.ListN.{length, take, drop, getD, length-append, length-drop, take-append-drop}
+use lib.Dec.{T, eqb, leb, ltb, le→leb, ltb→lt, lt→ltb}
+use lib.ListN.{length, take, drop, length-append, length-drop}
 use lib.Seq.{take-append-seam, drop-append-seam, take-at, drop-at, length-take-le}
-use borrow.Author.Tests.{ltb-true, ltb-false, eqb-true, eqb-false, leb-false}
+use borrow.Author.Tests.{ltb-true, ltb-false, eqb-true, eqb-false}
 use Rattle.paper.specs.Bytes.{pick, every, joined}
 use Rattle.paper.specs.Line.{line-number}
-use Rattle.paper.specs.Store.{lines-from, lines-in, whole-line?, rising-above, rising, sound-lines, room, sound-store, lines-below, lines-not-below, first-is?, lines-above, put-line, take-out, overwritten}
+use Rattle.paper.specs.Store.{lines-in, whole-line?, rising-above, rising, sound-lines, room, sound-store, lines-below, lines-not-below, first-is?, lines-above, put-line, take-out, overwritten}
 use Rattle.laws.specs.Tests.{and-left, and-right, and-both}
+use Rattle.laws.specs.Lines.{lines-back, room-lent}
 use Rattle.promises.specs.Lists.{every-append}
-
--- ---- lines end to end come apart again
-
-lines-skip : (xs ys : List ℕ) → lines-from (length xs) (xs ++ ys) ≡ lines-from 0 ys
-unfolding lines-from
-lines-skip [] ys = refl
-lines-skip (x ∷ xs) ys = lines-skip xs ys
-
-line-split : (l rest : List ℕ) → T (whole-line? l) → lines-from 0 (l ++ rest) ≡ l ∷ lines-from 0 rest
-unfolding whole-line? lines-from
-line-split [] rest t = absurd t
-line-split (a ∷ []) rest t = absurd t
-line-split (a ∷ b ∷ []) rest t = absurd t
-line-split (a ∷ b ∷ c ∷ r) rest t =
-    let e : c ≡ length (a ∷ b ∷ c ∷ r) = eqb→eq c (length (a ∷ b ∷ c ∷ r)) (and-left (eqb c (length (a ∷ b ∷ c ∷ r))) _ (and-right (leb 6 (length (a ∷ b ∷ c ∷ r))) _ t)) in
-    ap (λ (n : ℕ). take n (a ∷ b ∷ c ∷ r ++ rest) ∷ lines-from (pred n) (b ∷ c ∷ r ++ rest)) e
-    ∙ ap₂ (λ (x : List ℕ) (y : List (List ℕ)). x ∷ y) (take-append-seam (a ∷ b ∷ c ∷ r) rest) (lines-skip (b ∷ c ∷ r) rest)
-
-lines-back : (ls : List (List ℕ)) → T (every whole-line? ls) → lines-in (joined ls) ≡ ls
-unfolding lines-in joined every lines-from
-lines-back [] t = refl
-lines-back (l ∷ ls) t =
-    line-split l (joined ls) (and-left (whole-line? l) (every whole-line? ls) t) ∙ ap (λ (z : List (List ℕ)). l ∷ z) (lines-back ls (and-right (whole-line? l) (every whole-line? ls) t))
 
 -- ---- an edit, line by line
 
@@ -43,16 +21,6 @@ module _ (n : ℕ) where
   -- the lines with x in the place of a line with number n
   unfoldable edited-lines : List (List ℕ) → List (List ℕ) → List (List ℕ)
   edited-lines x ls = lines-below n ls ++ (x ++ lines-above n ls)
-
-  -- the old lines are those below and those not below
-  pub old-lines : (ls : List (List ℕ)) → lines-below n ls ++ lines-not-below n ls ≡ ls
-  unfolding lines-below lines-not-below
-  old-lines [] = refl
-  old-lines (l ∷ ls) = old-go l ls (ltb (line-number l) n) (old-lines ls)
-    where
-      old-go : (l : List ℕ) (ls : List (List ℕ)) (b : Bool) → lines-below n ls ++ lines-not-below n ls ≡ ls → pick b (l ∷ lines-below n ls) [] ++ pick b (lines-not-below n ls) (l ∷ ls) ≡ l ∷ ls
-      old-go l ls true e = ap (λ (z : List (List ℕ)). l ∷ z) e
-      old-go l ls false e = refl
 
   -- one line at a time
   step-below : (x : List (List ℕ)) (l : List ℕ) (ls : List (List ℕ)) → ltb (line-number l) n ≡ true → edited-lines x (l ∷ ls) ≡ l ∷ edited-lines x ls
@@ -136,7 +104,8 @@ lower k n (y ∷ ys) h t =
     let m : n < line-number y = ltb→lt n (line-number y) (and-left (ltb n (line-number y)) (rising-above (line-number y) ys) t) in
     and-both (ltb k (line-number y)) _ (lt→ltb k (line-number y) (omega arith)) (and-right (ltb n (line-number y)) (rising-above (line-number y) ys) t)
 
-no-lower : (n : ℕ) (ys : List (List ℕ)) → T (rising-above n ys) → T (rising ys)
+-- so do they rise
+pub no-lower : (n : ℕ) (ys : List (List ℕ)) → T (rising-above n ys) → T (rising ys)
 unfolding rising-above rising
 no-lower n [] t = tt
 no-lower n (y ∷ ys) t = and-right (ltb n (line-number y)) (rising-above (line-number y) ys) t
@@ -208,15 +177,6 @@ extended k new old h =
       same-size = over-length x old (subst (λ (z : ℕ). z ≤ length old) (sym size) h);
     }
 
--- the room is no more than the store
-pub room-least : (store : List ℕ) → room store ≤ length store
-unfolding room
-room-least store = go (leb (length store) 65535) refl
-  where
-    go : (b : Bool) → leb (length store) 65535 ≡ b → pick b (length store) 65535 ≤ length store
-    go true e = omega arith
-    go false e = let h : 65535 < length store = leb-false (length store) 65535 e in omega arith
-
 -- Sound lines that fit the room, written over a store: it is sound, and holds these lines; the bytes after them are as they were.
 pub record Holds (ls : List (List ℕ)) (old : List ℕ) : Type 0 where
   pub lines : lines-in (take (length (joined ls)) (overwritten (joined ls) old)) ≡ ls
@@ -239,24 +199,9 @@ holds ls old s h =
     }
   where
     fit : (n : ℕ) → n ≤ room old → n ≤ length old
-    fit n h = omega (arith, room-least old)
+    fit n h = omega (arith, room-lent old)
 
--- ---- sound bytes are their lines, end to end
-
-back-go : (b : ℕ) (s : List ℕ) (m : ℕ) → T (whole-line? (take m (b ∷ s))) → joined (lines-from (pred m) s) ≡ drop (pred m) s → take m (b ∷ s) ++ joined (lines-from (pred m) s) ≡ b ∷ s
-unfolding whole-line?
-back-go b s zero t e = absurd t
-back-go b s (suc m) t e = ap (λ (z : List ℕ). b ∷ (take m s ++ z)) e ∙ ap (λ (z : List ℕ). b ∷ z) (take-append-drop m s)
-
--- the lines of sound bytes, end to end, are these bytes
-pub bytes-back : (s : List ℕ) (n : ℕ) → T (every whole-line? (lines-from n s)) → joined (lines-from n s) ≡ drop n s
-unfolding lines-from joined every
-bytes-back [] zero t = refl
-bytes-back [] (suc n) t = refl
-bytes-back (b ∷ s) (suc n) t = bytes-back s n t
-bytes-back (b ∷ s) zero t =
-    let m : ℕ = getD s 1 0 in
-    back-go b s m (and-left (whole-line? (take m (b ∷ s))) (every whole-line? (lines-from (pred m) s)) t) (bytes-back s (pred m) (and-right (whole-line? (take m (b ∷ s))) (every whole-line? (lines-from (pred m) s)) t))
+-- ---- a line taken out
 
 -- taking a line out needs no room
 less-go : (n : ℕ) (l : List ℕ) (ls : List (List ℕ)) → length (joined (edited-lines n [] ls)) ≤ length (joined ls) → (b : Bool) → ltb (line-number l) n ≡ b → (c : Bool) → eqb (line-number l) n ≡ c → length (joined (edited-lines n [] (l ∷ ls))) ≤ length (joined (l ∷ ls))

@@ -2,31 +2,48 @@
 use Prim.Native.Nat.{ℕ, _+_, _*_, _^_, _≤_, _<_}
 use mathlib.Core.Path.{_≡_}
 use mathlib.Core.Bool.{Bool, not}
+use mathlib.Core.Logic.{_↔_, _⊎_}
 use mathlib.Core.List.{List, [], _∷_, _++_, List·Memᴰ}
-use lib.Dec.{T, ltb}
+use lib.Dec.{T}
 use lib.ListN.{length, take, drop}
-use Rattle.paper.specs.Bytes.{pick, every, joined, blank?, run}
+use Rattle.paper.specs.Bytes.{pick, every, joined, blank?, digit?, run}
 use Rattle.paper.specs.Tokens.{Token, out-of-range, out-of-range?}
-use Rattle.paper.specs.Constants.{five, six}
-use Rattle.paper.specs.Names.{add-names, value-entries}
+use Rattle.paper.specs.Constants.{value, five, six}
+use Rattle.paper.specs.Names.{most-names, sound-names, name-bytes, add-names, value-entries}
 use Rattle.paper.specs.Items.{Item, items}
 use Rattle.paper.specs.Line.{line-bytes, line-number}
 use Rattle.paper.specs.WellFormed.{Lawful, WellFormed}
 use Rattle.paper.specs.Listing.{listing}
-use Rattle.paper.specs.Store.{stored?, line-at, overwritten}
-use Rattle.paper.specs.Calls.{State, names-of, lines-of, sound-state, Entered, Listed, tokens, translate, Head, numbered, too-great, no-digit, head-of}
+use Rattle.paper.specs.Store.{sound-lines, room, stored?, line-at, overwritten}
+use Rattle.paper.specs.Calls.{State, names-of, lines-of, sound-state, Entered, Listed}
+
+-- ---- a text's number and items
+
+-- what stands after a text's blanks
+unfoldable pub after-blanks : List ℕ → List ℕ
+after-blanks text = drop (run blank? text) text
+
+-- how many digits stand there
+unfoldable pub digit-count : List ℕ → ℕ
+digit-count text = run digit? (after-blanks text)
+
+-- the number of a text: what those digits are worth
+unfoldable pub number-in : List ℕ → ℕ
+number-in text = value 0 (take (digit-count text) (after-blanks text))
+
+-- the place past it
+unfoldable pub number-end : List ℕ → ℕ
+number-end text = run blank? text + digit-count text
+
+-- what stands there
+unfoldable pub past-number : List ℕ → List ℕ
+past-number text = drop (digit-count text) (after-blanks text)
+
+-- the items of a text: those after its number, with places counted from the whole text's start
+abbrev pub items-in : List ℕ → List Item
+items-in text = items (number-end text) (past-number text)
 
 -- ---- the place of a refusal
-
--- the items that stand after a text's number
-unfoldable pub items-after : Head → List Item
-items-after (numbered n p rest) = items p rest
-items-after too-great = []
-items-after no-digit = []
-
--- the items of a text
-abbrev pub items-in : List ℕ → List Item
-items-in text = items-after (head-of text)
 
 -- a sequence of items is lawful: it gives some tokens
 abbrev pub LawfulItems : List Item → Type 0
@@ -59,6 +76,125 @@ pub record OutOfRange (is : List Item) (place : ℕ) : Type 0 where
   pub out : here .token ≡ out-of-range
   pub some-begins : (more : List Item) × LawfulItems (before ++ here ∷ more)
   pub in-range : T (every in-range? before)
+
+-- items that are a lawful sequence, with every constant in range
+abbrev pub Readable : List Item → Type 0
+Readable is = LawfulItems is × T (every in-range? is)
+
+-- ---- when each number is answered
+
+-- Of numbers with their conditions, in the order of the tests, the number of the first condition that holds; 0 if none does.
+pub data FirstHolding : List (ℕ × Type 0) → ℕ → Type 1 where
+  none-holds : FirstHolding [] 0
+  this-holds : {k : ℕ} {C : Type 0} {cs : List (ℕ × Type 0)} → C → FirstHolding ((k, C) ∷ cs) k
+  later-holds : {j k : ℕ} {C : Type 0} {cs : List (ℕ × Type 0)} → (C → ⊥) → FirstHolding cs k → FirstHolding ((j, C) ∷ cs) k
+
+-- no condition of a list holds
+abbrev pub NoneHolds : List (ℕ × Type 0) → Type 0
+NoneHolds [] = Unit {0}
+NoneHolds (c ∷ cs) = (c .1 → ⊥) × NoneHolds cs
+
+-- A call answers k exactly when k is the number of the first condition that holds, and 0 exactly when none does.
+pub record Exactly (cs : List (ℕ × Type 0)) (number : ℕ) : Type 1 where
+  pub each : (k : ℕ) → (number ≡ k) ↔ FirstHolding cs k
+  pub done : (number ≡ 0) ↔ NoneHolds cs
+
+-- Sound tables and store, in the parts that document 01 ("Tables") lists: the counted names end exactly at the byte count given, and are sound;
+-- the values have room for all; the bytes used are within the room, and are sound lines.
+pub record SoundState (s : State) : Type 0 where
+  pub table-fits : s .name-size ≤ length (s .names)
+  pub bytes : name-bytes (names-of s) ≡ take (s .name-size) (s .names)
+  pub count : length (names-of s) ≡ s .name-count
+  pub names : T (sound-names (names-of s))
+  pub values-fit : 8 * s .name-count ≤ length (s .values)
+  pub used-fits : s .used ≤ room (s .store)
+  pub lines : T (sound-lines (lines-of s))
+
+-- 1: tables or store are unsound
+abbrev pub Unsound : State → Type 0
+Unsound s = SoundState s → ⊥
+
+-- 2: the text is over 120 bytes
+abbrev pub TextTooLong : List ℕ → Type 0
+TextTooLong text = 120 < length text
+
+-- 3: after blanks no digit stands, or the digit run exceeds 32767
+abbrev pub NoLineNumber : List ℕ → Type 0
+NoLineNumber text = (digit-count text ≡ 0) ⊎ (32767 < number-in text)
+
+-- 4: the grammar has no reading, and no constant further left is out of range
+abbrev pub Unread : List Item → Type 0
+Unread is = (place : ℕ) × NoReading is place
+
+-- 5: a constant is out of range, and the grammar has a reading up to it
+abbrev pub TooFar : List Item → Type 0
+TooFar is = (place : ℕ) × OutOfRange is place
+
+-- the items are a lawful sequence, and this holds of the tokens that they give
+abbrev pub Giving : List Item → (List Token → Type 0) → Type 0
+Giving is P = (ts : List Token) × Lawful is ts × P ts
+
+-- the names of the table, with those of the tokens added
+abbrev pub names-with : State → List Token → List (List ℕ)
+names-with s ts = add-names (names-of s) ts
+
+-- 6: names would pass 128, or lack name or value room
+abbrev pub NamesLackRoom : State → List (List ℕ) → Type 0
+NamesLackRoom s ns = (most-names < length ns) ⊎ ((length (s .names) < length (name-bytes ns)) ⊎ (length (s .values) < 8 * length ns))
+
+-- the token line of a number and tokens
+abbrev pub line-with : State → ℕ → List Token → List ℕ
+line-with s n ts = line-bytes (names-with s ts) n ts
+
+-- 7: the token line would pass 255 bytes
+abbrev pub LineTooLong : State → ℕ → List Token → Type 0
+LineTooLong s n ts = 255 < length (line-with s n ts)
+
+-- how many bytes the line with a number takes in the store, 0 if none is stored
+unfoldable pub old-size : ℕ → State → ℕ
+old-size n s = length (pick (stored? n (lines-of s)) (line-at n (lines-of s)) [])
+
+-- 8: the store would pass its room; a replaced line's room counts as free
+abbrev pub StoreLacksRoom : State → ℕ → List Token → Type 0
+StoreLacksRoom s n ts = room (s .store) + old-size n s < s .used + length (line-with s n ts)
+
+-- 9: the line is not there
+abbrev pub NoSuchLine : ℕ → State → Type 0
+NoSuchLine n s = (l : List ℕ) → List·Memᴰ l (lines-of s) → line-number l ≡ n → ⊥
+
+-- this holds of a stored line with this number
+abbrev pub OfLine : ℕ → State → (List ℕ → Type 0) → Type 0
+OfLine n s P = (l : List ℕ) × List·Memᴰ l (lines-of s) × (line-number l ≡ n) × P l
+
+-- entering a text; of 4 and 5 the leftmost, for they never hold together
+abbrev pub entry-refusals : List ℕ → State → List (ℕ × Type 0)
+entry-refusals text s =
+    (1, Unsound s)
+    ∷ (2, TextTooLong text)
+    ∷ (3, NoLineNumber text)
+    ∷ (4, Unread (items-in text))
+    ∷ (5, TooFar (items-in text))
+    ∷ (6, Giving (items-in text) (λ ts. NamesLackRoom s (names-with s ts)))
+    ∷ (7, Giving (items-in text) (LineTooLong s (number-in text)))
+    ∷ (8, Giving (items-in text) (StoreLacksRoom s (number-in text)))
+    ∷ []
+
+-- deleting a line
+abbrev pub deletion-refusals : List ℕ → State → List (ℕ × Type 0)
+deletion-refusals text s = (1, Unsound s) ∷ (2, TextTooLong text) ∷ (3, NoLineNumber text) ∷ (9, NoSuchLine (number-in text) s) ∷ []
+
+-- a text with nothing but blanks after its number deletes, every other is entered
+abbrev pub text-refusals : List ℕ → State → List (ℕ × Type 0)
+text-refusals text s = pick (every blank? (past-number text)) (deletion-refusals text s) (entry-refusals text s)
+
+-- listing a line; 10: it is not well-formed; 11: its listing is longer than the output buffer
+abbrev pub listing-refusals : ℕ → State → List ℕ → List (ℕ × Type 0)
+listing-refusals n s output =
+    (1, Unsound s)
+    ∷ (9, NoSuchLine n s)
+    ∷ (10, OfLine n s (λ l. WellFormed (names-of s) l → ⊥))
+    ∷ (11, OfLine n s (λ l. length output < length (listing (names-of s) l)))
+    ∷ []
 
 -- ---- what an edit leaves
 
@@ -101,13 +237,12 @@ pub record TakenOut (n : ℕ) (old new : List (List ℕ)) : Type 0 where
   pub is : new ≡ below ++ above
   pub number : line-number line ≡ n
 
--- What an accepted text did. If tokens stand after its number, their line over the new names, well-formed, was put in, and the names that
--- are new were added in order; if nothing but blanks does, the line with that number was taken out.
+-- What an accepted text did. Its items are a lawful sequence, and the line of their tokens over the new names, well-formed, was put in, and
+-- the names that are new were added in order; or nothing but blanks stands after its number, and the line with that number was taken out.
 pub data Edited (text : List ℕ) (s : State) (e : Entered) : Type 0 where
-  line-put : (n p : ℕ) (rest : List ℕ) (ts : List Token) (new : List (List ℕ)) → head-of text ≡ numbered n p rest → translate p rest ≡ tokens ts → names-of (e .after) ≡ add-names (names-of s) ts → e .added ≡ length new
-      → Kept s (e .after) new → PutIn n (line-bytes (names-of (e .after)) n ts) (lines-of s) (lines-of (e .after)) → WellFormed (names-of (e .after)) (line-bytes (names-of (e .after)) n ts) → Edited text s e
-  line-gone : (n p : ℕ) (rest : List ℕ) → head-of text ≡ numbered n p rest → run blank? rest ≡ length rest → e .added ≡ 0
-      → Kept s (e .after) [] → TakenOut n (lines-of s) (lines-of (e .after)) → Edited text s e
+  line-put : (ts : List Token) (new : List (List ℕ)) → Lawful (items-in text) ts → names-of (e .after) ≡ names-with s ts → e .added ≡ length new → Kept s (e .after) new
+      → PutIn (number-in text) (line-with s (number-in text) ts) (lines-of s) (lines-of (e .after)) → WellFormed (names-of (e .after)) (line-with s (number-in text) ts) → Edited text s e
+  line-gone : T (every blank? (past-number text)) → e .added ≡ 0 → Kept s (e .after) [] → TakenOut (number-in text) (lines-of s) (lines-of (e .after)) → Edited text s e
 
 -- every line of the store is well-formed over the names
 abbrev pub HoldsWellFormed : State → Type 0
@@ -135,14 +270,6 @@ pub record CutTo (v u d : ℕ) : Type 0 where
   pub not-more : v * 10 ^ u * 100 ^ 53 < (q + 1) * (10 ^ d * 100 ^ k)
 
 -- ---- re-entry
-
--- every entry is a byte
-unfoldable pub bytes? : List ℕ → Bool
-bytes? l = every (λ b. ltb b 256) l
-
--- how many bytes the line with a number takes in the store, 0 if none is stored
-unfoldable pub old-size : ℕ → State → ℕ
-old-size n s = pick (stored? n (lines-of s)) (length (line-at n (lines-of s))) 0
 
 -- the state with these lines in the store, and nothing else changed
 unfoldable pub with-lines : State → List (List ℕ) → State

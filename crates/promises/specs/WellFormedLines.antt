@@ -3,10 +3,9 @@ use Prim.Native.Nat.{ℕ}
 use mathlib.Core.Path.{_≡_, refl, subst, sym}
 use mathlib.Core.Logic.{_⊎_, inl, inr}
 use mathlib.Core.List.{List, [], _∷_, _++_, List·Memᴰ, List·Memᴰ·append-cases, List·Memᴰ·cases-cons, Memᴰ·append-left, Memᴰ·append-right, List·Memᴰ·tail}
-use Rattle.paper.specs.Line.{line-bytes}
 use Rattle.paper.specs.WellFormed.{WellFormed}
 use Rattle.paper.specs.Calls.{State, names-of, lines-of, Entered, refusal, enter}
-use Rattle.promises.specs.Terms.{PutIn, TakenOut, Edited, line-put, line-gone, HoldsWellFormed}
+use Rattle.promises.specs.Terms.{number-in, line-with, PutIn, TakenOut, Edited, line-put, line-gone, HoldsWellFormed}
 use Rattle.promises.specs.Answers.{Answer, refused-outright, refused-there, puts-line, drops-line, answer}
 use Rattle.promises.specs.Editing.{edited-so}
 use Rattle.promises.specs.Growing.{grown}
@@ -36,17 +35,17 @@ out-lines n old new p l m = subst (List·Memᴰ l) (sym (p .was)) (go (List·Mem
 
 -- after an edit every line stood there before, or is well-formed over the new names
 pub lines-after : (text : List ℕ) (s : State) (e : Entered) → Edited text s e → (l : List ℕ) → List·Memᴰ l (lines-of (e .after)) → List·Memᴰ l (lines-of s) ⊎ WellFormed (names-of (e .after)) l
-lines-after text s e (line-put n p rest ts new hd tr names added k put wf) l m = go (put-lines n (line-bytes (names-of (e .after)) n ts) (lines-of s) (lines-of (e .after)) put l m)
+lines-after text s e (line-put ts new lawful names added k put wf) l m = go (put-lines (number-in text) (line-with s (number-in text) ts) (lines-of s) (lines-of (e .after)) put l m)
   where
-    go : List·Memᴰ l (lines-of s) ⊎ (l ≡ line-bytes (names-of (e .after)) n ts) → List·Memᴰ l (lines-of s) ⊎ WellFormed (names-of (e .after)) l
+    go : List·Memᴰ l (lines-of s) ⊎ (l ≡ line-with s (number-in text) ts) → List·Memᴰ l (lines-of s) ⊎ WellFormed (names-of (e .after)) l
     go (inl h) = inl h
     go (inr h) = inr (subst (WellFormed (names-of (e .after))) (sym h) wf)
-lines-after text s e (line-gone n p rest hd b added k out) l m = inl (out-lines n (lines-of s) (lines-of (e .after)) out l m)
+lines-after text s e (line-gone b added k out) l m = inl (out-lines (number-in text) (lines-of s) (lines-of (e .after)) out l m)
 
 -- names that stay in front
 names-longer : (text : List ℕ) (s : State) (e : Entered) → Edited text s e → (new : List (List ℕ)) × (names-of (e .after) ≡ names-of s ++ new)
-names-longer text s e (line-put n p rest ts new hd tr names added k put wf) = (new, k .names)
-names-longer text s e (line-gone n p rest hd b added k out) = ([], k .names)
+names-longer text s e (line-put ts new lawful names added k put wf) = (new, k .names)
+names-longer text s e (line-gone b added k out) = ([], k .names)
 
 edit-holds : (text : List ℕ) (s : State) (e : Entered) → Edited text s e → HoldsWellFormed s → HoldsWellFormed (e .after)
 edit-holds text s e d h l m = go (lines-after text s e d l m)

@@ -10,9 +10,9 @@ use Rattle.paper.specs.Machine.{Taken, Run, left, done, bad, read}
 use Rattle.paper.specs.Grammar.{Gives, look-item, start}
 use Rattle.paper.specs.Line.{line-bytes, line-number, lawful-number?, line-tokens}
 use Rattle.paper.specs.WellFormed.{tokens-of, right-token?, WellFormed, items-of, gives-back?, well-formed?}
-use Rattle.laws.specs.Tests.{and-left, and-right, and-both, as-T}
+use Rattle.laws.specs.Tests.{and-left, and-right, and-both, as-T, is-true}
+use Rattle.laws.specs.Names.{same-self, same-eq}
 use Rattle.promises.specs.TokenRuns.{on-taken, on-run}
-use Rattle.promises.specs.Lists.{same-eq, same-refl}
 use Rattle.promises.specs.Given.{look-token, tokens-given, all-back}
 use Rattle.promises.specs.RoundTrip.{token-of, as-tokens, tokens-same, Known, known, same-run, decoded, numbered-so}
 
@@ -26,7 +26,7 @@ back-says ns l is (left ts []) e t h =
       items = is;
       tokens = tokens-of ts;
       lawful = record { taken = ts; reads = e; gives = refl };
-      bytes = same-eq (line-bytes ns (line-number l) (tokens-of ts)) l (and-left (same (line-bytes ns (line-number l) (tokens-of ts)) l) _ t);
+      bytes = same-eq (line-bytes ns (line-number l) (tokens-of ts)) l (is-true (same (line-bytes ns (line-number l) (tokens-of ts)) l) (and-left (same (line-bytes ns (line-number l) (tokens-of ts)) l) _ t));
       lawful-number = h;
       right = and-right (same (line-bytes ns (line-number l) (tokens-of ts)) l) _ t;
     }
@@ -64,4 +64,4 @@ says-test ns l w =
     and-both (lawful-number? (line-number l)) (gives-back? ns l (read look-item start is)) (subst (λ (z : ℕ). T (lawful-number? z)) (sym (numbered-so ns l w)) (w .lawful-number))
     (subst (λ (r : Run Gives Item). T (gives-back? ns l r)) (sym (x .1 .0))
     (and-both (same (line-bytes ns (line-number l) (tokens-of (x .0))) l) (every (right-token? ns) (tokens-of (x .0)))
-    (subst (λ (z : List ℕ). T (same z l)) (sym b) (as-T (same l l) (same-refl l))) (subst (λ (z : List Token). T (every (right-token? ns) z)) (sym ts) (w .right))))
+    (subst (λ (z : List ℕ). T (same z l)) (sym b) (as-T (same l l) (same-self l))) (subst (λ (z : List Token). T (every (right-token? ns) z)) (sym ts) (w .right))))
