@@ -61,7 +61,8 @@ unfoldable pub place-of : List Item → ℕ
 place-of [] = 0
 place-of (i ∷ is) = i .place
 
--- What a run means. All items of a text are read, or one of them is refused: the other two cases do not occur.
+-- What a run means: tokens, if all items are taken and nothing more is wanted; else the refusal of an item. Over the items of a text a run has no other
+-- end than these two (`Ending.settled` of crate `promises`), so that the second case and the third say nothing.
 unfoldable pub outcome : Run Gives Item → Translated
 outcome (left ts []) = tokens (tokens-of ts)
 outcome (left ts (f ∷ fs)) = refused-at 4 0
