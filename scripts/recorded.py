@@ -1,4 +1,5 @@
-"""Writes crates/cases/specs/Recorded.antt: recorded calls, chosen from those of crates/calls, as a table that `enter` and `list` of paper must meet.
+"""Writes the tables of crates/cases/specs/Recorded.antt: recorded calls, chosen from those of crates/calls, which `enter` and `list` of paper must
+meet. What stands in the file before the tables is kept.
 
   python3 scripts/recorded.py      (from the repository's root)
 
@@ -121,13 +122,13 @@ def row(call):
     return f"lists {line} {state(names, size_of_names, count, values, store, used)} {quoted(output)} {answer[0]} {answer[1]} {quoted(answer[2])}"
 
 
-HEAD = open("scripts/Recorded.head").read()
+FILE = "crates/cases/specs/Recorded.antt"
 GROUP = 20
 
 
 def main():
     table = [row(c) for c in chosen()]
-    out = HEAD
+    out = open(FILE).read().partition("\nunfoldable pub calls-0 ")[0]
     for i in range(0, len(table), GROUP):
         n = i // GROUP
         out += f"\nunfoldable pub calls-{n} : List Call\ncalls-{n} =\n    " + "\n    ∷ ".join(table[i : i + GROUP]) + "\n    ∷ []\n"
@@ -135,7 +136,7 @@ def main():
     groups = [f"calls-{i}" for i in range((len(table) + GROUP - 1) // GROUP)]
     out += f"\n-- all calls\nunfoldable pub calls : List Call\ncalls = {' ++ '.join(groups)}\n"
     out += f"\n-- to unfold it is to unfold the tables\nunfoldable pub all-calls : Unit {{0}}\nunfolding state calls {' '.join(groups)}\nall-calls = tt\n"
-    open("crates/cases/specs/Recorded.antt", "w").write(out)
+    open(FILE, "w").write(out)
     print(len(table), "calls")
 
 
