@@ -207,3 +207,23 @@ edited-so text s e (drops-line t b st) z = gone-done text s t b st
 -- every accepted text did one of the two edits
 pub edited : (text : List ℕ) (s : State) → (enter text s) .number ≡ 0 → Edited text s (enter text s)
 edited text s z = edited-so text s (enter text s) (answer text s) z
+
+-- what is kept by the edits is so after every text, since a refused one leaves the state as it is
+pub after-any : (P : State → Type 0) (text : List ℕ) (s : State) → P s → ((e : Entered) → Edited text s e → P (e .after)) → P ((enter text s) .after)
+unfolding refusal
+after-any P text s h k = go (enter text s) (answer text s)
+  where
+    go : (e : Entered) → Answer text s e → P (e .after)
+    go e (refused-outright n x) = h
+    go e (refused-there n q x) = h
+    go e (puts-line t ts tr lacks fits) = k e (edited-so text s e (puts-line t ts tr lacks fits) refl)
+    go e (drops-line t b st) = k e (edited-so text s e (drops-line t b st) refl)
+
+-- the state after an edit is sound
+sound-after : (text : List ℕ) (s : State) (e : Entered) → Edited text s e → T (sound-state (e .after))
+sound-after text s e (line-put ts new lawful names added k put wf) = k .sound
+sound-after text s e (line-gone b added k out) = k .sound
+
+-- a sound state stays sound
+pub stays-sound : (text : List ℕ) (s : State) → T (sound-state s) → T (sound-state ((enter text s) .after))
+stays-sound text s o = after-any (λ z. T (sound-state z)) text s o (sound-after text s)

@@ -60,6 +60,10 @@ accepted-listing n s output h = Answers′.writes n s output h
 pub accepted-text : (text : List ℕ) (s : State) → (enter text s) .number ≡ 0 → Edited text s (enter text s)
 accepted-text text s h = Editing′.edited text s h
 
+-- So a sound state stays sound, whatever is entered: after one test of tables and store, the calls that follow need none.
+pub stays-sound : (text : List ℕ) (s : State) → T (sound-state s) → T (sound-state ((enter text s) .after))
+stays-sound text s h = Editing′.stays-sound text s h
+
 -- 4. Constants. Six right bytes are listed in at most 15 bytes, and that text is read as the same six bytes. The six bytes of a value in
 -- range are its first ten digits, with the lower ones cut, never rounded; zero is six zero bytes.
 pub constant-listed : (b : List ℕ) → T (right-constant? b) → length (constant-text b) ≤ 15

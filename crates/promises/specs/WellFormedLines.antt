@@ -1,13 +1,12 @@
 -- The lines of the store after an edit: old ones, or well-formed; and a store of well-formed lines stays one.
 use Prim.Native.Nat.{ℕ}
-use mathlib.Core.Path.{_≡_, refl, subst, sym}
+use mathlib.Core.Path.{_≡_, subst, sym}
 use mathlib.Core.Logic.{_⊎_, inl, inr}
 use mathlib.Core.List.{List, [], _∷_, _++_, List·Memᴰ, List·Memᴰ·append-cases, List·Memᴰ·cases-cons, Memᴰ·append-left, Memᴰ·append-right, List·Memᴰ·tail}
 use Rattle.paper.specs.WellFormed.{WellFormed}
-use Rattle.paper.specs.Calls.{State, names-of, lines-of, Entered, refusal, enter}
+use Rattle.paper.specs.Calls.{State, names-of, lines-of, Entered, enter}
 use Rattle.promises.specs.Terms.{number-in, line-with, PutIn, TakenOut, Edited, line-put, line-gone, HoldsWellFormed}
-use Rattle.promises.specs.Answers.{Answer, refused-outright, refused-there, puts-line, drops-line, answer}
-use Rattle.promises.specs.Editing.{edited-so}
+use Rattle.promises.specs.Editing.{after-any}
 use Rattle.promises.specs.Growing.{grown}
 
 -- a line of the store with one put in is that one, or stood there before
@@ -54,16 +53,6 @@ edit-holds text s e d h l m = go (lines-after text s e d l m)
     go (inl x) = let n = names-longer text s e d in subst (λ (z : List (List ℕ)). WellFormed z l) (sym (n .1)) (grown (n .0) (names-of s) l (h l x))
     go (inr x) = x
 
-refused-holds : (k q : ℕ) (s : State) → HoldsWellFormed s → HoldsWellFormed ((refusal k q s) .after)
-unfolding refusal
-refused-holds k q s h = h
-
-answer-holds : (text : List ℕ) (s : State) (e : Entered) → Answer text s e → HoldsWellFormed s → HoldsWellFormed (e .after)
-answer-holds text s e (refused-outright k x) h = refused-holds k 0 s h
-answer-holds text s e (refused-there k q x) h = refused-holds k q s h
-answer-holds text s e (puts-line t ts tr lacks fits) h = edit-holds text s e (edited-so text s e (puts-line t ts tr lacks fits) refl) h
-answer-holds text s e (drops-line t b st) h = edit-holds text s e (edited-so text s e (drops-line t b st) refl) h
-
 -- a store of well-formed lines stays one
 pub stays-well-formed : (text : List ℕ) (s : State) → HoldsWellFormed s → HoldsWellFormed ((enter text s) .after)
-stays-well-formed text s h = answer-holds text s (enter text s) (answer text s) h
+stays-well-formed text s h = after-any HoldsWellFormed text s h (λ e d. edit-holds text s e d h)
