@@ -164,6 +164,32 @@ def class_constants():
     return out
 
 
+# ---- tokens: the numbers of tokens as patterns
+
+
+def token_names(kind):
+    """The name of each constant of a kind of token, by its number."""
+    found = re.findall(rf"pub const (\w+): {kind}Token = {kind}Token\((0x\w+)\);", open("crates/tokens/src/lib.rt").read())
+    return {int(number, 16): name for name, number in found}
+
+
+OPERATORS = token_names("Operator")
+
+
+def token_numbers():
+    fit = [w.token for w in words("operators") if w.class_ != "unfit"]
+    placed = [w.token for w in words("placed-operators")]
+    kinds = {"Statement": [w.token for w in words("statements")], "Operator": [0x16, 0x9B, *fit, *placed], "Function": fit}
+    out = f"// The numbers of tokens for patterns, where a field of a constant cannot stand. ({MADE_BY})\n"
+    for kind, tokens in kinds.items():
+        out += f"\npub(crate) mod {kind.lower()} {{\n    use crate::{kind}Token;\n"
+        for number, name in sorted(token_names(kind).items()):
+            if number in tokens:
+                out += f"\n    pub(crate) const {name}: u8 = {kind}Token::{name}.0;\n"
+        out += "}\n"
+    return out
+
+
 # ---- grammar: the rows laid over one another, and the words of the acts
 
 FIRST_ACT, LAST_ACT = 0x30, 0x7E  # the bytes of acts
@@ -265,15 +291,6 @@ unfoldable pub words : List ℕ
 words =
     {stacked(words_of_acts)}
 """
-
-
-def operator_names():
-    """The name of each operator's constant, by its number."""
-    found = re.findall(r"pub const (\w+): OperatorToken = OperatorToken\((0x\w+)\);", open("crates/tokens/src/lib.rt").read())
-    return {int(number, 16): name for name, number in found}
-
-
-OPERATORS = operator_names()
 
 
 def digits(frames):
@@ -416,6 +433,7 @@ def main():
         "crates/promises/specs/FrameTables.antt": frame_tables(),
         "crates/promises/specs/WordReads.antt": word_reads(),
         "crates/tokens/src/class.rt": class_constants(),
+        "crates/tokens/src/number.rt": token_numbers(),
         "crates/grammar/specs/Rows.antt": rows(),
         "crates/grammar/src/rows.rt": code(),
         **{f"crates/grammar/proofs/rows/{function}/Proof.antt": text for function, text in proofs().items()},
