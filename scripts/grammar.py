@@ -13,9 +13,9 @@ def text(name):
     return open(PAPER + name + ".antt").read()
 
 
-def numbers(name):
-    """The named numbers of a file: name -> number."""
-    return {m[1]: int(m[2]) for m in re.finditer(r"^([\w-]+) = (\d+)$", text(name), re.M)}
+def numbers(text):
+    """The named numbers of a file's text: name -> number."""
+    return {m[1]: int(m[2], 0) for m in re.finditer(r"^([\w-]+) = (\d\w*)$", text, re.M)}
 
 
 class Definitions:
@@ -62,7 +62,7 @@ class Definitions:
         return self.value(head, *arguments) if head in self.of else head
 
 
-CLASSES, FRAMES = numbers("Classes"), numbers("Frames")
+CLASSES, FRAMES = numbers(text("Classes")), numbers(text("Frames"))
 EMPTY = Definitions("Grammar").value("may-be-empty")
 ROWS = Definitions("Grammar").value("grammar")
 # what each frame takes: class -> the row's wants, and what it gives

@@ -8,11 +8,9 @@ import os
 import re
 import sys
 
-from grammar import text
-from grammar import CLASSES, EMPTY, FRAMES, TAKES, completions, follow, heads, words
+from grammar import CLASSES, EMPTY, FRAMES, TAKES, completions, follow, heads, numbers, text, words
 
 MADE_BY = "Made by scripts/tables.py."
-FRAME_NAMES, CLASS_NAMES = list(FRAMES), list(CLASSES)
 
 
 def plain(name):
@@ -192,9 +190,8 @@ def token_numbers():
 
 # ---- grammar: the rows laid over one another, and the words of the acts
 
-FIRST_ACT, LAST_ACT = 0x30, 0x7E  # the bytes of acts
-PAST_ROWS = 200  # where the row of a frame that is none begins
-NO_ENTRY = 0x4E2E
+LAYOUT = numbers(open("crates/grammar/specs/Tables.antt").read())
+FIRST_ACT, PAST_ROWS, NO_ENTRY = LAYOUT["first-act"], LAYOUT["past-rows"], LAYOUT["no-entry"]
 GIVEN = {"itself": 0, "for-strings": 1, "as-prefix": 2}
 
 
@@ -221,18 +218,25 @@ def fits(refusing):
 REFUSING = min(filter(fits, range(PAST_ROWS)), key=lambda n: max(lay(n)[1]))
 FIRSTS, ENTRIES = lay(REFUSING)
 PLACES = range(max(ENTRIES) + 1)
-assert max(PLACES) < PAST_ROWS and PAST_ROWS + len(CLASSES) < 256 and len(CLASSES) <= NO_ENTRY >> 8 and len(FRAMES) <= 64
+assert max(PLACES) < PAST_ROWS and PAST_ROWS + len(CLASSES) < 256, "a place is a byte"
+assert len(CLASSES) <= NO_ENTRY >> 8 and len(FRAMES) <= 64, "too many classes or frames"
 
 # the acts, in the order of their bytes: (wants, gives)
 ACTS = sorted({act for row in TAKES.values() for act in row.values()}, key=lambda act: (len(act[0]), [FRAMES[w] for w in act[0]], GIVEN.get(act[1], act[1])))
-assert len(ACTS) <= LAST_ACT - FIRST_ACT + 1 and all(len(wants) <= 9 for wants, _ in ACTS)
-BYTES = {act: chr(FIRST_ACT + i).replace("\\", "\\\\") for i, act in enumerate(ACTS)}
+assert FIRST_ACT + len(ACTS) <= 0x7F, "an act is a byte that can be written"
+assert all(len(wants) <= 9 for wants, _ in ACTS), "a row may want nine frames: let one of them want the others"
+BYTES = {act: FIRST_ACT + i for i, act in enumerate(ACTS)}
+
+
+def written(byte):
+    """A byte as a string has it."""
+    return "\\\\" if byte == ord("\\") else chr(byte)
 
 
 def entry(place):
     """The class and the act of an entry."""
     frame = ENTRIES[place]
-    of = CLASS_NAMES[place - FIRSTS[frame]]
+    of = list(CLASSES)[place - FIRSTS[frame]]
     return of, TAKES[frame][of]
 
 
@@ -255,11 +259,11 @@ def act_word(act):
     return f"word {given} ({wanted(with_n(frames))})" if frames else f"word {given} []"
 
 
-def rows():
+def row_tables():
     listed = [str(FIRSTS[f]) for f in FRAMES]
     lines = "\n    ∷ ".join(" ∷ ".join(listed[i : i + 12]) for i in range(0, len(listed), 12))
-    classes = "".join(chr(48 + CLASSES[entry(p)[0]]) if p in ENTRIES else "~" for p in PLACES)
-    acts = "".join(BYTES[entry(p)[1]] if p in ENTRIES else "." for p in PLACES)
+    classes = "".join(written(48 + CLASSES[entry(p)[0]]) if p in ENTRIES else "~" for p in PLACES)
+    acts = "".join(written(BYTES[entry(p)[1]]) if p in ENTRIES else "." for p in PLACES)
     words_of_acts = [act_word(act) for act in ACTS]
     named = {name for word in words_of_acts for name in re.findall(r"[\w-]+", word)}
     return f"""-- The rows of the grammar's frames, laid over one another, and the words of their acts. ({MADE_BY})
@@ -319,12 +323,12 @@ def code():
     entries = ""
     for p in sorted(ENTRIES):
         of, act = entry(p)
-        entries += f"        {p} => 0x{CLASSES[of]:02x}_{ord(BYTES[act][-1]):02x}, // {plain(ENTRIES[p])}: {plain(of)}\n"
+        entries += f"        {p} => 0x{CLASSES[of]:02x}_{BYTES[act]:02x}, // {plain(ENTRIES[p])}: {plain(of)}\n"
     givens = ""
     for name, frames, token in (given_word(act) for act in ACTS if act[1] not in GIVEN):
         line = f"const {name}: u64 = {frames} + {token};"
         givens += "\n" + (line if len(line) <= 100 else line.replace(" + ", "\n    + ")) + "\n"
-    arms = "".join(f"        b'{BYTES[act]}' => {word_arm(act)}\n" for act in ACTS)
+    arms = "".join(f"        b'{written(BYTES[act])}' => {word_arm(act)}\n" for act in ACTS)
     return f"""// The rows of the grammar's frames, laid over one another, and the words of their acts. ({MADE_BY})
 use tokens::OperatorToken;
 ghost use mathlib.Core.Path.{{_≡_}};
@@ -434,7 +438,7 @@ def main():
         "crates/promises/specs/WordReads.antt": word_reads(),
         "crates/tokens/src/class.rt": class_constants(),
         "crates/tokens/src/number.rt": token_numbers(),
-        "crates/grammar/specs/Rows.antt": rows(),
+        "crates/grammar/specs/Rows.antt": row_tables(),
         "crates/grammar/src/rows.rt": code(),
         **{f"crates/grammar/proofs/rows/{function}/Proof.antt": text for function, text in proofs().items()},
     }
