@@ -1,79 +1,125 @@
-"""The tables of crate paper, read from its text: classes, frames, words, and the rows of the grammar."""
+"""The tables of crate paper, read from its text: classes, frames, words, and the rows of the grammar. What is read is a list of numbers, names and
+rows, which definitions put together: `a ∷ b`, `a ++ b`, and a definition with its arguments."""
 import re
+from collections import namedtuple
 
 PAPER = "crates/paper/specs/"
+Row = namedtuple("Row", "frame class_ gives wants")
+Word = namedtuple("Word", "token spelling class_")
+MADE = {"row": lambda *parts: Row(*parts), "word": lambda *parts: Word(*parts), "put": lambda token: token}
 
 
 def text(name):
     return open(PAPER + name + ".antt").read()
 
 
-def numbers(name):
-    """The named numbers of a file: name -> number."""
-    return {m[1]: int(m[2]) for m in re.finditer(r"^([\w-]+) = (\d+)$", text(name), re.M)}
+def numbers(text):
+    """The named numbers of a file's text: name -> number."""
+    return {m[1]: int(m[2], 0) for m in re.finditer(r"^([\w-]+) = (\d\w*)$", text, re.M)}
+
+
+class Definitions:
+    """The definitions of a file, to be read as lists."""
+
+    def __init__(self, name):
+        found = re.findall(r"^(?:unfoldable )?pub ([\w-]+) : [^\n]*\n\1([^\n]*?) =(.*?)(?:\n\n|\Z)", text(name), re.M | re.S)
+        self.of = {head: (parameters.split(), body) for head, parameters, body in found}
+
+    def value(self, head, *arguments):
+        """What a definition gives for its arguments."""
+        parameters, body = self.of[head]
+        left = re.findall(r'"[^"]*"|\(|\)|∷|\+\+|\[\]|[^\s()]+', body)
+        return self.joined(left, dict(zip(parameters, arguments)))
+
+    def joined(self, left, given):
+        parts = []
+        while left and left[0] not in (")", "∷", "++"):
+            parts.append(self.part(left, given))
+        value = self.applied(parts)
+        sign = left.pop(0) if left and left[0] != ")" else None
+        if sign is None:
+            return value
+        return ([value] if sign == "∷" else value) + self.joined(left, given)
+
+    def part(self, left, given):
+        word = left.pop(0)
+        if word == "(":
+            value = self.joined(left, given)
+            left.pop(0)
+            return value
+        if word == "[]":
+            return []
+        if word[0] == '"':
+            return word[1:-1]
+        return int(word, 0) if word[0].isdigit() else given.get(word, word)
+
+    def applied(self, parts):
+        if not isinstance(parts[0], str):
+            return parts[0]
+        head, *arguments = parts
+        if head in MADE and arguments:
+            return MADE[head](*arguments)
+        return self.value(head, *arguments) if head in self.of else head
+
+
+CLASSES, FRAMES = numbers(text("Classes")), numbers(text("Frames"))
+EMPTY = Definitions("Grammar").value("may-be-empty")
+ROWS = Definitions("Grammar").value("grammar")
+# what each frame takes: class -> the row's wants, and what it gives
+TAKES = {f: {r.class_: (tuple(r.wants), r.gives) for r in ROWS if r.frame == f} for f in FRAMES}
+assert sum(map(len, TAKES.values())) == len(ROWS), "two rows of one frame for one class, or a row of no frame"
+assert all(r.class_ in CLASSES and all(w in FRAMES for w in r.wants) for r in ROWS)
+assert all(list(named.values()) == list(range(len(named))) for named in (CLASSES, FRAMES)), "numbers left out, or not in order"
 
 
 def words(table):
-    """The rows of a word table: spelling -> (token, class), the first row of each spelling."""
-    found = {}
-    for token, spelling, of in re.findall(r'word (0x\w+) "([^"]*)" ([\w-]+)', definition("Words", table)):
-        found.setdefault(spelling, (int(token, 16), of))
+    """The rows of a word table."""
+    return Definitions("Words").value(table)
+
+
+def completions():
+    """A short word of classes that completes each frame; the empty one where nothing may come."""
+    word = {f: [] for f in EMPTY}
+    shorter = True
+    while shorter:
+        shorter = False
+        for f, c, _, wants in ROWS:
+            if f not in EMPTY and all(w in word for w in wants):
+                longer = sum((word[w] for w in wants), [c])
+                if f not in word or len(longer) < len(word[f]):
+                    word[f], shorter = longer, True
+    return word
+
+
+def grown(sets, more):
+    """Sets of classes by frame, with all that a row adds to those of the frames that it wants."""
+    size = -1
+    while size != (size := sum(map(len, sets.values()))):
+        for row in ROWS:
+            for i, w in enumerate(row.wants):
+                sets[w] |= more(row.wants[i + 1 :], sets[row.frame])
+    return sets
+
+
+def heads():
+    """The classes that may come first once a frame is completed, if every frame under it is completed by its word."""
+    word = completions()
+
+    def under(frames, lasts):
+        return next(({word[f][0]} for f in frames if word[f]), lasts)
+
+    found = grown({f: {"none"} if f == "want-statement" else set() for f in FRAMES}, under)
+    for f in EMPTY:
+        assert not found[f] & {"none", *TAKES[f]}, ("a frame that may be empty takes what comes after it", f)
     return found
 
 
-def definition(name, head):
-    """The text of one definition of a file."""
-    t = text(name)
-    i = t.index("\n" + head + " =")
-    j = t.find("\n\n", i)
-    return t[i:j]
+def follow():
+    """The classes that may follow a frame."""
 
+    def after(frames, lasts):
+        if not frames:
+            return lasts
+        return {*TAKES[frames[0]], *(after(frames[1:], lasts) if frames[0] in EMPTY else [])}
 
-def wanted(words_of):
-    """Names of frames, with N written out."""
-    out = []
-    for w in re.findall(r"[\w-]+", words_of):
-        out += ["want-operand", "want-more-terms"] if w == "N" else [w]
-    return out
-
-
-def written_rows(head):
-    """The rows as one definition writes them: (frame, class, gives, wants)."""
-    rows = []
-    for m in re.finditer(r"row ([\w-]+) ([\w-]+) (\([^)]*\)|[\w-]+) (.*)", definition("Grammar", head)):
-        rest = m[4]
-        if rest[0] == "(":
-            depth = 0
-            for k, c in enumerate(rest):
-                depth += (c == "(") - (c == ")")
-                if depth == 0:
-                    break
-            rest = rest[: k + 1]
-        else:
-            rest = rest.split()[0]
-        rows.append((m[1], m[2], m[3], wanted(rest.replace("[]", ""))))
-    return rows
-
-
-def rows():
-    """All rows of the grammar: (frame, class, gives, wants)."""
-    out = []
-
-    def add(some, frame=None, after={}):
-        for f, c, e, ws in some:
-            out.append((frame if f == "f" else f, c, e, sum((after.get(w, [w]) for w in ws), [])))
-
-    statement, term = written_rows("a-statement f"), written_rows("term f numeric stringy")
-    add(statement, "want-statement")
-    add(statement, "want-after-then")
-    for head in ("lines-of-statements", "expressions", "parts-of-statements"):
-        add(written_rows(head))
-    add(term, "want-operand", {"numeric": [], "stringy": ["want-string-comparison"]})
-    add(term, "want-print-list", {"numeric": ["want-more-terms", "want-print-separator"], "stringy": ["want-print-comparison", "want-print-separator"]})
-    add(term, "want-restore-number", {"numeric": ["want-more-terms"], "stringy": ["want-string-comparison", "want-more-terms"]})
-    return out
-
-
-def may_be_empty():
-    """The frames of which nothing may come."""
-    return re.findall(r"want-[\w-]+", definition("Grammar", "may-be-empty"))
+    return grown({f: set() for f in FRAMES}, after)

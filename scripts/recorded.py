@@ -15,7 +15,7 @@ import grammar
 LONGEST = 1100  # characters of a call: the time to compute grows with it
 EACH_ANSWER = 9
 
-STATEMENTS, OPERATORS = grammar.words("statements"), {**grammar.words("functions"), **grammar.words("read-operators")}
+STATEMENTS, OPERATORS = ({w.spelling: w.class_ for w in table} for table in (grammar.words("statements"), grammar.words("functions") + grammar.words("read-operators")))
 
 
 def classes(text):
@@ -32,9 +32,9 @@ def classes(text):
             word = name[0]
             rest = rest[len(word) :]
             if first and word in STATEMENTS:
-                of = STATEMENTS[word][1]
+                of = STATEMENTS[word]
             elif word in OPERATORS:
-                of = OPERATORS[word][1]
+                of = OPERATORS[word]
             else:
                 kind = "string" if word[-1] == "$" else "array" if rest[:1] == "(" else "numeric"
                 of = "first-" + kind if first else kind if kind == "array" else kind + "-variable"
@@ -48,7 +48,7 @@ def classes(text):
             rest, of = rest[1:], "print-word"
         else:
             symbol = rest[:2] if rest[:2] in OPERATORS else rest[:1]
-            rest, of = rest[len(symbol) :], OPERATORS.get(symbol, (0, "unfit"))[1]
+            rest, of = rest[len(symbol) :], OPERATORS.get(symbol, "unfit")
         out.append(of)
         first = of in ("colon", "then-word")
 
@@ -58,7 +58,7 @@ def rows_used(text):
     stack, used = ["want-statement"], set()
     for of in classes(text):
         while (stack[0], of) not in TABLE:
-            assert stack[0] in EMPTY, (text, stack, of)
+            assert stack[0] in grammar.EMPTY, (text, stack, of)
             stack.pop(0)
         used.add((stack[0], of))
         stack = TABLE[stack[0], of] + stack[1:]
@@ -66,8 +66,7 @@ def rows_used(text):
     return used
 
 
-TABLE = {(f, c): ws for f, c, e, ws in grammar.rows()}
-EMPTY = grammar.may_be_empty()
+TABLE = {(f, c): ws for f, c, e, ws in grammar.ROWS}
 
 
 def calls(word):

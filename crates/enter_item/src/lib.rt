@@ -4,6 +4,8 @@ mod kinds;
 use enter_scan::Item;
 use names_numbered::Numbered;
 use tokens::OperatorToken;
+use tokens::TO_PREFIX;
+use tokens::TO_STRINGS;
 use tokens::class;
 ghost use mathlib.Core.Path.{_≡_};
 ghost use mathlib.Core.Bool.{Bool, false};
@@ -83,14 +85,14 @@ pub fn compares(class: u8) -> bool
 pub fn prefix_operator(t: u8) -> u8
     ensures { λ r. ⌜ r ≡ shifted 0x10 t ⌝ }
 {
-    if t < 128 { t + 0x10 } else { t }
+    if t < 128 { t + TO_PREFIX } else { t }
 }
 
 // The comparison of strings that a comparison stands for.
 pub fn string_operator(t: u8) -> u8
     ensures { λ r. ⌜ r ≡ shifted 0x12 t ⌝ }
 {
-    if t < 128 { t + 0x12 } else { t }
+    if t < 128 { t + TO_STRINGS } else { t }
 }
 
 // An item of a class, written as it is.

@@ -15,6 +15,7 @@ use Rattle.paper.specs.Items.{Item, opens}
 use Rattle.paper.specs.Machine.{take, took, step-act, step}
 use Rattle.paper.specs.Grammar.{Gives, itself, for-strings, as-prefix, put, look, look-in-range}
 use Rattle.laws.specs.Classes.{class-low}
+use Rattle.laws.specs.Counts.{class-count}
 use Rattle.enter_scan.specs.Sees.{token-at}
 use Rattle.grammar.specs.Stack.{stack, gives-of}
 use Rattle.grammar.specs.declared.Step.the-variants as act
@@ -271,7 +272,7 @@ moves-refused {E} {q} {m} {m′} {t} {a} {e} {c} {p} fs new good s h n w =
     moves-stop new (ends-refuse fs m m′ s (step-refused fs (item-of E t a e) 4 (ap (step look fs) h ∙ not-taken fs c good n)) w)
 
 -- the class of an item is one that the stack knows
-pub seen-low : {s : List ℕ} {at : ℕ} {first : Bool} {v : Seen} → Shows s at first v → v .class < 43
+pub seen-low : {s : List ℕ} {at : ℕ} {first : Bool} {v : Seen} → Shows s at first v → v .class < class-count
 seen-low {s} {at} {first} {v} h = omega (arith, h .class, class-low (token-at s first (v .item)))
 
 -- ---- a term

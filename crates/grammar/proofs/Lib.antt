@@ -1,7 +1,6 @@
 pub mod Table
 pub mod Frames
-pub mod Tables
+pub mod Laid
 pub mod StackLaws
 pub mod Places
-pub mod Rows
 pub mod Acting

@@ -1,57 +1,32 @@
--- The bytes that say what frames do with items, and the words of the acts.
+-- How the tables of the grammar are laid out: acts, their words, the entries of rows; and when an act is what the grammar says.
 use Prim.Native.Nat.{ℕ, zero, suc, _+_, _-_, _*_, _/_, _%_}
-use mathlib.Core.Bool.{Bool, _||_}
+use mathlib.Core.Bool.{Bool, not, _&&_, _||_}
 use mathlib.Core.List.{List, [], _∷_}
-use lib.Dec.{leb}
-use Rattle.paper.specs.Bytes.{pick, bytes, joined}
+use lib.Dec.{eqb, leb, ltb}
+use lib.ListN.{getD}
+use Rattle.paper.specs.Bytes.{pick, same}
+use Rattle.paper.specs.Machine.{Act, take, leave, refuse}
+use Rattle.paper.specs.Grammar.{Gives, itself, for-strings, as-prefix, put}
 
--- what each frame does with each class: a line for each frame
-unfoldable pub acts : List ℕ
-acts =
-    joined
-    (bytes "........K[l...................CN>_qLR7MpjOQ"
-    ∷ bytes "...7....K[l...................CN>_qLR7MpjOQ"
-    ∷ bytes "0.............6............................"
-    ∷ bytes ".............................0............."
-    ∷ bytes ".0........................................."
-    ∷ bytes "...0=0I`...T......9.8.....fYa.............."
-    ∷ bytes "----------------DDDD-D---------------------"
-    ∷ bytes "...........2..............................."
-    ∷ bytes "............0U............................."
-    ∷ bytes "............0.............................."
-    ∷ bytes "...........4..............................."
-    ∷ bytes "....0.<...................a................"
-    ∷ bytes "-----------S-------------------------------"
-    ∷ bytes "................;;........................."
-    ∷ bytes "................F.........................."
-    ∷ bytes "................\\.........................."
-    ∷ bytes ".....K[l..................................."
-    ∷ bytes ".........................0................."
-    ∷ bytes ".....0....................................."
-    ∷ bytes "................1.........................."
-    ∷ bytes ".......................0..................."
-    ∷ bytes "------------------------D------------------"
-    ∷ bytes ".....0....................................."
-    ∷ bytes "......................0...................."
-    ∷ bytes "-------------V-----------------------------"
-    ∷ bytes "......ih..................................."
-    ∷ bytes "...........3..............................."
-    ∷ bytes "...........5..............................."
-    ∷ bytes "-------------?-----------------------------"
-    ∷ bytes ".....AA...................................."
-    ∷ bytes "-------------@-----------------------------"
-    ∷ bytes "---GPG]k---c-B-B--X-W-----ogm--------------"
-    ∷ bytes "----------------HH-------------------------"
-    ∷ bytes "-------------B-B---------------------------"
-    ∷ bytes ".............0............................."
-    ∷ bytes "---:J:Zd---^------E-D-----nbe--------------" ∷ [])
+-- ---- acts
 
--- where the row of each frame begins among the entries: before entry 40 if the frame leaves what it does not take
-unfoldable pub firsts : List ℕ
-firsts =
-    53 ∷ 40 ∷ 41 ∷ 73 ∷ 59 ∷ 93 ∷ 14 ∷ 43 ∷ 44 ∷ 56 ∷ 94 ∷ 97
-    ∷ 6 ∷ 42 ∷ 90 ∷ 91 ∷ 46 ∷ 83 ∷ 64 ∷ 96 ∷ 86 ∷ 10 ∷ 64 ∷ 88
-    ∷ 24 ∷ 58 ∷ 103 ∷ 104 ∷ 29 ∷ 61 ∷ 34 ∷ 0 ∷ 23 ∷ 1 ∷ 105 ∷ 18 ∷ []
+-- the act of a frame that leaves an item to the frame below
+abbrev pub leaving-act : ℕ
+leaving-act = 45
+
+-- the act of a frame that refuses an item
+abbrev pub refusing-act : ℕ
+refusing-act = 46
+
+-- the first act that takes an item; all from it on do
+abbrev pub first-act : ℕ
+first-act = 48
+
+-- ---- entries
+
+-- where the row of a frame that is none begins: past all entries
+abbrev pub past-rows : ℕ
+past-rows = 200
 
 -- the entry where there is none: its class is no class
 abbrev pub no-entry : ℕ
@@ -63,91 +38,23 @@ laid [] xs = []
 laid (c ∷ cs) [] = []
 laid (c ∷ cs) (x ∷ xs) = ((c - 48) * 256 + x) ∷ laid cs xs
 
--- the rows of all frames, laid over one another
-unfoldable pub entries : List ℕ
-entries =
-    laid
-    (bytes "~~~34567~~~;~==??;B~D34567JKL;@ABCHEB=D@A0=3JKL=89:567;><=@A189:6756<5NOPQRSTUVWXYZNOPQRSTUVWXYZ345674M6;;@@IGFB@D;;~~=JKL~J")
-    (bytes "...GPG]k...c.BBBBSX.W:J:Zdogm^DDDDDDEVDHH0?7nbe@K[lK[l260U;;0K[lihAA00CN>_qLR7MpjOQCN>_qLR7MpjOQ0=0I`00<T4F\\00091835..0fYa.a")
+-- ---- words
 
--- frames as one number, the first one lowest, after them a 1
-unfoldable pub packed : List ℕ → ℕ
-packed [] = 1
-packed (f ∷ fs) = packed fs * 64 + f
+-- the number of what is given: 0 the item's own token, 1 the one for strings, 2 the prefix one, any other number that token
+unfoldable pub code : Gives → ℕ
+code itself = 0
+code for-strings = 1
+code as-prefix = 2
+code (put k) = k
 
--- what an act gives, and the frames that it wants, the last one on top
-unfoldable pub word : ℕ → List ℕ → ℕ
-word g fs = packed fs * 64 + g
+-- frames after a number, the last one lowest
+unfoldable pub packed : ℕ → List ℕ → ℕ
+packed n [] = n
+packed n (f ∷ fs) = packed (n * 64 + f) fs
 
--- the word of each act, in the order of their bytes
-unfoldable pub words : List ℕ
-words =
-    word 0 []
-    ∷ word 45 []
-    ∷ word 56 []
-    ∷ word 57 []
-    ∷ word 58 []
-    ∷ word 59 []
-    ∷ word 0 (0 ∷ [])
-    ∷ word 0 (2 ∷ [])
-    ∷ word 0 (5 ∷ [])
-    ∷ word 2 (5 ∷ [])
-    ∷ word 0 (6 ∷ [])
-    ∷ word 1 (11 ∷ [])
-    ∷ word 0 (12 ∷ [])
-    ∷ word 0 (13 ∷ [])
-    ∷ word 0 (16 ∷ [])
-    ∷ word 0 (25 ∷ [])
-    ∷ word 0 (29 ∷ [])
-    ∷ word 0 (30 ∷ [])
-    ∷ word 0 (31 ∷ [])
-    ∷ word 0 (4 ∷ 3 ∷ [])
-    ∷ word 0 (6 ∷ 5 ∷ [])
-    ∷ word 2 (6 ∷ 5 ∷ [])
-    ∷ word 45 (6 ∷ 5 ∷ [])
-    ∷ word 0 (33 ∷ 6 ∷ [])
-    ∷ word 1 (6 ∷ 11 ∷ [])
-    ∷ word 0 (13 ∷ 12 ∷ [])
-    ∷ word 0 (6 ∷ 13 ∷ [])
-    ∷ word 0 (2 ∷ 14 ∷ [])
-    ∷ word 0 (2 ∷ 22 ∷ [])
-    ∷ word 0 (2 ∷ 25 ∷ [])
-    ∷ word 0 (2 ∷ 29 ∷ [])
-    ∷ word 0 (2 ∷ 31 ∷ [])
-    ∷ word 0 (33 ∷ 32 ∷ [])
-    ∷ word 0 (2 ∷ 35 ∷ [])
-    ∷ word 0 (2 ∷ 6 ∷ 5 ∷ [])
-    ∷ word 55 (8 ∷ 6 ∷ 5 ∷ [])
-    ∷ word 0 (9 ∷ 6 ∷ 5 ∷ [])
-    ∷ word 60 (9 ∷ 6 ∷ 5 ∷ [])
-    ∷ word 0 (24 ∷ 6 ∷ 5 ∷ [])
-    ∷ word 0 (33 ∷ 6 ∷ 5 ∷ [])
-    ∷ word 2 (33 ∷ 6 ∷ 5 ∷ [])
-    ∷ word 0 (9 ∷ 11 ∷ 10 ∷ [])
-    ∷ word 0 (6 ∷ 13 ∷ 12 ∷ [])
-    ∷ word 0 (2 ∷ 15 ∷ 12 ∷ [])
-    ∷ word 46 (11 ∷ [])
-    ∷ word 0 (33 ∷ 32 ∷ 12 ∷ [])
-    ∷ word 0 (6 ∷ 9 ∷ 6 ∷ 5 ∷ [])
-    ∷ word 0 (1 ∷ 17 ∷ 6 ∷ 5 ∷ [])
-    ∷ word 0 (8 ∷ 6 ∷ 5 ∷ 7 ∷ [])
-    ∷ word 0 (9 ∷ 6 ∷ 5 ∷ 10 ∷ [])
-    ∷ word 0 (6 ∷ 9 ∷ 11 ∷ 10 ∷ [])
-    ∷ word 0 (33 ∷ 6 ∷ 9 ∷ 6 ∷ 5 ∷ [])
-    ∷ word 0 (6 ∷ 8 ∷ 6 ∷ 5 ∷ 7 ∷ [])
-    ∷ word 0 (6 ∷ 9 ∷ 6 ∷ 5 ∷ 10 ∷ [])
-    ∷ word 0 (13 ∷ 9 ∷ 6 ∷ 5 ∷ 10 ∷ [])
-    ∷ word 0 (33 ∷ 6 ∷ 9 ∷ 11 ∷ 10 ∷ [])
-    ∷ word 0 (28 ∷ 8 ∷ 6 ∷ 5 ∷ 26 ∷ [])
-    ∷ word 0 (28 ∷ 9 ∷ 6 ∷ 5 ∷ 27 ∷ [])
-    ∷ word 0 (2 ∷ 6 ∷ 5 ∷ 34 ∷ 6 ∷ 5 ∷ [])
-    ∷ word 0 (33 ∷ 6 ∷ 8 ∷ 6 ∷ 5 ∷ 7 ∷ [])
-    ∷ word 0 (2 ∷ 14 ∷ 8 ∷ 6 ∷ 5 ∷ 7 ∷ [])
-    ∷ word 0 (33 ∷ 6 ∷ 9 ∷ 6 ∷ 5 ∷ 10 ∷ [])
-    ∷ word 0 (6 ∷ 13 ∷ 9 ∷ 6 ∷ 5 ∷ 10 ∷ [])
-    ∷ word 0 (33 ∷ 32 ∷ 9 ∷ 6 ∷ 5 ∷ 10 ∷ [])
-    ∷ word 0 (2 ∷ 24 ∷ 6 ∷ 5 ∷ 23 ∷ 6 ∷ 5 ∷ [])
-    ∷ word 0 (2 ∷ 21 ∷ 6 ∷ 5 ∷ 20 ∷ 6 ∷ 5 ∷ 19 ∷ 18 ∷ []) ∷ []
+-- what an act gives, and the frames that it wants: a 1, the frames, what is given
+unfoldable pub word : Gives → List ℕ → ℕ
+word g fs = packed 1 fs * 64 + code g
 
 -- a number is at most k frames
 unfoldable pub fits? : ℕ → ℕ → Bool
@@ -158,3 +65,20 @@ fits? (suc k) n = leb n 1 || fits? k (n / 64)
 unfoldable pub unpacked : ℕ → ℕ → List ℕ → List ℕ
 unpacked zero n fs = fs
 unpacked (suc k) n fs = pick (leb n 1) fs (unpacked k (n / 64) (n % 64 ∷ fs))
+
+-- ---- what the grammar says
+
+-- a number stands for what is given
+unfoldable pub gives? : Gives → ℕ → Bool
+gives? itself g = eqb g 0
+gives? for-strings g = eqb g 1
+gives? as-prefix g = eqb g 2
+gives? (put k) g = leb 3 g && eqb g k
+
+-- the act x, by the words of the acts, is what the grammar says
+unfoldable pub says? : List ℕ → ℕ → Act Gives → Bool
+says? w x (take e ws) =
+    let n = getD w (x - first-act) 0 in
+    leb first-act x && (gives? e (n % 64) && (fits? 9 (n / 64) && same (unpacked 9 (n / 64) []) ws))
+says? w x leave = eqb x leaving-act
+says? w x (refuse k) = not (eqb x leaving-act) && (ltb x first-act && eqb k 4)

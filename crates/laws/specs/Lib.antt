@@ -1,4 +1,5 @@
 pub mod Tests
+pub mod Counts
 pub mod RowTests
 pub mod Classes
 pub mod Runs

@@ -9,6 +9,7 @@ ghost use mathlib.Core.List.{List};
 ghost use Prim.Native.Nat.{ℕ, _+_, _≤_, _<_};
 ghost use lib.ListN.{length, take};
 ghost use Rattle.paper.specs.Names.{names-in};
+ghost use Rattle.laws.specs.Counts.{class-count};
 ghost use Rattle.list_pieces.specs.declared.Piece.the-variants.{Word, Text, Target, Variable, Constant, Quoted, Operator};
 ghost use Rattle.list_pieces.specs.Given.{given-operator};
 ghost use Rattle.grammar.specs.Stack.{gives-of};
@@ -84,7 +85,7 @@ fn check_text(
 
 // The class of a variable that comes first in a statement, by its class elsewhere.
 fn first_class(kind: u8) -> u8
-    requires { ⌜ kind < 43 ⌝ }
+    requires { ⌜ kind < class-count ⌝ }
     ensures { λ r. ⌜ r ≡ kind + 3 ⌝ }
 {
     kind + (class::FIRST_NUMERIC - class::NUMERIC_VARIABLE)
@@ -171,14 +172,20 @@ fn check_quoted(line: &[u8], at: usize, size: u8, frames: &mut [u8], depth: usiz
     }
 }
 
+// How far the operators for strings stand behind those that are read.
+const TO_STRINGS: usize = tokens::TO_STRINGS as usize;
+
+// How far the prefix operators stand behind those that are read.
+const TO_PREFIX: usize = tokens::TO_PREFIX as usize;
+
 // The operator that is given for the operator `read`, by the number of what is given.
 fn given_operator(gives: u8, read: u8) -> usize
     ensures { λ r. ⌜ r ≡ given-operator (gives-of gives) read ⌝ }
 {
     match gives {
         0 => read as usize,
-        1 => read as usize + 0x12,
-        2 => read as usize + 0x10,
+        1 => read as usize + TO_STRINGS,
+        2 => read as usize + TO_PREFIX,
         _ => gives as usize,
     }
 }

@@ -1,4 +1,4 @@
--- Bundles: to unfold one is to unfold all that its line names. For proofs that compute. (Made by scripts/bundle.py.)
+-- Bundles: to unfold one is to unfold all that its line names. For proofs that compute. (Made by scripts/tables.py.)
 use Rattle.paper.specs.Bytes as Bytes′
 use Rattle.paper.specs.Words as Words′
 use Rattle.paper.specs.Tokens as Tokens′

@@ -1,4 +1,4 @@
--- For each frame, in the order of their numbers, what the tests over the grammar need. (Made by scripts/frames.py; the tests check it.)
+-- For each frame, in the order of their numbers, what the tests over the grammar need. (Made by scripts/tables.py.)
 use Prim.Native.Nat.{ℕ}
 use mathlib.Core.List.{List, [], _∷_}
 use lib.ListN.{getD}

@@ -1,4 +1,4 @@
--- Each word and symbol of the tables, as it is listed, is read as itself: by computing, with any text after it. (Made by scripts/words.py.)
+-- Each word and symbol of the tables, as it is listed, is read as itself: by computing, with any text after it. (Made by scripts/tables.py.)
 use mathlib.Core.Path.{refl}
 use Rattle.paper.specs.Bytes.{among}
 use Rattle.paper.specs.Words.{operators, statements}

@@ -1,4 +1,4 @@
-// The classes of items, numbered as the definitions number them: all that the grammar tells apart.
+// The classes of items, numbered as the definitions number them: all that the grammar tells apart. (Made by scripts/tables.py.)
 
 // The line's end.
 pub const LINE_END: u8 = 0;
@@ -31,7 +31,7 @@ pub const FIRST_STRING: u8 = 9;
 
 pub const FIRST_ARRAY: u8 = 10;
 
-// `(`.
+// `(`, whatever it opens.
 pub const OPEN_SIGN: u8 = 11;
 
 // `)`.

@@ -1,8 +1,12 @@
 // Tokens: their numbers as named constants of three types, the class and the spelling of each, and the words and symbols that they
 // are read from.
 pub mod class;
+mod number;
 mod tables;
 
+use number::function;
+use number::operator;
+use number::statement;
 ghost use mathlib.Core.Path.{_≡_};
 ghost use mathlib.Core.List.{[], _∷_};
 ghost use Prim.Native.Nat.{_-_};
@@ -226,6 +230,12 @@ impl OperatorToken {
     pub const RAW_END: OperatorToken = OperatorToken(0x9B);
 }
 
+// How far the prefix operators stand behind `+ -`.
+pub const TO_PREFIX: u8 = OperatorToken::PREFIX_PLUS.0 - OperatorToken::PLUS.0;
+
+// How far the comparisons of strings stand behind those of numbers.
+pub const TO_STRINGS: u8 = OperatorToken::STRING_LESS_OR_EQUAL.0 - OperatorToken::LESS_OR_EQUAL.0;
+
 impl FunctionToken {
     pub const STR: FunctionToken = FunctionToken(0x3D);
 
@@ -329,30 +339,30 @@ pub fn statement_class(token: StatementToken) -> u8
 {
     let t = token.0;
     match t {
-        0x00 => class::REMARK,
-        0x01 => class::REMARK,
-        0x02 => class::READ_INPUT,
-        0x06 => class::LET_WORD,
-        0x07 => class::IF_WORD,
-        0x08 => class::FOR_WORD,
-        0x09 => class::NEXT_WORD,
-        0x0A => class::JUMP,
-        0x0C => class::JUMP,
-        0x0D => class::JUMP,
-        0x12 => class::ALONE,
-        0x13 => class::ALONE,
-        0x14 => class::DIM_WORD,
-        0x15 => class::ALONE,
-        0x1E => class::ON_WORD,
-        0x1F => class::POKE_WORD,
-        0x20 => class::PRINT_WORD,
-        0x21 => class::ALONE,
-        0x22 => class::READ_INPUT,
-        0x23 => class::RESTORE_WORD,
-        0x24 => class::ALONE,
-        0x26 => class::ALONE,
-        0x27 => class::ALONE,
-        0x28 => class::PRINT_WORD,
+        statement::REM => class::REMARK,
+        statement::DATA => class::REMARK,
+        statement::INPUT => class::READ_INPUT,
+        statement::LET => class::LET_WORD,
+        statement::IF => class::IF_WORD,
+        statement::FOR => class::FOR_WORD,
+        statement::NEXT => class::NEXT_WORD,
+        statement::GOTO => class::JUMP,
+        statement::GOSUB => class::JUMP,
+        statement::TRAP => class::JUMP,
+        statement::CLR => class::ALONE,
+        statement::DEG => class::ALONE,
+        statement::DIM => class::DIM_WORD,
+        statement::END => class::ALONE,
+        statement::ON => class::ON_WORD,
+        statement::POKE => class::POKE_WORD,
+        statement::PRINT => class::PRINT_WORD,
+        statement::RAD => class::ALONE,
+        statement::READ => class::READ_INPUT,
+        statement::RESTORE => class::RESTORE_WORD,
+        statement::RETURN => class::ALONE,
+        statement::STOP => class::ALONE,
+        statement::POP => class::ALONE,
+        statement::QUESTION => class::PRINT_WORD,
         _ => class::UNFIT,
     }
 }
@@ -362,50 +372,50 @@ pub fn operator_class(token: u8) -> u8
     ensures { λ r. ⌜ r ≡ operator-class token ⌝ }
 {
     match token {
-        0x12 => class::COMMA,
-        0x14 => class::COLON,
-        0x15 => class::SEMICOLON,
-        0x16 => class::LINE_END,
-        0x17 => class::GOTO_GOSUB,
-        0x18 => class::GOTO_GOSUB,
-        0x19 => class::TO_WORD,
-        0x1A => class::STEP_WORD,
-        0x1B => class::THEN_WORD,
-        0x1D => class::COMPARISON,
-        0x1E => class::COMPARISON,
-        0x1F => class::COMPARISON,
-        0x20 => class::COMPARISON,
-        0x21 => class::COMPARISON,
-        0x22 => class::EQUALS,
-        0x23 => class::FACTOR_SIGN,
-        0x24 => class::FACTOR_SIGN,
-        0x25 => class::PLUS_MINUS,
-        0x26 => class::PLUS_MINUS,
-        0x27 => class::FACTOR_SIGN,
-        0x28 => class::NOT_WORD,
-        0x29 => class::OR_AND,
-        0x2A => class::OR_AND,
-        0x2B => class::OPEN_SIGN,
-        0x2C => class::CLOSE_SIGN,
-        0x3D => class::STRING_FUNCTION,
-        0x3E => class::STRING_FUNCTION,
-        0x40 => class::FUNCTION_OF_STRING,
-        0x41 => class::FUNCTION_OF_STRING,
-        0x42 => class::FUNCTION_OF_STRING,
-        0x44 => class::FUNCTION_OF_NUMBER,
-        0x45 => class::FUNCTION_OF_NUMBER,
-        0x46 => class::FUNCTION_OF_NUMBER,
-        0x47 => class::FUNCTION_OF_NUMBER,
-        0x48 => class::FUNCTION_OF_NUMBER,
-        0x49 => class::FUNCTION_OF_NUMBER,
-        0x4A => class::FUNCTION_OF_NUMBER,
-        0x4B => class::FUNCTION_OF_NUMBER,
-        0x4C => class::FUNCTION_OF_NUMBER,
-        0x4D => class::FUNCTION_OF_NUMBER,
-        0x4E => class::FUNCTION_OF_NUMBER,
-        0x4F => class::FUNCTION_OF_NUMBER,
-        0x50 => class::FUNCTION_OF_NUMBER,
-        0x9B => class::RAW_END,
+        operator::COMMA => class::COMMA,
+        operator::COLON => class::COLON,
+        operator::SEMICOLON => class::SEMICOLON,
+        operator::LINE_END => class::LINE_END,
+        operator::GOTO => class::GOTO_GOSUB,
+        operator::GOSUB => class::GOTO_GOSUB,
+        operator::TO => class::TO_WORD,
+        operator::STEP => class::STEP_WORD,
+        operator::THEN => class::THEN_WORD,
+        operator::LESS_OR_EQUAL => class::COMPARISON,
+        operator::UNEQUAL => class::COMPARISON,
+        operator::GREATER_OR_EQUAL => class::COMPARISON,
+        operator::LESS => class::COMPARISON,
+        operator::GREATER => class::COMPARISON,
+        operator::EQUAL => class::EQUALS,
+        operator::POWER => class::FACTOR_SIGN,
+        operator::TIMES => class::FACTOR_SIGN,
+        operator::PLUS => class::PLUS_MINUS,
+        operator::MINUS => class::PLUS_MINUS,
+        operator::DIVIDED_BY => class::FACTOR_SIGN,
+        operator::NOT => class::NOT_WORD,
+        operator::OR => class::OR_AND,
+        operator::AND => class::OR_AND,
+        operator::OPEN => class::OPEN_SIGN,
+        operator::CLOSE => class::CLOSE_SIGN,
+        function::STR => class::STRING_FUNCTION,
+        function::CHR => class::STRING_FUNCTION,
+        function::ASC => class::FUNCTION_OF_STRING,
+        function::VAL => class::FUNCTION_OF_STRING,
+        function::LEN => class::FUNCTION_OF_STRING,
+        function::ATN => class::FUNCTION_OF_NUMBER,
+        function::COS => class::FUNCTION_OF_NUMBER,
+        function::PEEK => class::FUNCTION_OF_NUMBER,
+        function::SIN => class::FUNCTION_OF_NUMBER,
+        function::RND => class::FUNCTION_OF_NUMBER,
+        function::FRE => class::FUNCTION_OF_NUMBER,
+        function::EXP => class::FUNCTION_OF_NUMBER,
+        function::LOG => class::FUNCTION_OF_NUMBER,
+        function::CLOG => class::FUNCTION_OF_NUMBER,
+        function::SQR => class::FUNCTION_OF_NUMBER,
+        function::SGN => class::FUNCTION_OF_NUMBER,
+        function::ABS => class::FUNCTION_OF_NUMBER,
+        function::INT => class::FUNCTION_OF_NUMBER,
+        operator::RAW_END => class::RAW_END,
         _ => class::UNFIT,
     }
 }
@@ -438,22 +448,22 @@ pub fn read_as(token: u8) -> u8
     ensures { λ r. ⌜ r ≡ read-as token ⌝ }
 {
     match token {
-        0x2D => 0x22,
-        0x2E => 0x22,
-        0x2F => 0x1D,
-        0x30 => 0x1E,
-        0x31 => 0x1F,
-        0x32 => 0x20,
-        0x33 => 0x21,
-        0x34 => 0x22,
-        0x35 => 0x25,
-        0x36 => 0x26,
-        0x37 => 0x2B,
-        0x38 => 0x2B,
-        0x39 => 0x2B,
-        0x3A => 0x2B,
-        0x3B => 0x2B,
-        0x3C => 0x12,
+        operator::NUMBER_ASSIGNED => operator::EQUAL,
+        operator::STRING_ASSIGNED => operator::EQUAL,
+        operator::STRING_LESS_OR_EQUAL => operator::LESS_OR_EQUAL,
+        operator::STRING_UNEQUAL => operator::UNEQUAL,
+        operator::STRING_GREATER_OR_EQUAL => operator::GREATER_OR_EQUAL,
+        operator::STRING_LESS => operator::LESS,
+        operator::STRING_GREATER => operator::GREATER,
+        operator::STRING_EQUAL => operator::EQUAL,
+        operator::PREFIX_PLUS => operator::PLUS,
+        operator::PREFIX_MINUS => operator::MINUS,
+        operator::SUBSTRING_OPEN => operator::OPEN,
+        operator::ARRAY_OPEN => operator::OPEN,
+        operator::DIM_ARRAY_OPEN => operator::OPEN,
+        operator::FUNCTION_OPEN => operator::OPEN,
+        operator::DIM_STRING_OPEN => operator::OPEN,
+        operator::INNER_COMMA => operator::COMMA,
         _ => token,
     }
 }

@@ -12,10 +12,11 @@ use crate::Found;
 use crate::FunctionToken;
 use crate::OperatorToken;
 use crate::StatementToken;
+use crate::number::statement;
 use crate::sign;
 
 // How many tokens from 0 on the table of statement words has.
-pub(crate) const STATEMENTS: u8 = 0x36;
+pub(crate) const STATEMENTS: u8 = StatementToken::CLOAD.0 + 1;
 
 // No word's token.
 pub(crate) const NO_WORD: u8 = 0xFF;
@@ -82,10 +83,10 @@ pub(crate) const STATEMENT_LENGTHS: [u8; 54] = [
 ];
 
 // The first token that an operator's word has.
-pub(crate) const FIRST_OPERATOR: u8 = 0x12;
+pub(crate) const FIRST_OPERATOR: u8 = OperatorToken::COMMA.0;
 
 // How many tokens from the first one on the table of operators' words has.
-pub(crate) const OPERATORS: u8 = 0x43;
+pub(crate) const OPERATORS: u8 = FunctionToken::STRIG.0 + 1 - FIRST_OPERATOR;
 
 // The length of each word of an operator or function, by its token from the first one on; 0 where a token has no word of its own.
 pub(crate) const OPERATOR_LENGTHS: [u8; 67] = [
@@ -163,60 +164,60 @@ pub(crate) fn statement_start(t: u8) -> u8
     ensures { λ r. ⌜ r ≡ total (take t statement-lengths) ⌝ }
 {
     match t {
-        0x00 => 0,
-        0x01 => 3,
-        0x02 => 7,
-        0x03 => 12,
-        0x04 => 17,
-        0x05 => 21,
-        0x06 => 26,
-        0x07 => 29,
-        0x08 => 31,
-        0x09 => 34,
-        0x0A => 38,
+        statement::REM => 0,
+        statement::DATA => 3,
+        statement::INPUT => 7,
+        statement::COLOR => 12,
+        statement::LIST => 17,
+        statement::ENTER => 21,
+        statement::LET => 26,
+        statement::IF => 29,
+        statement::FOR => 31,
+        statement::NEXT => 34,
+        statement::GOTO => 38,
         0x0B => 42,
-        0x0C => 42,
-        0x0D => 47,
-        0x0E => 51,
-        0x0F => 54,
-        0x10 => 58,
-        0x11 => 61,
-        0x12 => 66,
-        0x13 => 69,
-        0x14 => 72,
-        0x15 => 75,
-        0x16 => 78,
-        0x17 => 81,
-        0x18 => 85,
-        0x19 => 89,
-        0x1A => 93,
-        0x1B => 99,
-        0x1C => 103,
-        0x1D => 108,
-        0x1E => 111,
-        0x1F => 113,
-        0x20 => 117,
-        0x21 => 122,
-        0x22 => 125,
-        0x23 => 129,
-        0x24 => 136,
-        0x25 => 142,
-        0x26 => 145,
-        0x27 => 149,
-        0x28 => 152,
-        0x29 => 153,
-        0x2A => 156,
-        0x2B => 159,
-        0x2C => 167,
-        0x2D => 171,
-        0x2E => 179,
-        0x2F => 182,
-        0x30 => 188,
-        0x31 => 196,
-        0x32 => 202,
-        0x33 => 207,
-        0x34 => 213,
-        0x35 => 218,
+        statement::GOSUB => 42,
+        statement::TRAP => 47,
+        statement::BYE => 51,
+        statement::CONT => 54,
+        statement::COM => 58,
+        statement::CLOSE => 61,
+        statement::CLR => 66,
+        statement::DEG => 69,
+        statement::DIM => 72,
+        statement::END => 75,
+        statement::NEW => 78,
+        statement::OPEN => 81,
+        statement::LOAD => 85,
+        statement::SAVE => 89,
+        statement::STATUS => 93,
+        statement::NOTE => 99,
+        statement::POINT => 103,
+        statement::XIO => 108,
+        statement::ON => 111,
+        statement::POKE => 113,
+        statement::PRINT => 117,
+        statement::RAD => 122,
+        statement::READ => 125,
+        statement::RESTORE => 129,
+        statement::RETURN => 136,
+        statement::RUN => 142,
+        statement::STOP => 145,
+        statement::POP => 149,
+        statement::QUESTION => 152,
+        statement::GET => 153,
+        statement::PUT => 156,
+        statement::GRAPHICS => 159,
+        statement::PLOT => 167,
+        statement::POSITION => 171,
+        statement::DOS => 179,
+        statement::DRAWTO => 182,
+        statement::SETCOLOR => 188,
+        statement::LOCATE => 196,
+        statement::SOUND => 202,
+        statement::LPRINT => 207,
+        statement::CSAVE => 213,
+        statement::CLOAD => 218,
         _ => 223,
     }
 }

@@ -1,7 +1,7 @@
 use native.Mathlib.Omega.{arith}
 use mathlib.Core.Path.{refl}
-use lib.ListN.{getD}
-use Rattle.grammar.proofs.Acting.{refuses-here, leaves-here, takes-here, word-fits, took-here}
+use Rattle.grammar.proofs.Acting.{word-fits, took-here}
+use Rattle.grammar.proofs.Table.{leaves-so, refuses-so, takes-so}
 use Rattle.grammar.proofs.StackLaws.{acts-refused, acts-left}
 use borrow.Author.Needs.{needs}
 use Rattle.grammar.proofs.act_at.Statement.{statement}
@@ -14,16 +14,16 @@ act-of-requires : tie.Need-act-of-requires
 act-of-requires c κs = search needs
 
 returns : tie.Need-returns
-returns c = acts-left (leaves-here (getD (c .before .before .before .before .args .frames .now) (c .before .before .before .before .args .at) 0) (c .before .before .before .before .args .class) (c .before .act-of .result) (c .before .before .before .before .pre .1) (c .before .act-of .ensures) (c .if1 .taken)) refl
+returns c = acts-left (leaves-so _ _ _ (c .before .act-of .ensures) (c .if1 .taken)) refl
 
 returns-2 : tie.Need-returns-2
-returns-2 c = acts-refused (refuses-here (getD (c .before .before .before .before .before .args .frames .now) (c .before .before .before .before .before .args .at) 0) (c .before .before .before .before .before .args .class) (c .before .before .act-of .result) (c .before .before .before .before .before .pre .1) (c .before .before .act-of .ensures) (c .before .if1 .left) (c .if2 .taken))
+returns-2 c = acts-refused (refuses-so _ _ _ (c .before .before .act-of .ensures) (c .before .if1 .left) (c .if2 .taken))
 
 word-of-requires : tie.Need-word-of-requires
 word-of-requires c κs = search needs
 
 put-frames-requires : tie.Need-put-frames-requires
-put-frames-requires c κs = (c .before .before .before .before .before .before .before .pre .0, word-fits (takes-here (getD (c .before .before .before .before .before .before .before .args .frames .now) (c .before .before .before .before .before .before .before .args .at) 0) (c .before .before .before .before .before .before .before .args .class) (c .before .before .before .before .act-of .result) (c .before .before .before .before .before .before .before .pre .1) (c .before .before .before .before .act-of .ensures) (c .before .before .if2 .left)) (c .before .word-of .ensures))
+put-frames-requires c κs = (c .before .before .before .before .before .before .before .pre .0, word-fits (takes-so _ _ _ (c .before .before .before .before .act-of .ensures) (c .before .before .if2 .left)) (c .before .word-of .ensures))
 
 cast-t8 : tie.Need-cast-t8
 cast-t8 c = omega arith
@@ -32,7 +32,9 @@ same-length : tie.Need-same-length
 same-length c = search needs
 
 returns-3 : tie.Need-returns-3
-returns-3 c = took-here (c .before .before .before .before .before .before .before .act-of .result) (c .before .before .before .before .word-of .result) (c .before .before .before .before .word-of .ensures) (takes-here (getD (c .before .before .before .before .before .before .before .before .before .before .args .frames .now) (c .before .before .before .before .before .before .before .before .before .before .args .at) 0) (c .before .before .before .before .before .before .before .before .before .before .args .class) (c .before .before .before .before .before .before .before .act-of .result) (c .before .before .before .before .before .before .before .before .before .before .pre .1) (c .before .before .before .before .before .before .before .act-of .ensures) (c .before .before .before .before .before .if2 .left)) (c .before .before .put-frames .ensures .0) (c .before .before .put-frames .ensures .1)
+returns-3 c =
+    took-here (c .before .before .before .before .before .before .before .act-of .result) (c .before .before .before .before .word-of .result) (c .before .before .before .before .word-of .ensures)
+    (takes-so _ _ _ (c .before .before .before .before .before .before .before .act-of .ensures) (c .before .before .before .before .before .if2 .left)) (c .before .before .put-frames .ensures .0) (c .before .before .put-frames .ensures .1)
 
 pub act-at-spec : {M : Type 1} → statement M
 act-at-spec =

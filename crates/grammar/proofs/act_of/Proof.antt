@@ -1,5 +1,5 @@
 use native.Mathlib.Omega.{arith}
-use Rattle.grammar.proofs.Rows.{first-low, taken, left, refused}
+use Rattle.grammar.proofs.Laid.{first-low, taken, left, refused}
 use borrow.Author.Needs.{needs}
 use Rattle.grammar.proofs.act_of.Statement.{statement}
 use Rattle.grammar.proofs.act_of.Tie as tie

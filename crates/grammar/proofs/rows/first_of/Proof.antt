@@ -1,13 +1,15 @@
+-- Each arm of `first_of` says what the table says at its key. (Made by scripts/tables.py.)
 use Prim.Native.Nat.{ℕ}
 use mathlib.Core.Path.{_≡_, sym, ap}
 use lib.ListN.{getD}
-use Rattle.grammar.specs.Tables.{firsts}
+use Rattle.grammar.specs.Tables.{past-rows}
+use Rattle.grammar.specs.Rows.{firsts}
 use Rattle.grammar.proofs.Places.{places, at-none}
-use Rattle.grammar.proofs.first_of.Statement.{statement}
-use Rattle.grammar.proofs.first_of.Tie as tie
+use Rattle.grammar.proofs.rows.first_of.Statement.{statement}
+use Rattle.grammar.proofs.rows.first_of.Tie as tie
 
-here : {x k : ℕ} → x ≡ k → getD firsts k 200 ≡ getD firsts x 200
-here e = sym (ap (λ n. getD firsts n 200) e)
+here : {x k : ℕ} → x ≡ k → getD firsts k past-rows ≡ getD firsts x past-rows
+here e = sym (ap (λ n. getD firsts n past-rows) e)
 
 pub first-of-spec : {M : Type 1} → statement M
 unfolding firsts places
@@ -50,4 +52,4 @@ first-of-spec =
     (λ c. here (c .match .keys34))
     (λ c. here (c .match .keys35))
     (λ c. here (c .match .keys36))
-    (λ c. at-none 200 firsts (c .before .args .frame) (c .match .rest)))
+    (λ c. at-none past-rows firsts (c .before .args .frame) (c .match .rest)))

@@ -1,17 +1,19 @@
+-- Each arm of `entry_at` says what the table says at its key. (Made by scripts/tables.py.)
 use Prim.Native.Nat.{ℕ}
 use mathlib.Core.Path.{_≡_, sym, ap}
 use lib.ListN.{getD}
 use Rattle.paper.specs.Open.{all-Bytes}
-use Rattle.grammar.specs.Tables.{no-entry, laid, entries}
+use Rattle.grammar.specs.Tables.{no-entry, laid}
+use Rattle.grammar.specs.Rows.{entries}
 use Rattle.grammar.proofs.Places.{places, at-none}
-use Rattle.grammar.proofs.entry_at.Statement.{statement}
-use Rattle.grammar.proofs.entry_at.Tie as tie
+use Rattle.grammar.proofs.rows.entry_at.Statement.{statement}
+use Rattle.grammar.proofs.rows.entry_at.Tie as tie
 
 here : {x k : ℕ} → x ≡ k → getD entries k no-entry ≡ getD entries x no-entry
 here e = sym (ap (λ n. getD entries n no-entry) e)
 
 pub entry-at-spec : {M : Type 1} → statement M
-unfolding laid entries places all-Bytes
+unfolding all-Bytes laid entries places
 entry-at-spec =
     tie.close
     (tie.spec

@@ -1,16 +1,19 @@
+-- Each arm of `word_of` says what the table says at its key. (Made by scripts/tables.py.)
 use Prim.Native.Nat.{ℕ, _-_}
 use mathlib.Core.Path.{_≡_, sym, ap}
 use lib.ListN.{getD}
-use Rattle.grammar.specs.Tables.{packed, word, words}
+use Rattle.paper.specs.Grammar.{N}
+use Rattle.grammar.specs.Tables.{first-act, code, packed, word}
+use Rattle.grammar.specs.Rows.{words}
 use Rattle.grammar.proofs.Places.{places, at-none-from}
-use Rattle.grammar.proofs.word_of.Statement.{statement}
-use Rattle.grammar.proofs.word_of.Tie as tie
+use Rattle.grammar.proofs.rows.word_of.Statement.{statement}
+use Rattle.grammar.proofs.rows.word_of.Tie as tie
 
-here : {x k : ℕ} → x ≡ k → getD words (k - 48) 0 ≡ getD words (x - 48) 0
-here e = sym (ap (λ n. getD words (n - 48) 0) e)
+here : {x k : ℕ} → x ≡ k → getD words (k - first-act) 0 ≡ getD words (x - first-act) 0
+here e = sym (ap (λ n. getD words (n - first-act) 0) e)
 
 pub word-of-spec : {M : Type 1} → statement M
-unfolding packed word words places
+unfolding N code packed word words places
 word-of-spec =
     tie.close
     (tie.spec
@@ -80,4 +83,4 @@ word-of-spec =
     (λ c. here (c .match .keys64))
     (λ c. here (c .match .keys65))
     (λ c. here (c .match .keys66))
-    (λ c. at-none-from 48 0 words (c .before .args .act) (c .before .pre) (c .match .rest)))
+    (λ c. at-none-from first-act 0 words (c .before .args .act) (c .before .pre) (c .match .rest)))

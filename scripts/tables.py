@@ -1,0 +1,456 @@
+"""Writes all that follows from the tables of crate paper (Words, Classes, Frames, Grammar): what proofs compute with, and the tables of the code. The
+proofs hold each to the definitions; they take nothing on trust.
+
+  python3 scripts/tables.py            writes the files (from the repository's root)
+  python3 scripts/tables.py --check    says which files are not as it would write them; status 1 if there is one
+"""
+import os
+import re
+import sys
+
+from grammar import CLASSES, EMPTY, FRAMES, TAKES, completions, follow, heads, numbers, text, words
+
+MADE_BY = "Made by scripts/tables.py."
+
+
+def plain(name):
+    """The name of a frame or class in words."""
+    return name.removeprefix("want-").replace("-", " ")
+
+
+def constant(name):
+    """The name of a frame or class as a constant's."""
+    return name.removeprefix("want-").replace("-", "_").upper()
+
+
+def consed(items):
+    """A list as antt writes it."""
+    return " ∷ ".join([*items, "[]"])
+
+
+def stacked(items):
+    """A list as antt writes it, an item to a line."""
+    return "\n    ∷ ".join([*items, "[]"])
+
+
+# ---- paper: Open
+
+
+def opened():
+    files = "Bytes Words Tokens Constants Names Items Machine Grammar Line WellFormed Listing Store Calls Hex".split()
+    out = f"-- Bundles: to unfold one is to unfold all that its line names. For proofs that compute. ({MADE_BY})\n"
+    for f in files:
+        out += f"use Rattle.paper.specs.{f} as {f}′\n"
+    for f in files:
+        names = re.findall(r"^ *unfoldable pub (\S+)", text(f), re.M)
+        out += f"\nunfoldable pub all-{f} : Unit {{0}}\nunfolding " + " ".join(f"{f}′.{n}" for n in names) + f"\nall-{f} = tt\n"
+    return out + "\nunfoldable pub everything : Unit {0}\nunfolding " + " ".join("all-" + f for f in files) + "\neverything = tt\n"
+
+
+# ---- laws: Counts
+
+
+def counts():
+    return f"""-- How many there are. ({MADE_BY})
+use Prim.Native.Nat.{{ℕ}}
+
+-- classes of items
+abbrev pub class-count : ℕ
+class-count = {len(CLASSES)}
+
+-- frames
+abbrev pub frame-count : ℕ
+frame-count = {len(FRAMES)}
+"""
+
+
+# ---- promises: FrameTables, WordReads
+
+
+def frame_tables():
+    completion, head, after = completions(), heads(), follow()
+
+    def in_order(classes):
+        return consed(sorted(classes, key=lambda c: CLASSES.get(c, 999)))
+
+    used = {c for f in FRAMES for c in [*TAKES[f], *after[f], *completion[f], *head[f]]} - {"none"}
+    return f"""-- For each frame, in the order of their numbers, what the tests over the grammar need. ({MADE_BY})
+use Prim.Native.Nat.{{ℕ}}
+use mathlib.Core.List.{{List, [], _∷_}}
+use lib.ListN.{{getD}}
+use Rattle.paper.specs.Classes.{{{", ".join(c for c in CLASSES if c in used)}}}
+use Rattle.promises.specs.Viable.{{Info, none}}
+
+-- an entry of the table
+unfoldable pub info : List ℕ → List ℕ → Info
+info w h = record {{ word = w; heads = h }}
+
+-- a short word that completes it, and the classes that may then come first under it
+unfoldable pub infos : List Info
+infos =
+    {stacked(f"info ({consed(completion[f])}) ({in_order(head[f])})" for f in FRAMES)}
+
+-- the classes that it takes
+unfoldable pub firsts-table : List (List ℕ)
+firsts-table =
+    {stacked(f"({in_order(TAKES[f])})" for f in FRAMES)}
+
+-- the classes that may come once it is gone
+unfoldable pub follow-table : List (List ℕ)
+follow-table =
+    {stacked(f"({in_order(after[f])})" for f in FRAMES)}
+
+-- the classes that a frame takes
+unfoldable pub firsts : ℕ → List ℕ
+firsts f = getD firsts-table f []
+
+-- the classes that may follow a frame
+unfoldable pub follow : ℕ → List ℕ
+follow f = getD follow-table f []
+"""
+
+
+def word_reads():
+    read = "record { at = _; is = refl }"
+
+    def operator(word):
+        if word.class_ == "unfit":
+            return "(λ u. absurd u)"
+        if word.spelling in ("<", ">"):
+            return f"(λ u ys a p. {'less' if word.spelling == '<' else 'greater'}-reads ys a p)"
+        if word.class_ in ("function-of-string", "function-of-number", "string-function"):
+            return f"(λ u ys a p. opened _ _ _ _ ys a (λ s. {read}))"
+        return f"(λ u ys a p. {read})"
+
+    def statement(word):
+        return "(λ u. absurd u)" if word.class_ == "unfit" else f"(λ u ys p. {read})"
+
+    def each(one, table):
+        return "\n    ▸ ".join([*map(one, words(table)), "no-more"])
+
+    return f"""-- Each word and symbol of the tables, as it is listed, is read as itself: by computing, with any text after it. ({MADE_BY})
+use mathlib.Core.Path.{{refl}}
+use Rattle.paper.specs.Bytes.{{among}}
+use Rattle.paper.specs.Words.{{operators, statements}}
+use Rattle.paper.specs.Open.{{all-Bytes, all-Words, all-Tokens, all-Items, all-Listing}}
+use Rattle.promises.specs.WordReading.{{read-tokens, after, Each, no-more, _▸_, OperatorReads, opened, less-reads, greater-reads, after-statement, StatementReads}}
+
+-- operators and functions
+pub operators-read : Each OperatorReads operators
+unfolding OperatorReads after among all-Bytes all-Words all-Tokens all-Items all-Listing read-tokens
+operators-read =
+    {each(operator, "operators")}
+
+-- statement words
+pub statements-read : Each StatementReads statements
+unfolding StatementReads after-statement all-Bytes all-Words all-Tokens all-Items all-Listing read-tokens
+statements-read =
+    {each(statement, "statements")}
+"""
+
+
+# ---- tokens: the classes as constants
+
+
+def class_constants():
+    remarks = {m[2]: m[1] for m in re.finditer(r"^-- (.*)\nabbrev pub ([\w-]+) :", text("Classes"), re.M)}
+    out = f"// The classes of items, numbered as the definitions number them: all that the grammar tells apart. ({MADE_BY})\n"
+    for name, number in CLASSES.items():
+        said = remarks.get(name)
+        out += f"\n// {said[0].upper()}{said[1:]}.\n" if said else "\n"
+        out += f"pub const {constant(name)}: u8 = {number};\n"
+    return out
+
+
+# ---- tokens: the numbers of tokens as patterns
+
+
+def token_names(kind):
+    """The name of each constant of a kind of token, by its number."""
+    found = re.findall(rf"pub const (\w+): {kind}Token = {kind}Token\((0x\w+)\);", open("crates/tokens/src/lib.rt").read())
+    return {int(number, 16): name for name, number in found}
+
+
+OPERATORS = token_names("Operator")
+
+
+def token_numbers():
+    fit = [w.token for w in words("operators") if w.class_ != "unfit"]
+    placed = [w.token for w in words("placed-operators")]
+    kinds = {"Statement": [w.token for w in words("statements")], "Operator": [0x16, 0x9B, *fit, *placed], "Function": fit}
+    out = f"// The numbers of tokens for patterns, where a field of a constant cannot stand. ({MADE_BY})\n"
+    for kind, tokens in kinds.items():
+        out += f"\npub(crate) mod {kind.lower()} {{\n    use crate::{kind}Token;\n"
+        for number, name in sorted(token_names(kind).items()):
+            if number in tokens:
+                out += f"\n    pub(crate) const {name}: u8 = {kind}Token::{name}.0;\n"
+        out += "}\n"
+    return out
+
+
+# ---- grammar: the rows laid over one another, and the words of the acts
+
+LAYOUT = numbers(open("crates/grammar/specs/Tables.antt").read())
+FIRST_ACT, PAST_ROWS, NO_ENTRY = LAYOUT["first-act"], LAYOUT["past-rows"], LAYOUT["no-entry"]
+GIVEN = {"itself": 0, "for-strings": 1, "as-prefix": 2}
+
+
+def lay(refusing):
+    """Where the row of each frame begins, and the frame of each entry by its place. Long rows are laid first; the rows of frames that refuse what they do
+    not take begin at `refusing` or later, those of the others before."""
+    first, entries = {}, {}
+    for frame in sorted(FRAMES, key=lambda f: (-len(TAKES[f]), FRAMES[f])):
+        places = [CLASSES[c] for c in TAKES[frame]]
+        same = [f for f in first if TAKES[f] == TAKES[frame] and (f in EMPTY) == (frame in EMPTY)]
+        begin = 0 if frame in EMPTY else refusing
+        while begin in first.values() or any(begin + c in entries for c in places):
+            begin += 1
+        first[frame] = first[same[0]] if same else begin
+        entries.update({} if same else {begin + c: frame for c in places})
+    return first, entries
+
+
+def fits(refusing):
+    """Do all rows of frames that leave what they do not take begin before `refusing`."""
+    return all(lay(refusing)[0][f] < refusing for f in EMPTY)
+
+
+REFUSING = min(filter(fits, range(PAST_ROWS)), key=lambda n: max(lay(n)[1]))
+FIRSTS, ENTRIES = lay(REFUSING)
+PLACES = range(max(ENTRIES) + 1)
+assert max(PLACES) < PAST_ROWS and PAST_ROWS + len(CLASSES) < 256, "a place is a byte"
+assert len(CLASSES) <= NO_ENTRY >> 8 and len(FRAMES) <= 64, "too many classes or frames"
+
+# the acts, in the order of their bytes: (wants, gives)
+ACTS = sorted({act for row in TAKES.values() for act in row.values()}, key=lambda act: (len(act[0]), [FRAMES[w] for w in act[0]], GIVEN.get(act[1], act[1])))
+assert FIRST_ACT + len(ACTS) <= 0x7F, "an act is a byte that can be written"
+assert all(len(wants) <= 9 for wants, _ in ACTS), "a row may want nine frames: let one of them want the others"
+BYTES = {act: FIRST_ACT + i for i, act in enumerate(ACTS)}
+
+
+def written(byte):
+    """A byte as a string has it."""
+    return "\\\\" if byte == ord("\\") else chr(byte)
+
+
+def entry(place):
+    """The class and the act of an entry."""
+    frame = ENTRIES[place]
+    of = list(CLASSES)[place - FIRSTS[frame]]
+    return of, TAKES[frame][of]
+
+
+def with_n(frames):
+    """Names of frames with N in the place of a term and more terms, as the grammar writes them."""
+    return " ".join(frames).replace("want-operand want-more-terms", "N").split()
+
+
+def wanted(names):
+    """A list of such names as the grammar writes it."""
+    if not names:
+        return "[]"
+    rest = wanted(names[1:])
+    return f"{names[0]} ∷ {rest}" if names[0] != "N" else f"N ({rest})" if names[1:] else "N []"
+
+
+def act_word(act):
+    frames, gives = act
+    given = gives if gives in GIVEN else f"(put 0x{gives:02x})"
+    return f"word {given} ({wanted(with_n(frames))})" if frames else f"word {given} []"
+
+
+def row_tables():
+    listed = [str(FIRSTS[f]) for f in FRAMES]
+    lines = "\n    ∷ ".join(" ∷ ".join(listed[i : i + 12]) for i in range(0, len(listed), 12))
+    classes = "".join(written(48 + CLASSES[entry(p)[0]]) if p in ENTRIES else "~" for p in PLACES)
+    acts = "".join(written(BYTES[entry(p)[1]]) if p in ENTRIES else "." for p in PLACES)
+    words_of_acts = [act_word(act) for act in ACTS]
+    named = {name for word in words_of_acts for name in re.findall(r"[\w-]+", word)}
+    return f"""-- The rows of the grammar's frames, laid over one another, and the words of their acts. ({MADE_BY})
+use Prim.Native.Nat.{{ℕ}}
+use mathlib.Core.List.{{List, [], _∷_}}
+use Rattle.paper.specs.Bytes.{{bytes}}
+use Rattle.paper.specs.Frames.{{{", ".join(f for f in FRAMES if f in named)}}}
+use Rattle.paper.specs.Grammar.{{itself, for-strings, as-prefix, put, N}}
+use Rattle.grammar.specs.Tables.{{laid, word}}
+
+-- the rows of the frames that leave what they do not take begin before this place, those of the others here or later
+abbrev pub refusing : ℕ
+refusing = {REFUSING}
+
+-- where the row of each frame begins
+unfoldable pub firsts : List ℕ
+firsts =
+    {lines} ∷ []
+
+-- for each place the class, and what the frame whose row it is does with its items
+unfoldable pub entries : List ℕ
+entries =
+    laid
+    (bytes "{classes}")
+    (bytes "{acts}")
+
+-- the word of each act, in the order of their bytes
+unfoldable pub words : List ℕ
+words =
+    {stacked(words_of_acts)}
+"""
+
+
+def digits(frames):
+    """A 1 and two octal digits for each frame."""
+    return "0o1" + "".join(f"_{FRAMES[f]:02o}" for f in frames)
+
+
+def given_word(act):
+    """The name of the word of an act that gives another token, and the word."""
+    frames, gives = act
+    name = "_THEN_".join([OPERATORS[gives]] + ["_".join(map(constant, with_n(frames)))] * bool(frames))
+    return name, f"{digits(frames)}_00", f"OperatorToken::{OPERATORS[gives]}.0 as u64"
+
+
+def word_arm(act):
+    """What `word_of` says of an act, and in words what it gives and wants."""
+    frames, gives = act
+    if gives in GIVEN:
+        said = ", ".join([plain(gives)] * (gives != "itself") + [plain(f) for f in with_n(frames)]) or "nothing"
+        return f"{digits(frames)}_{GIVEN[gives]:02o}, // {said}"
+    return f"{given_word(act)[0]},"
+
+
+def code():
+    firsts = "".join(f"        {FRAMES[f]} => {FIRSTS[f]}, // {plain(f)}\n" for f in FRAMES)
+    entries = ""
+    for p in sorted(ENTRIES):
+        of, act = entry(p)
+        entries += f"        {p} => 0x{CLASSES[of]:02x}_{BYTES[act]:02x}, // {plain(ENTRIES[p])}: {plain(of)}\n"
+    givens = ""
+    for name, frames, token in (given_word(act) for act in ACTS if act[1] not in GIVEN):
+        line = f"const {name}: u64 = {frames} + {token};"
+        givens += "\n" + (line if len(line) <= 100 else line.replace(" + ", "\n    + ")) + "\n"
+    arms = "".join(f"        b'{written(BYTES[act])}' => {word_arm(act)}\n" for act in ACTS)
+    return f"""// The rows of the grammar's frames, laid over one another, and the words of their acts. ({MADE_BY})
+use tokens::OperatorToken;
+ghost use mathlib.Core.Path.{{_≡_}};
+ghost use Prim.Native.Nat.{{_-_, _≤_}};
+ghost use lib.ListN.{{getD}};
+ghost use Rattle.grammar.specs.Tables.{{no-entry, past-rows, first-act}};
+ghost use Rattle.grammar.specs.Rows.{{firsts, entries, words}};
+
+// The rows of the frames that leave what they do not take begin before this place, those of the others here or later.
+pub(crate) const REFUSING: u8 = {REFUSING};
+
+// Where the row of a frame begins among the entries. The entry for a class is as many places further.
+pub(crate) fn first_of(frame: u8) -> u8
+    ensures {{ λ r. ⌜ r ≡ getD firsts frame past-rows ⌝ }}
+{{
+    match frame {{
+{firsts}        _ => {PAST_ROWS},
+    }}
+}}
+
+// The entry at a place: a class, and what the frame whose row this is does with its items. The rows of the frames lie over one another, so that an
+// entry of one stands where others have none. It is a `match`, since a table that is borrowed is laid down anew in each call.
+pub(crate) fn entry_at(place: u8) -> u16
+    ensures {{ λ r. ⌜ r ≡ getD entries place no-entry ⌝ }}
+{{
+    match place {{
+{entries}        _ => 0x{NO_ENTRY >> 8:02x}_{NO_ENTRY & 0xFF:02x},
+    }}
+}}
+
+// The words that give a token of the grammar's own, and then want these frames.
+{givens.lstrip()}
+// The word of an act: a 1, then two octal digits for each frame that it wants, from the top of the stack down, then two for what it gives: 0 for the
+// item's own token, 1 for the one for strings, 2 for the prefix one, any other number for that token.
+pub(crate) fn word_of(act: u8) -> u64
+    requires {{ ⌜ first-act ≤ act ⌝ }}
+    ensures {{ λ r. ⌜ r ≡ getD words (act - first-act) 0 ⌝ }}
+{{
+    match act {{
+{arms}        _ => 0,
+    }}
+}}
+"""
+
+
+def proof(function, value, count, otherwise, definitions, unfolded=""):
+    """The proof of a `match` that is a table: the value at each arm's key, and at any other number."""
+    name = function.replace("_", "-")
+    arms = "".join(f"    (λ c. here (c .match .keys{i + 1}))\n" for i in range(count))
+    return f"""-- Each arm of `{function}` says what the table says at its key. ({MADE_BY})
+use Prim.Native.Nat.{{ℕ{", _-_" if " - " in value("n") else ""}}}
+use mathlib.Core.Path.{{_≡_, sym, ap}}
+use lib.ListN.{{getD}}
+{definitions}
+use Rattle.grammar.proofs.Places.{{places, {otherwise.split()[0]}}}
+use Rattle.grammar.proofs.rows.{function}.Statement.{{statement}}
+use Rattle.grammar.proofs.rows.{function}.Tie as tie
+
+here : {{x k : ℕ}} → x ≡ k → {value("k")} ≡ {value("x")}
+here e = sym (ap (λ n. {value("n")}) e)
+
+pub {name}-spec : {{M : Type 1}} → statement M
+unfolding {unfolded} places
+{name}-spec =
+    tie.close
+    (tie.spec
+{arms}    (λ c. {otherwise} (c .match .rest)))
+"""
+
+
+def proofs():
+    tables = "use Rattle.grammar.specs.Tables."
+    rows = "use Rattle.grammar.specs.Rows."
+    return {
+        "first_of": proof(
+            "first_of",
+            lambda n: f"getD firsts {n} past-rows",
+            len(FRAMES),
+            "at-none past-rows firsts (c .before .args .frame)",
+            f"{tables}{{past-rows}}\n{rows}{{firsts}}",
+            "firsts",
+        ),
+        "entry_at": proof(
+            "entry_at",
+            lambda n: f"getD entries {n} no-entry",
+            len(ENTRIES),
+            "at-none no-entry entries (c .before .args .place)",
+            f"use Rattle.paper.specs.Open.{{all-Bytes}}\n{tables}{{no-entry, laid}}\n{rows}{{entries}}",
+            "all-Bytes laid entries",
+        ),
+        "word_of": proof(
+            "word_of",
+            lambda n: f"getD words ({n} - first-act) 0",
+            len(ACTS),
+            "at-none-from first-act 0 words (c .before .args .act) (c .before .pre)",
+            f"use Rattle.paper.specs.Grammar.{{N}}\n{tables}{{first-act, code, packed, word}}\n{rows}{{words}}",
+            "N code packed word words",
+        ),
+    }
+
+
+def main():
+    made = {
+        "crates/paper/specs/Open.antt": opened(),
+        "crates/laws/specs/Counts.antt": counts(),
+        "crates/promises/specs/FrameTables.antt": frame_tables(),
+        "crates/promises/specs/WordReads.antt": word_reads(),
+        "crates/tokens/src/class.rt": class_constants(),
+        "crates/tokens/src/number.rt": token_numbers(),
+        "crates/grammar/specs/Rows.antt": row_tables(),
+        "crates/grammar/src/rows.rt": code(),
+        **{f"crates/grammar/proofs/rows/{function}/Proof.antt": text for function, text in proofs().items()},
+    }
+    other = [path for path, made_text in made.items() if not os.path.exists(path) or open(path).read() != made_text]
+    if sys.argv[1:] == ["--check"]:
+        for path in other:
+            print(path, "is not what scripts/tables.py writes")
+        sys.exit(1 if other else 0)
+    for path in other:
+        os.makedirs(os.path.dirname(path), exist_ok=True)
+        open(path, "w").write(made[path])
+        print(path)
+
+
+main()
