@@ -1,5 +1,5 @@
--- The lesser of two numbers, and the number that decimal digits write, digit by digit.
-use Prim.Native.Nat.{ℕ, _+_, _-_, _*_, _≤_, _<_}
+-- The number that decimal digits write, digit by digit.
+use Prim.Native.Nat.{ℕ, _+_, _-_, _*_, _≤_, _<_, min}
 use native.Mathlib.Numerals.{add-one}
 use native.Mathlib.Omega.{arith}
 use mathlib.Core.Path.{_≡_, refl, sym, _∙_}
@@ -11,13 +11,9 @@ use lib.Seq.{drop-cons}
 use borrow.Author.Tests.{ltb-true, ltb-false}
 use Rattle.paper.specs.Constants.{value}
 
--- the lesser of two numbers: what is taken off the first is what it has more than the second
-abbrev pub lesser : ℕ → ℕ → ℕ
-lesser a b = a - (a - b)
-
 -- a number below 2 ^ 63, and 2 ^ 63 for any other
 abbrev pub capped : ℕ → ℕ
-capped n = lesser n 9223372036854775808
+capped n = min n 9223372036854775808
 
 -- one digit more of a number that is capped once it is great
 abbrev pub With-digit : ℕ → ℕ → ℕ → Type 0

@@ -1,18 +1,18 @@
 // Total helpers on numbers and byte slices: the lesser of two numbers, one byte read or written, bytes copied, tests of a byte, the end of a run
 // of bytes, and the number that digits write.
 ghost use mathlib.Core.Path.{_≡_};
-ghost use Prim.Native.Nat.{_+_, _-_, _≤_};
+ghost use Prim.Native.Nat.{_+_, _-_, _≤_, min};
 ghost use lib.ListN.{length, getD, set, take, drop};
 ghost use lib.Seq.{sets};
 ghost use Rattle.paper.specs.Bytes.{run, digit?, letter?, letter-or-digit?};
 ghost use Rattle.paper.specs.Items.{string-byte?};
 ghost use Rattle.paper.specs.Constants.{value};
-ghost use Rattle.buffers.specs.Numbers.{lesser, capped, With-digit};
+ghost use Rattle.buffers.specs.Numbers.{capped, With-digit};
 ghost use Rattle.buffers.specs.Runs.{test-of};
 
 // The lesser of two numbers.
 pub fn lesser(a: usize, b: usize) -> usize
-    ensures { λ r. ⌜ r ≡ lesser a b ⌝ }
+    ensures { λ r. ⌜ r ≡ min a b ⌝ }
 {
     if a <= b { a } else { b }
 }
@@ -35,7 +35,7 @@ pub fn put(out: &mut [u8], at: usize, b: u8)
 
 // How many of `size` bytes fit into `length` bytes from `at` on.
 fn fitting(length: usize, at: usize, size: usize) -> usize
-    ensures { λ r. ⌜ r ≡ lesser size (length - at) ⌝ }
+    ensures { λ r. ⌜ r ≡ min size (length - at) ⌝ }
 {
     if at < length {
         lesser(size, length - at)

@@ -1,8 +1,6 @@
 -- `tokens::between` meets its contract.
-use native.Mathlib.Omega.{arith}
 use borrow.Author.Needs.{needs}
-use lib.ListN.{length}
-use Rattle.tokens.proofs.Cuts.{lesser-bounds, cut-same}
+use Rattle.tokens.proofs.Cuts.{cut-same}
 use Rattle.tokens.proofs.between.Statement.{statement}
 use Rattle.tokens.proofs.between.Tie as tie
 
@@ -12,7 +10,7 @@ between-spec =
     (tie.spec
     (λ c κs. search needs)
     (λ c κs. search needs)
-    (λ c. omega (arith, lesser-bounds (c .before .before .before .args .from) (c .before .lesser .result) (c .lesser2 .ensures)))
-    (λ c. omega (arith, lesser-bounds (c .before .before .before .args .from) (c .before .lesser .result) (c .lesser2 .ensures)))
-    (λ c. omega (arith, lesser-bounds (c .before .before .before .args .end) (length (c .before .before .before .args .s .now)) (c .before .lesser .ensures)))
+    (λ c. search needs)
+    (λ c. search needs)
+    (λ c. search needs)
     (λ c. cut-same (c .before .before .before .before .args .s .now) (c .before .before .before .before .args .from) (c .before .before .before .before .args .end) (c .before .before .lesser .ensures) (c .before .lesser2 .ensures)))
