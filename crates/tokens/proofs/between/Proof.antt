@@ -1,4 +1,3 @@
--- `tokens::between` meets its contract.
 use borrow.Author.Needs.{needs}
 use Rattle.tokens.proofs.Cuts.{cut-same}
 use Rattle.tokens.proofs.between.Statement.{statement}

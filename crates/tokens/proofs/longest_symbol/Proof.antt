@@ -1,4 +1,3 @@
--- `tokens::longest_symbol` meets its contract.
 use mathlib.Core.List.{[], _∷_}
 use borrow.Author.Needs.{needs}
 use Rattle.paper.specs.Words.{operators, find-word}

@@ -1,6 +1,6 @@
 -- `last` meets its contract. The invariant: without useless zeros, the digits up to `end` are all.
 use native.Mathlib.Omega.{arith}
-use Prim.Native.Nat.{_-_, _≤_}
+use Prim.Native.Nat.{_≤_}
 use mathlib.Core.Path.{_≡_}
 use lib.ListN.{drop}
 use lib.Seq.{slice}
