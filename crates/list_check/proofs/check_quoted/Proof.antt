@@ -26,6 +26,6 @@ check-quoted-spec =
     (λ c. search needs)
     (λ c. search needs)
     (λ c. search needs)
-    (λ c. λ ns nd end e. pass-one (record { numbered = nd; inside = c .before .before .before .before .before .before .before .before .before .before .before .before .pre .0; stands = e }) (string (take (c .before .before .before .before .before .before .before .before .before .before .before .before .args .size) (drop 2 (drop (c .before .before .before .before .before .before .before .before .before .before .before .before .args .at) (c .before .before .before .before .before .before .before .before .before .before .before .before .args .line .now))))) (a-string-plain _) refl refl (refl) (c .before .before .before .before .before .take-item .ensures) _ _ (c .before .d .given .1) (string-holds ns (c .before .before .before .before .before .before .before .before .before .before .before .before .args .line .now) (c .before .before .before .before .before .before .before .before .before .before .before .before .args .at) _ _ (c .before .before .before .before .before .before .before .before .before .before .before .before .pre .0) (c .before .before .before .before .before .before .before .before .run-end .ensures .0) (c .before .before .before .before .before .before .before .before .before .if1 .left) (c .before .before .before .before .before .before .before .if2 .left)) (c .before .before .before .before .before .before .before .before .before .if1 .left) (omega arith))
+    (λ c. let a = c .before .before .before .before .before .before .before .before .before .before .before .before .args in λ ns nd end e. pass-one (record { numbered = nd; inside = c .before .before .before .before .before .before .before .before .before .before .before .before .pre .0; stands = e }) (string (take (a .size) (drop 2 (drop (a .at) (a .line .now))))) (a-string-plain _) refl refl (refl) (c .before .before .before .before .before .take-item .ensures) _ _ (c .before .d .given .1) (string-holds ns (a .line .now) (a .at) _ _ (c .before .before .before .before .before .before .before .before .before .before .before .before .pre .0) (c .before .before .before .before .before .before .before .before .run-end .ensures .0) (c .before .before .before .before .before .before .before .before .before .if1 .left) (c .before .before .before .before .before .before .before .if2 .left)) (c .before .before .before .before .before .before .before .before .before .if1 .left) (omega arith))
     (λ c. search needs)
-    (λ c. λ ns nd end e. fail-one (record { numbered = nd; inside = c .before .before .before .before .before .before .before .before .before .before .before .pre .0; stands = e }) (string (take (c .before .before .before .before .before .before .before .before .before .before .before .args .size) (drop 2 (drop (c .before .before .before .before .before .before .before .before .before .before .before .args .at) (c .before .before .before .before .before .before .before .before .before .before .before .args .line .now))))) (a-string-plain _) refl refl (refl) (c .before .before .before .before .take-item .ensures) (c .enum-told .given .1)))
+    (λ c. let a = c .before .before .before .before .before .before .before .before .before .before .before .args in λ ns nd end e. fail-one (record { numbered = nd; inside = c .before .before .before .before .before .before .before .before .before .before .before .pre .0; stands = e }) (string (take (a .size) (drop 2 (drop (a .at) (a .line .now))))) (a-string-plain _) refl refl (refl) (c .before .before .before .before .take-item .ensures) (c .enum-told .given .1)))

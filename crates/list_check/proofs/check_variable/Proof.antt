@@ -19,11 +19,11 @@ check-variable-spec =
     tie.close
     (tie.spec
     (λ c κs. search needs)
-    (λ c. λ l at h end e. fail-holds (record { numbered = (sound-numbered (c .before .before .before .before .before .args .names .now) (c .before .before .before .before .before .args .size) (c .before .before .before .before .before .pre .1)); inside = h; stands = e }) (λ q. not-there (c .before .before .before .before .before .args .names .now) (c .before .before .before .before .before .args .size) (c .before .before .before .before .before .pre .1) (c .before .before .name-at .ensures) (c .if1 .taken) q))
-    (λ c κs. (omega arith, omega (arith, c .before .before .before .name-at .ensures .class, variable-low (getD (names-in (take (c .before .before .before .before .before .before .args .size) (c .before .before .before .before .before .before .args .names .now))) (c .before .before .before .before .before .before .args .number) []))))
+    (λ c. let a = c .before .before .before .before .before .args in λ l at h end e. fail-holds (record { numbered = (sound-numbered (a .names .now) (a .size) (c .before .before .before .before .before .pre .1)); inside = h; stands = e }) (λ q. not-there (a .names .now) (a .size) (c .before .before .before .before .before .pre .1) (c .before .before .name-at .ensures) (c .if1 .taken) q))
+    (λ c κs. let a = c .before .before .before .before .before .before .args in (omega arith, omega (arith, c .before .before .before .name-at .ensures .class, variable-low (getD (names-in (take (a .size) (a .names .now))) (a .number) []))))
     (λ c. search needs)
     (λ c. search needs)
     (λ c. search needs)
-    (λ c. λ l at h end e. pass-one (record { numbered = (sound-numbered (c .before .before .before .before .before .before .before .before .before .before .before .before .args .names .now) (c .before .before .before .before .before .before .before .before .before .before .before .before .args .size) (c .before .before .before .before .before .before .before .before .before .before .before .before .pre .1)); inside = h; stands = e }) (variable (getD (names-in (take (c .before .before .before .before .before .before .before .before .before .before .before .before .args .size) (c .before .before .before .before .before .before .before .before .before .before .before .before .args .names .now))) (c .before .before .before .before .before .before .before .before .before .before .before .before .args .number) [])) (a-variable-plain _) refl refl (c .before .before .before .before .before .before .before .before .before .name-at .ensures .class) (c .before .before .before .before .before .take-item .ensures) _ _ (c .before .d .given .1) (there (c .before .before .before .before .before .before .before .before .before .before .before .before .args .names .now) (c .before .before .before .before .before .before .before .before .before .before .before .before .args .size) (c .before .before .before .before .before .before .before .before .before .before .before .before .pre .1) (c .before .before .before .before .before .before .before .before .before .name-at .ensures) (c .before .before .before .before .before .before .before .if1 .left)) (omega (arith, h)) (omega arith))
+    (λ c. let a = c .before .before .before .before .before .before .before .before .before .before .before .before .args in λ l at h end e. pass-one (record { numbered = (sound-numbered (a .names .now) (a .size) (c .before .before .before .before .before .before .before .before .before .before .before .before .pre .1)); inside = h; stands = e }) (variable (getD (names-in (take (a .size) (a .names .now))) (a .number) [])) (a-variable-plain _) refl refl (c .before .before .before .before .before .before .before .before .before .name-at .ensures .class) (c .before .before .before .before .before .take-item .ensures) _ _ (c .before .d .given .1) (there (a .names .now) (a .size) (c .before .before .before .before .before .before .before .before .before .before .before .before .pre .1) (c .before .before .before .before .before .before .before .before .before .name-at .ensures) (c .before .before .before .before .before .before .before .if1 .left)) (omega (arith, h)) (omega arith))
     (λ c. search needs)
-    (λ c. λ l at h end e. fail-one (record { numbered = (sound-numbered (c .before .before .before .before .before .before .before .before .before .before .before .args .names .now) (c .before .before .before .before .before .before .before .before .before .before .before .args .size) (c .before .before .before .before .before .before .before .before .before .before .before .pre .1)); inside = h; stands = e }) (variable (getD (names-in (take (c .before .before .before .before .before .before .before .before .before .before .before .args .size) (c .before .before .before .before .before .before .before .before .before .before .before .args .names .now))) (c .before .before .before .before .before .before .before .before .before .before .before .args .number) [])) (a-variable-plain _) refl refl (c .before .before .before .before .before .before .before .before .name-at .ensures .class) (c .before .before .before .before .take-item .ensures) (c .enum-told .given .1)))
+    (λ c. let a = c .before .before .before .before .before .before .before .before .before .before .before .args in λ l at h end e. fail-one (record { numbered = (sound-numbered (a .names .now) (a .size) (c .before .before .before .before .before .before .before .before .before .before .before .pre .1)); inside = h; stands = e }) (variable (getD (names-in (take (a .size) (a .names .now))) (a .number) [])) (a-variable-plain _) refl refl (c .before .before .before .before .before .before .before .before .name-at .ensures .class) (c .before .before .before .before .take-item .ensures) (c .enum-told .given .1)))

@@ -22,6 +22,6 @@ check-word-spec =
     (λ c. search needs)
     (λ c. search needs)
     (λ c. search needs)
-    (λ c. λ ns nd end e. pass-one (record { numbered = nd; inside = c .before .before .before .before .before .before .before .before .before .before .before .pre .0; stands = e }) (the-word (c .before .before .before .before .before .before .before .before .before .before .before .args .token)) (a-statement-plain (c .before .before .before .before .before .before .before .before .before .before .before .args .token)) refl refl (c .before .before .before .before .before .before .statement-class .ensures) (c .before .before .before .before .before .take-item .ensures) _ _ (c .before .d .given .1) (omega (arith, length-drop (c .before .before .before .before .before .before .before .before .before .before .before .args .at) (c .before .before .before .before .before .before .before .before .before .before .before .args .line .now), c .before .before .before .before .before .before .before .before .if1 .left)) (omega (arith, c .before .before .before .before .before .before .before .before .if1 .left)) (omega arith))
+    (λ c. let a = c .before .before .before .before .before .before .before .before .before .before .before .args in λ ns nd end e. pass-one (record { numbered = nd; inside = c .before .before .before .before .before .before .before .before .before .before .before .pre .0; stands = e }) (the-word (a .token)) (a-statement-plain (a .token)) refl refl (c .before .before .before .before .before .before .statement-class .ensures) (c .before .before .before .before .before .take-item .ensures) _ _ (c .before .d .given .1) (omega (arith, length-drop (a .at) (a .line .now), c .before .before .before .before .before .before .before .before .if1 .left)) (omega (arith, c .before .before .before .before .before .before .before .before .if1 .left)) (omega arith))
     (λ c. search needs)
     (λ c. λ ns nd end e. fail-one (record { numbered = nd; inside = c .before .before .before .before .before .before .before .before .before .before .pre .0; stands = e }) (the-word (c .before .before .before .before .before .before .before .before .before .before .args .token)) (a-statement-plain (c .before .before .before .before .before .before .before .before .before .before .args .token)) refl refl (c .before .before .before .before .before .statement-class .ensures) (c .before .before .before .before .take-item .ensures) (c .enum-told .given .1)))

@@ -11,11 +11,11 @@ piece-at-spec =
     tie.close
     (tie.spec
     (λ c κs. search needs)
-    (λ c. c .first-piece .ensures ∙ ap (λ e. piece-at (c .before .before .before .args .at) e (drop (c .before .before .before .args .at) (c .before .before .before .args .line .now))) (c .before .if1 .taken))
+    (λ c. let a = c .before .before .before .args in c .first-piece .ensures ∙ ap (λ e. piece-at (a .at) e (drop (a .at) (a .line .now))) (c .before .if1 .taken))
     (λ c. search needs)
-    (λ c. variable-read (c .before .before .before .before .args .line .now) (c .before .before .before .before .args .at) (c .before .before .before .before .args .end) (c .before .before .if1 .left) (c .if2 .taken))
-    (λ c. constant-read (c .before .before .before .before .before .before .args .line .now) (c .before .before .before .before .before .before .args .at) (c .before .before .before .before .before .before .args .end) (c .before .before .before .before .if1 .left) (c .before .before .if2 .left) (c .if3 .taken))
+    (λ c. let a = c .before .before .before .before .args in variable-read (a .line .now) (a .at) (a .end) (c .before .before .if1 .left) (c .if2 .taken))
+    (λ c. let a = c .before .before .before .before .before .before .args in constant-read (a .line .now) (a .at) (a .end) (c .before .before .before .before .if1 .left) (c .before .before .if2 .left) (c .if3 .taken))
     (λ c. search needs)
     (λ c κs. search needs)
-    (λ c. quoted-read (c .before .before .before .before .before .before .before .before .before .args .line .now) (c .before .before .before .before .before .before .before .before .before .args .at) (c .before .before .before .before .before .before .before .before .before .args .end) (c .before .before .before .before .before .before .before .if1 .left) (c .before .before .before .before .before .if2 .left) (c .before .before .before .if3 .left) (c .before .if4 .taken) (c .byte-at .result) (c .byte-at .ensures))
-    (λ c. operator-read (c .before .before .before .before .before .before .before .before .args .line .now) (c .before .before .before .before .before .before .before .before .args .at) (c .before .before .before .before .before .before .before .before .args .end) (c .before .before .before .before .before .before .if1 .left) (c .before .before .before .before .if2 .left) (c .before .before .if3 .left) (c .if4 .left)))
+    (λ c. let a = c .before .before .before .before .before .before .before .before .before .args in quoted-read (a .line .now) (a .at) (a .end) (c .before .before .before .before .before .before .before .if1 .left) (c .before .before .before .before .before .if2 .left) (c .before .before .before .if3 .left) (c .before .if4 .taken) (c .byte-at .result) (c .byte-at .ensures))
+    (λ c. let a = c .before .before .before .before .before .before .before .before .args in operator-read (a .line .now) (a .at) (a .end) (c .before .before .before .before .before .before .if1 .left) (c .before .before .before .before .if2 .left) (c .before .before .if3 .left) (c .if4 .left)))

@@ -15,4 +15,4 @@ size-between-spec =
     (λ c. search needs)
     (λ c. search needs)
     (λ c. λ s e. size-whole s (c .before .before .before .args .from) (c .before .before .before .args .end) (omega (arith, e, c .if3 .taken)))
-    (λ c. λ s e. ap (λ (k : ℕ). k - c .before .before .before .args .from) (sym e) ∙ size-cut s (c .before .before .before .args .from) (c .before .before .before .args .end) (omega (arith, e, c .if3 .left))))
+    (λ c. let a = c .before .before .before .args in λ s e. ap (λ (k : ℕ). k - a .from) (sym e) ∙ size-cut s (a .from) (a .end) (omega (arith, e, c .if3 .left))))

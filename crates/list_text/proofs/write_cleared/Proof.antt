@@ -28,6 +28,6 @@ write-cleared-spec =
     (λ c κs. search needs)
     (λ c. omega arith)
     (λ c. omega arith)
-    (λ c. (omega arith, c .before .before .put .kept .0 ∙ c .before .before .before .before .before .before .before .loop .inv .1, cleared-more (c .before .before .before .before .before .before .before .before .before .before .args .out .now) (c .before .before .before .before .before .before .before .before .before .before .args .n) (c .before .before .before .before .before .before .before .before .before .before .args .src .now) (c .before .before .before .before .before .before .before .loop .i) (c .before .before .before .clear .result) (c .before .before .before .before .before .before .before .loop .out) _ (c .before .before .before .before .before .before .loop-test .taken) (c .before .before .before .before .before .before .before .loop .inv .2) (c .before .before .before .clear .ensures) (c .before .before .put .ensures)))
+    (λ c. let l = c .before .before .before .before .before .before .before .loop in let a = c .before .before .before .before .before .before .before .before .before .before .args in (omega arith, c .before .before .put .kept .0 ∙ l .inv .1, cleared-more (a .out .now) (a .n) (a .src .now) (l .i) (c .before .before .before .clear .result) (l .out) _ (c .before .before .before .before .before .before .loop-test .taken) (l .inv .2) (c .before .before .before .clear .ensures) (c .before .before .put .ensures)))
     (λ c. c .before .loop .inv .1)
-    (λ c. cleared-all (c .before .before .before .before .args .out .now) (c .before .before .before .before .args .n) (c .before .before .before .before .args .src .now) (c .before .loop .i) (c .before .loop .out) (c .loop-test .left) (c .before .loop .inv .2)))
+    (λ c. let a = c .before .before .before .before .args in cleared-all (a .out .now) (a .n) (a .src .now) (c .before .loop .i) (c .before .loop .out) (c .loop-test .left) (c .before .loop .inv .2)))

@@ -18,4 +18,4 @@ write-text-spec =
     (λ c κs. search needs)
     (λ c. omega (arith, short-text (c .before .before .before .before .before .before .before .before .before .before .before .before .args .token) (c .before .before .before .before .before .before .before .write-word .ensures)))
     (λ c. search needs)
-    (λ c. raw-text (c .before .before .before .before .before .before .before .before .before .before .before .before .args .token) (c .before .before .before .before .before .before .before .before .before .before .before .before .args .n) (c .before .before .before .before .before .before .before .before .before .before .before .before .args .at) (c .before .before .before .before .before .before .before .before .before .before .before .before .args .size) (c .before .before .before .before .before .before .before .write-word .result) (c .before .before .before .before .before .before .before .before .before .before .before .before .args .line .now) (c .before .before .before .before .before .before .before .before .before .before .before .before .pre .0) (c .before .before .before .before .before .before .before .write-word .ensures) (c .before .before .copy .ensures)))
+    (λ c. let a = c .before .before .before .before .before .before .before .before .before .before .before .before .args in raw-text (a .token) (a .n) (a .at) (a .size) (c .before .before .before .before .before .before .before .write-word .result) (a .line .now) (c .before .before .before .before .before .before .before .before .before .before .before .before .pre .0) (c .before .before .before .before .before .before .before .write-word .ensures) (c .before .before .copy .ensures)))

@@ -14,7 +14,7 @@ find-spec =
     tie.close
     (tie.spec
     (λ c κs. search needs)
-    (λ c. found-over (c .before .before .before .args .store .now) (c .before .before .before .args .used) (c .before .before .before .args .number) (omega (arith, c .before .room-of .ensures)))
+    (λ c. let a = c .before .before .before .args in found-over (a .store .now) (a .used) (a .number) (omega (arith, c .before .room-of .ensures)))
     (λ c. let args = c .before .before .before .before .args in
     sym (length-take-le (args .used) (args .store .now) (omega (arith, c .before .before .room-of .ensures, room-lent (args .store .now)))))
     (λ c κs. search needs)

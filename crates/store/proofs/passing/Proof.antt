@@ -10,11 +10,11 @@ passing-spec =
     tie.close
     (tie.spec
     (λ c κs. search needs)
-    (λ c. size-short (c .before .before .before .args .least) (c .before .before .before .args .number) (c .before .before .before .args .rest .now) (omega (arith, c .before .size .ensures)))
-    (λ c. size-cut (c .before .before .before .before .args .least) (c .before .before .before .before .args .number) (c .before .before .before .before .args .rest .now) (omega (arith, c .before .before .size .ensures)))
+    (λ c. let a = c .before .before .before .args in size-short (a .least) (a .number) (a .rest .now) (omega (arith, c .before .size .ensures)))
+    (λ c. let a = c .before .before .before .before .args in size-cut (a .least) (a .number) (a .rest .now) (omega (arith, c .before .before .size .ensures)))
     (λ c κs. search needs)
-    (λ c. size-great (c .before .before .before .before .before .before .args .least) (c .before .before .before .before .before .before .args .number) (c .before .before .before .before .before .before .args .rest .now) (omega (arith, c .before .before .before .before .size .ensures)) (omega (arith, c .before .number .ensures)))
-    (λ c. size-low (c .before .before .before .before .before .before .before .args .least) (c .before .before .before .before .before .before .before .args .number) (c .before .before .before .before .before .before .before .args .rest .now) (omega (arith, c .before .before .before .before .before .size .ensures)) (omega (arith, c .before .before .number .ensures)))
-    (λ c. size-high (c .before .before .before .before .before .before .before .before .args .least) (c .before .before .before .before .before .before .before .before .args .number) (c .before .before .before .before .before .before .before .before .args .rest .now) (omega (arith, c .before .before .before .before .before .before .size .ensures)) (omega (arith, c .before .before .before .number .ensures)))
+    (λ c. let a = c .before .before .before .before .before .before .args in size-great (a .least) (a .number) (a .rest .now) (omega (arith, c .before .before .before .before .size .ensures)) (omega (arith, c .before .number .ensures)))
+    (λ c. let a = c .before .before .before .before .before .before .before .args in size-low (a .least) (a .number) (a .rest .now) (omega (arith, c .before .before .before .before .before .size .ensures)) (omega (arith, c .before .before .number .ensures)))
+    (λ c. let a = c .before .before .before .before .before .before .before .before .args in size-high (a .least) (a .number) (a .rest .now) (omega (arith, c .before .before .before .before .before .before .size .ensures)) (omega (arith, c .before .before .before .number .ensures)))
     (λ c. let args = c .before .before .before .before .before .before .before .before .args in
     c .before .before .before .before .before .before .size .ensures ∙ size-good (args .least) (args .number) (args .rest .now) (omega (arith, c .before .before .before .before .before .before .size .ensures)) (omega (arith, c .before .before .before .before .before .before .size .ensures)) (omega (arith, c .before .before .before .number .ensures)) (omega (arith, c .before .before .before .number .ensures)) (omega (arith, c .before .before .before .number .ensures))))

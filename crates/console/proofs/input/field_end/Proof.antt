@@ -24,8 +24,8 @@ field-end-spec =
     μ-loop
     (λ c. (omega arith, omega (arith, c .pre), refl))
     (λ c. search needs)
-    (λ c. (omega (arith, c .before .before .before .loop .inv .2, run-off (unmarked (c .before .before .before .before .args .mark)) (c .before .before .before .before .args .line .now) (c .before .before .before .loop .i) (c .before .before .loop-test .taken) (at-mark (c .before .before .before .before .args .mark) _ (c .if1 .taken))), c .before .before .before .loop .inv .0, c .before .before .before .loop .inv .1))
+    (λ c. let l = c .before .before .before .loop in let a = c .before .before .before .before .args in (omega (arith, l .inv .2, run-off (unmarked (a .mark)) (a .line .now) (l .i) (c .before .before .loop-test .taken) (at-mark (a .mark) _ (c .if1 .taken))), l .inv .0, l .inv .1))
     (λ c. search needs)
     (λ c. search needs)
-    (λ c. (omega arith, omega arith, omega (arith, c .before .before .before .loop .inv .2, run-on (unmarked (c .before .before .before .before .args .mark)) (c .before .before .before .before .args .line .now) (c .before .before .before .loop .i) (c .before .before .loop-test .taken) (off-mark (c .before .before .before .before .args .mark) _ (c .if1 .left)))))
+    (λ c. let a = c .before .before .before .before .args in (omega arith, omega arith, omega (arith, c .before .before .before .loop .inv .2, run-on (unmarked (a .mark)) (a .line .now) (c .before .before .before .loop .i) (c .before .before .loop-test .taken) (off-mark (a .mark) _ (c .if1 .left)))))
     (λ c. (omega (arith, c .before .loop .inv .2, run-past (unmarked (c .before .before .args .mark)) (c .before .before .args .line .now) (c .before .loop .i) (c .loop-test .left)), c .before .loop .inv .0, c .before .loop .inv .1)))

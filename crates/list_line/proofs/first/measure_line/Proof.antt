@@ -12,12 +12,12 @@ pub measure-line-spec : {M : Type 1} → statement M
 measure-line-spec =
     tie.close
     (tie.spec
-    (λ c. short-line (names-in (take (c .before .before .before .args .size) (c .before .before .before .args .names .now))) (c .before .before .before .args .line .now) (c .before .before .before .args .room) (c .if1 .taken))
+    (λ c. let a = c .before .before .before .args in short-line (names-in (take (a .size) (a .names .now))) (a .line .now) (a .room) (c .if1 .taken))
     (λ c. search needs)
     (λ c. omega (arith, c .shared-slice-known3 .given 2))
-    (λ c. wrong-length (names-in (take (c .before .before .before .before .before .args .size) (c .before .before .before .before .before .args .names .now))) (c .before .before .before .before .before .args .line .now) (c .before .before .before .before .before .args .room) (c .if2 .taken))
+    (λ c. let a = c .before .before .before .before .before .args in wrong-length (names-in (take (a .size) (a .names .now))) (a .line .now) (a .room) (c .if2 .taken))
     (λ c. search needs)
-    (λ c. high-number (names-in (take (c .before .before .before .before .before .before .before .args .size) (c .before .before .before .before .before .before .before .args .names .now))) (c .before .before .before .before .before .before .before .args .line .now) (c .before .before .before .before .before .before .before .args .room) (c .if3 .taken))
+    (λ c. let a = c .before .before .before .before .before .before .before .args in high-number (names-in (take (a .size) (a .names .now))) (a .line .now) (a .room) (c .if3 .taken))
     (λ c. search needs)
     (λ c. search needs)
     (λ c κs. (right-head (c .before .before .before .before .before .before .before .before .before .args .line .now) (c .before .before .before .before .before .before .if1 .left) (c .before .before .before .before .if2 .left) (c .before .before .if3 .left) (omega (arith, c .before .before .before .before .before .before .before .before .shared-slice-known .given 0)), c .before .before .before .before .before .before .before .before .before .pre .0, c .before .before .before .before .before .before .before .before .before .pre .1, omega (arith, length-replicate {A = ℕ} 2056 0), refl))

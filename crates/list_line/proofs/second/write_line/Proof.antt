@@ -19,11 +19,11 @@ write-line-spec =
     (tie.spec
     Inv-loop
     μ-loop
-    (λ c κs. omega (arith, formed-long (names-in (take (c .before .before .before .before .args .size) (c .before .before .before .before .args .names .now))) (c .before .before .before .before .args .line .now) (c .before .before .before .before .pre .0)))
-    (λ c. (refl, writing-first (names-in (take (c .before .before .before .before .before .before .before .args .size) (c .before .before .before .before .before .before .before .args .names .now))) (c .before .before .before .before .before .before .before .args .line .now) _ (c .before .before .write-head .result) (c .before .before .before .before .before .before .before .pre .0)))
+    (λ c κs. let a = c .before .before .before .before .args in omega (arith, formed-long (names-in (take (a .size) (a .names .now))) (a .line .now) (c .before .before .before .before .pre .0)))
+    (λ c. let a = c .before .before .before .before .before .before .before .args in (refl, writing-first (names-in (take (a .size) (a .names .now))) (a .line .now) _ (c .before .before .write-head .result) (c .before .before .before .before .before .before .before .pre .0)))
     (λ c κs. c .loop-test .taken)
-    (λ c κs. ((writing-holds (c .before .before .before .loop .inv .1) (c .before .before .loop-test .taken) (sym (c .before .piece-at .ensures))) .1, omega (arith, writing-fits (c .before .before .before .loop .inv .1) (c .before .before .loop-test .taken) (sym (c .before .piece-at .ensures)) (body-fits (names-in (take (c .before .before .before .before .before .before .before .before .before .before .before .args .size) (c .before .before .before .before .before .before .before .before .before .before .before .args .names .now))) (c .before .before .before .before .before .before .before .before .before .before .before .args .line .now) (c .before .before .before .before .before .before .write-head .ensures) (c .before .before .before .before .before .before .write-head .kept .1 .0) (c .before .before .before .before .before .before .before .before .before .before .before .pre .1)), c .before .before .before .loop .inv .0), (writing-holds (c .before .before .before .loop .inv .1) (c .before .before .loop-test .taken) (sym (c .before .piece-at .ensures))) .0))
-    (λ c. omega (arith, writing-fits (c .before .before .before .before .before .before .loop .inv .1) (c .before .before .before .before .before .loop-test .taken) (sym (c .before .before .before .before .piece-at .ensures)) (body-fits (names-in (take (c .before .before .before .before .before .before .before .before .before .before .before .before .before .before .args .size) (c .before .before .before .before .before .before .before .before .before .before .before .before .before .before .args .names .now))) (c .before .before .before .before .before .before .before .before .before .before .before .before .before .before .args .line .now) (c .before .before .before .before .before .before .before .before .before .write-head .ensures) (c .before .before .before .before .before .before .before .before .before .write-head .kept .1 .0) (c .before .before .before .before .before .before .before .before .before .before .before .before .before .before .pre .1)), c .before .before .write-piece .ensures .size, c .before .before .before .before .before .before .loop .inv .0))
+    (λ c κs. let l = c .before .before .before .loop in let a = c .before .before .before .before .before .before .before .before .before .before .before .args in ((writing-holds (l .inv .1) (c .before .before .loop-test .taken) (sym (c .before .piece-at .ensures))) .1, omega (arith, writing-fits (l .inv .1) (c .before .before .loop-test .taken) (sym (c .before .piece-at .ensures)) (body-fits (names-in (take (a .size) (a .names .now))) (a .line .now) (c .before .before .before .before .before .before .write-head .ensures) (c .before .before .before .before .before .before .write-head .kept .1 .0) (c .before .before .before .before .before .before .before .before .before .before .before .pre .1)), l .inv .0), (writing-holds (l .inv .1) (c .before .before .loop-test .taken) (sym (c .before .piece-at .ensures))) .0))
+    (λ c. let a = c .before .before .before .before .before .before .before .before .before .before .before .before .before .before .args in omega (arith, writing-fits (c .before .before .before .before .before .before .loop .inv .1) (c .before .before .before .before .before .loop-test .taken) (sym (c .before .before .before .before .piece-at .ensures)) (body-fits (names-in (take (a .size) (a .names .now))) (a .line .now) (c .before .before .before .before .before .before .before .before .before .write-head .ensures) (c .before .before .before .before .before .before .before .before .before .write-head .kept .1 .0) (c .before .before .before .before .before .before .before .before .before .before .before .before .before .before .pre .1)), c .before .before .write-piece .ensures .size, c .before .before .before .before .before .before .loop .inv .0))
     (λ c κs. c .before .before .before .before .before .loop-test .taken)
     (λ c κs. omega (arith, (writing-holds (c .before .before .before .before .before .before .before .loop .inv .1) (c .before .before .before .before .before .before .loop-test .taken) (sym (c .before .before .before .before .before .piece-at .ensures))) .1))
     (λ c. omega (arith, c .size-of .ensures, (writing-holds (c .before .before .before .before .before .before .before .before .loop .inv .1) (c .before .before .before .before .before .before .before .loop-test .taken) (sym (c .before .before .before .before .before .before .piece-at .ensures))) .1))
