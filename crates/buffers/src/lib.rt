@@ -1,12 +1,21 @@
-// Total helpers on byte slices: one byte read or written, bytes copied, tests of a byte, and the end of a run of bytes.
+// Total helpers on numbers and byte slices: the lesser of two numbers, one byte read or written, bytes copied, tests of a byte, the end of a run
+// of bytes, and the number that digits write.
 ghost use mathlib.Core.Path.{_≡_};
-ghost use Prim.Native.Nat.{_+_, _-_, _≤_};
-ghost use lib.Dec.{leb};
+ghost use Prim.Native.Nat.{_+_, _-_, _≤_, min};
 ghost use lib.ListN.{length, getD, set, take, drop};
 ghost use lib.Seq.{sets};
-ghost use Rattle.paper.specs.Bytes.{pick, run, digit?, letter?, letter-or-digit?};
+ghost use Rattle.paper.specs.Bytes.{run, digit?, letter?, letter-or-digit?};
 ghost use Rattle.paper.specs.Items.{string-byte?};
+ghost use Rattle.paper.specs.Constants.{value};
+ghost use Rattle.buffers.specs.Numbers.{capped, With-digit};
 ghost use Rattle.buffers.specs.Runs.{test-of};
+
+// The lesser of two numbers.
+pub fn lesser(a: usize, b: usize) -> usize
+    ensures { λ r. ⌜ r ≡ min a b ⌝ }
+{
+    if a <= b { a } else { b }
+}
 
 // The byte at a place, 0 past the end.
 pub fn byte_at(s: &[u8], at: usize) -> u8
@@ -26,13 +35,13 @@ pub fn put(out: &mut [u8], at: usize, b: u8)
 
 // How many of `size` bytes fit into `length` bytes from `at` on.
 fn fitting(length: usize, at: usize, size: usize) -> usize
-    ensures { λ r. ⌜ r ≡ pick (leb size (length - at)) size (length - at) ⌝ }
+    ensures { λ r. ⌜ r ≡ min size (length - at) ⌝ }
 {
-    if length <= at {
-        return 0;
+    if at < length {
+        lesser(size, length - at)
+    } else {
+        0
     }
-    let room = length - at;
-    if size <= room { size } else { room }
 }
 
 // Copies bytes to a place, as many as fit.
@@ -122,4 +131,38 @@ pub fn front<'a>(s: &'a [u8], n: usize) -> &'a [u8]
     ensures { λ r. ⌜ now r ≡ take n (now (s .entry)) ⌝ }
 {
     if n < s.len() { &s[..n] } else { s }
+}
+
+// Stands for any number that is not below it.
+pub const TOO_GREAT: usize = 0x8000000000000000;
+
+// A digit's worth.
+fn worth(b: u8) -> usize
+    ensures { λ r. ⌜ (r ≡ b - 48) × (r ≤ 255) ⌝ }
+{
+    if 48 <= b { (b - 48) as usize } else { 0 }
+}
+
+// A number with one digit more, or TOO_GREAT where the number is too great for one.
+fn with_digit(n: usize, b: u8) -> usize
+    ensures { λ r. ⌜ With-digit n b r ⌝ }
+{
+    if n <= TOO_GREAT / 10 {
+        n * 10 + worth(b)
+    } else {
+        TOO_GREAT
+    }
+}
+
+// The number that decimal digits write, or TOO_GREAT where it is not below that.
+pub fn decimal(digits: &[u8]) -> usize
+    ensures { λ r. ⌜ r ≡ capped (value 0 (now (digits .entry))) ⌝ }
+{
+    let mut n: usize = 0;
+    let mut i: usize = 0;
+    while i < digits.len() {
+        n = with_digit(n, digits[i]);
+        i += 1;
+    }
+    lesser(n, TOO_GREAT)
 }

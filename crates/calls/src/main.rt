@@ -2,6 +2,7 @@
 mod fields;
 
 use buffers::front;
+use buffers::lesser;
 use console::next_line;
 use console::print;
 use console::whole;
@@ -9,7 +10,6 @@ use editor_edit::Editor;
 use fields::bytes_field;
 use fields::ends;
 use fields::number_field;
-ghost use Rattle.io.specs.Counts.{Counts};
 
 // The longest line that is kept: more than any call has, unless its numbers begin with thousands of zeros.
 const LONGEST: usize = 300000;
@@ -87,13 +87,6 @@ fn read_tables(
     }
 }
 
-// The smaller of a number and a buffer's length.
-fn within(n: usize, buffer: &[u8]) -> usize
-    ensures { λ r. ⌜ Counts r (now (buffer .entry)) ⌝ }
-{
-    if n < buffer.len() { n } else { buffer.len() }
-}
-
 // Enters a text over the first bytes of buffers, as many as the fields had.
 fn enter_within(
     text: &[u8],
@@ -102,9 +95,9 @@ fn enter_within(
     store: &mut [u8],
     tables: Tables,
 ) {
-    let a = within(tables.names, names);
-    let b = within(tables.values, values);
-    let c = within(tables.store, store);
+    let a = lesser(tables.names, names.len());
+    let b = lesser(tables.values, values.len());
+    let c = lesser(tables.store, store.len());
     let record = tables.record;
     enter(
         text,
@@ -146,7 +139,7 @@ fn answer_list(
     if !ends(line, room.next) {
         return false;
     }
-    let n = within(room.n, out);
+    let n = lesser(room.n, out.len());
     let record = tables.record;
     list(
         number.n,

@@ -4,7 +4,7 @@ use Prim.Native.Nat.{ℕ, zero, suc, _+_, _-_, _*_, _/_, _%_, _^_, _≤_, _<_}
 use native.Mathlib.Nat.{pow-suc, mul-le-mul-left, mul-le-mul-right, le-trans, lt-of-lt-of-le, lt-of-le-of-lt, mul-lt-mul-of-pos-right, pow-le-pow-right, le-div-iff-mul-le, div-lt-iff-lt-mul, add-zero}
 use native.Mathlib.Omega.{arith}
 use mathlib.Core.Path.{_≡_, refl, sym, ap, subst, _∙_}
-use mathlib.Core.Bool.{Bool, true, false, _&&_}
+use mathlib.Core.Bool.{Bool, true, false, and-false}
 use mathlib.Core.List.{List, [], _∷_}
 use lib.Dec.{leb, eqb}
 use lib.ListN.{length, drop, getD, length-drop, drop-of-length-le}
@@ -119,11 +119,7 @@ too-low v u d m h l = rw (ne-eqb v 0 (leads-some m v h), lt-leb (10 ^ d) (v * 10
 
 too-high : (v u d m : ℕ) → Leads m v → 98 + d ≤ m + u → in-range v u d ≡ false
 unfolding in-range
-too-high v u d m h l = rw (ne-eqb v 0 (leads-some m v h), le-ltb (v * 10 ^ u) (10 ^ (98 + d)) (at-least m v u (98 + d) h (omega arith))) (no-more (leb (10 ^ d) (v * 10 ^ (u + 98))))
-  where
-    no-more : (b : Bool) → b && false ≡ false
-    no-more true = refl
-    no-more false = refl
+too-high v u d m h l = rw (ne-eqb v 0 (leads-some m v h), le-ltb (v * 10 ^ u) (10 ^ (98 + d)) (at-least m v u (98 + d) h (omega arith))) (and-false (leb (10 ^ d) (v * 10 ^ (u + 98))))
 
 within : (v u d m : ℕ) → Leads m v → d ≤ m + u + 98 → m + u < 98 + d → in-range v u d ≡ true
 unfolding in-range

@@ -1,8 +1,8 @@
 -- Six bytes that are those of a constant, one answer for each test on the way.
-use Prim.Native.Nat.{ℕ, zero, suc, _+_, _-_, _/_, _%_, _≤_, _<_}
+use Prim.Native.Nat.{ℕ, suc, _+_, _-_, _/_, _%_, _≤_, _<_}
 use native.Mathlib.Omega.{arith}
 use mathlib.Core.Path.{_≡_, refl, sym, ap, _∙_}
-use mathlib.Core.Bool.{Bool, true, false, _&&_, _||_}
+use mathlib.Core.Bool.{Bool, true, false, _&&_, and-true, and-false, or-false}
 use mathlib.Core.List.{List, [], _∷_}
 use lib.Dec.{leb, eqb}
 use lib.ListN.{length, take, drop, getD, replicate, length-take, length-drop}
@@ -47,23 +47,11 @@ unfolding same every
 same-zeros [] = refl
 same-zeros (x ∷ xs) = and-same (eqb x 0) (same xs (replicate (length xs) 0)) (every (digits-most 0) xs) (same-zeros xs) ∙ ap (λ (b : Bool). b && every (digits-most 0) xs) (sym (both-zero x))
 
-or-false : (a : Bool) → a || false ≡ a
-or-false true = refl
-or-false false = refl
-
 zero-six : (b b1 b2 b3 b4 b5 : ℕ) → b ≡ 0 → right-constant? (b ∷ b1 ∷ b2 ∷ b3 ∷ b4 ∷ b5 ∷ []) ≡ every (digits-most 0) (b1 ∷ b2 ∷ b3 ∷ b4 ∷ b5 ∷ [])
 unfolding right-constant? zero-bytes same
 zero-six b b1 b2 b3 b4 b5 e = rw (e) (or-false (same (b1 ∷ b2 ∷ b3 ∷ b4 ∷ b5 ∷ []) (0 ∷ 0 ∷ 0 ∷ 0 ∷ 0 ∷ [])) ∙ same-zeros (b1 ∷ b2 ∷ b3 ∷ b4 ∷ b5 ∷ []))
 
 -- ---- another first byte
-
-and-false : (a : Bool) → a && false ≡ false
-and-false true = refl
-and-false false = refl
-
-and-true : (a : Bool) → a && true ≡ a
-and-true true = refl
-and-true false = refl
 
 module _ (b b1 b2 b3 b4 b5 : ℕ) (some : b ≡ 0 → ⊥) where
   low-six : b < 15 → right-constant? (b ∷ b1 ∷ b2 ∷ b3 ∷ b4 ∷ b5 ∷ []) ≡ false

@@ -2,7 +2,7 @@
 use Prim.Native.Nat.{ℕ, zero, suc, _+_, _-_, _*_, _/_, _%_, _≤_, _<_}
 use native.Mathlib.Omega.{arith}
 use mathlib.Core.Path.{_≡_, refl, sym, ap, subst, _∙_}
-use mathlib.Core.Bool.{Bool, true, false, _&&_}
+use mathlib.Core.Bool.{Bool, true, false, _&&_, and-false}
 use mathlib.Core.List.{List, [], _∷_, _++_, append-nil}
 use lib.Dec.{leb, ltb, eqb}
 use lib.ListN.{length, take, getD, length-append}
@@ -170,8 +170,4 @@ pub below-plain : (b : ℕ) → b < 63 → (leb 63 b && leb b 68) ≡ false
 below-plain b h = rw (lt-leb 63 b h)
 
 pub above-plain : (b : ℕ) → 68 < b → (leb 63 b && leb b 68) ≡ false
-above-plain b h = rw (lt-leb b 68 h) (none (leb 63 b))
-  where
-    none : (x : Bool) → x && false ≡ false
-    none true = refl
-    none false = refl
+above-plain b h = rw (lt-leb b 68 h) (and-false (leb 63 b))

@@ -1,10 +1,10 @@
 -- Bytes of a text, written one after the other.
-use Prim.Native.Nat.{ℕ, zero, suc, _+_, _-_, _/_, _%_, _≤_, _<_}
+use Prim.Native.Nat.{ℕ, suc, _+_, _-_, _/_, _%_, _≤_, _<_}
 use native.Mathlib.Nat.{add-zero}
 use native.Mathlib.Numerals.{add-one}
 use native.Mathlib.Omega.{arith}
 use mathlib.Core.Path.{_≡_, refl, sym, ap, subst, _∙_}
-use mathlib.Core.Bool.{Bool, true, false, _&&_}
+use mathlib.Core.Bool.{Bool, true, false, and-false}
 use mathlib.Core.List.{List, [], _∷_, _++_}
 use lib.Dec.{leb}
 use lib.ListN.{length, drop, getD, set, length-append, drop-of-length-le}
@@ -41,11 +41,7 @@ upper-more m b h = rw (lt-leb (b / 16) m h)
 
 pub lower-more : (m b : ℕ) → m < b % 16 → digits-most m b ≡ false
 unfolding digits-most
-lower-more m b h = rw (lt-leb (b % 16) m h) (no-more (leb (b / 16) m))
-  where
-    no-more : (b : Bool) → b && false ≡ false
-    no-more true = refl
-    no-more false = refl
+lower-more m b h = rw (lt-leb (b % 16) m h) (and-false (leb (b / 16) m))
 
 pub none-more : (m b : ℕ) → b / 16 ≤ m → b % 16 ≤ m → digits-most m b ≡ true
 unfolding digits-most

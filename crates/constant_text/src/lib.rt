@@ -42,14 +42,7 @@ pub fn is_right(s: &[u8], at: usize) -> bool
     decimals::digits_within(&s[next..end], 9)
 }
 
-// The length of the text of the six bytes at a place; bytes past the end count as zeros.
-pub fn text_length(s: &[u8], at: usize) -> usize
-    ensures { λ r. ⌜ r ≡ length (constant-text (six-here (now (s .entry)) at)) ⌝ }
-{
-    texts::size(texts::laid_out(s, at))
-}
-
-// Writes the text of the six bytes at a place, as much of it as fits, and returns its length.
+// Writes the text of the six bytes at a place, as much of it as fits, and returns its length; bytes past the end count as zeros.
 pub fn write_text(s: &[u8], at: usize, out: &mut [u8], n: usize) -> usize
     ensures { λ r. ⌜ (r ≡ length (constant-text (six-here (now (s .entry)) at))) × (now (out .exit) ≡ sets (now (out .entry)) n (constant-text (six-here (now (s .entry)) at))) ⌝ }
 {

@@ -1,6 +1,6 @@
 -- Parts of a slice, as far as they are there.
 use native.Mathlib.Numerals.{add-one}
-use Prim.Native.Nat.{ℕ, zero, suc, _+_, _-_, _≤_, _<_}
+use Prim.Native.Nat.{ℕ, zero, suc, _+_, _-_, _≤_, _<_, min}
 use native.Mathlib.Omega.{arith}
 use mathlib.Core.Path.{_≡_, refl, sym, ap, _∙_}
 use mathlib.Core.Bool.{Bool, true, false}
@@ -9,7 +9,7 @@ use lib.Dec.{leb}
 use lib.ListN.{length, take, drop, getD, drop-of-length-le, length-drop, List·getD-eq-default}
 use lib.Seq.{take-all}
 use borrow.Author.Tests.{leb-true, leb-false, lt-ltb, le-ltb}
-use Rattle.paper.specs.Bytes.{pick, bytes}
+use Rattle.paper.specs.Bytes.{bytes}
 use Rattle.paper.specs.Words.{word, word-of, statements, read-operators, functions}
 use Rattle.paper.specs.Tokens.{read-as}
 use Rattle.tokens.specs.declared.Source.the-variants.{Fixed}
@@ -18,30 +18,26 @@ use Rattle.tokens.specs.Tables.{tabulated, total, read-words, word-size,
 use Rattle.tokens.specs.Parts.{fixed-part, statement-part, word-part, operator-part}
 use Rattle.tokens.proofs.Keys.{at-key, Rest, down, past-all}
 
-pub lesser-bounds : {r : ℕ} (a b : ℕ) → r ≡ pick (leb a b) a b → (r ≤ a) × (r ≤ b) × (r < a → r ≡ b)
-lesser-bounds {r} a b e = go (leb a b) refl e
+pub cut-same : {first last : ℕ} (s : List ℕ) (from end : ℕ) → last ≡ min end (length s) → first ≡ min from last → take (last - first) (drop first s) ≡ take (end - from) (drop from s)
+cut-same {first} {last} s from end e f = go (leb from last) refl (leb end (length s)) refl
   where
-    go : (t : Bool) → leb a b ≡ t → r ≡ pick t a b → (r ≤ a) × (r ≤ b) × (r < a → r ≡ b)
-    go true p e = (omega arith, omega (arith, leb-true a b p), λ h. absurd (omega arith))
-    go false p e = (omega (arith, leb-false a b p), omega arith, λ h. e)
-
-pub cut-same : {first last : ℕ} (s : List ℕ) (from end : ℕ) → last ≡ pick (leb end (length s)) end (length s) → first ≡ pick (leb from last) from last
-    → take (last - first) (drop first s) ≡ take (end - from) (drop from s)
-cut-same {first} {last} s from end e f = go (leb from last) refl f (leb end (length s)) refl e
-  where
-    go : (a : Bool) → leb from last ≡ a → first ≡ pick a from last → (b : Bool) → leb end (length s) ≡ b → last ≡ pick b end (length s) → take (last - first) (drop first s) ≡ take (end - from) (drop from s)
-    go true p f true q e = rw (f, e)
-    go true p f false q e =
-        let k : length (drop from s) ≤ last - from = omega (arith, length-drop from s) in
+    go : (a : Bool) → leb from last ≡ a → (b : Bool) → leb end (length s) ≡ b → take (last - first) (drop first s) ≡ take (end - from) (drop from s)
+    go true p true q =
+        let x : first ≡ from = omega (arith, leb-true from last p) in
+        let y : last ≡ end = omega (arith, leb-true end (length s) q) in
+        rw (x, y)
+    go true p false q =
+        let x : first ≡ from = omega (arith, leb-true from last p) in
+        let k : length (drop from s) ≤ last - from = omega (arith, length-drop from s, leb-false end (length s) q) in
         let j : length (drop from s) ≤ end - from = omega (arith, length-drop from s, leb-false end (length s) q) in
-        rw f (take-all (last - from) (drop from s) k ∙ sym (take-all (end - from) (drop from s) j))
-    go false p f true q e =
-        let z : last - first ≡ 0 = omega arith in
-        let y : end - from ≡ 0 = omega (arith, leb-false from last p) in
+        rw x (take-all (last - from) (drop from s) k ∙ sym (take-all (end - from) (drop from s) j))
+    go false p true q =
+        let z : last - first ≡ 0 = omega (arith, leb-false from last p) in
+        let y : end - from ≡ 0 = omega (arith, leb-true end (length s) q, leb-false from last p) in
         rw (z, y)
-    go false p f false q e =
-        let z : last - first ≡ 0 = omega arith in
-        let l : length s ≤ from = omega (arith, leb-false from last p) in
+    go false p false q =
+        let z : last - first ≡ 0 = omega (arith, leb-false from last p) in
+        let l : length s ≤ from = omega (arith, leb-false from last p, leb-false end (length s) q) in
         let d : drop from s ≡ [] = drop-of-length-le s l in
         let n : 0 ≤ end - from = omega arith in
         rw (z, d) (sym (take-all (end - from) [] n))

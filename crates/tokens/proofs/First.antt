@@ -8,15 +8,16 @@ use lib.Dec.{T, eqb, leb}
 use lib.ListN.{length, take, drop, getD, length-drop}
 use lib.Seq.{drop-drop, take-all}
 use borrow.Author.Tests.{eq-eqb, eqb-true, leb-true}
-use Rattle.paper.specs.Bytes.{pick, bytes, same, among, every}
+use Rattle.paper.specs.Bytes.{pick, same, among, every}
 use Rattle.paper.specs.Classes.{unfit}
 use Rattle.paper.specs.Words.{Word, word, Found, found, nowhere, find-word, statements, operators, read-operators, functions}
 use Rattle.paper.specs.Tokens.{found-or}
+use Rattle.laws.specs.Names.{same-ne}
 use Rattle.laws.specs.Tests.{and-left, and-right, is-true}
 use Rattle.tokens.specs.declared.Statement.the-variants.{Nothing as NoStatement}
 use Rattle.tokens.specs.declared.Reserved.the-variants.{Nothing as NotReserved}
 use Rattle.tokens.specs.Tables.{tabulated, total, read-words, fixed-words, statement-lengths, operator-lengths, words-of, begins, first-word, statement-found, reserved-found}
-use Rattle.tokens.specs.Same.{no-bool, not-same}
+use Rattle.tokens.specs.Same.{no-bool}
 use Rattle.tokens.specs.Words.{find-read, token-within}
 use Rattle.tokens.proofs.Keys.{Rest, no-keys}
 use Rattle.tokens.proofs.Cuts.{statement-bytes, operator-bytes}
@@ -78,7 +79,7 @@ like-same {w} {s} e = subst (λ (x : List ℕ). like x w ≡ true) e (rw (eq-eqb
 
 -- so one that does not is not the name
 not-like : (s w : List ℕ) (t : ℕ) (f : Found) → like s w ≡ false → pick (same w s) (found t) f ≡ f
-not-like s w t f p = rw (not-same w s (λ q. no-bool (sym p ∙ like-same q)))
+not-like s w t f p = rw (same-ne w s (λ q. no-bool (sym p ∙ like-same q)))
 
 -- where no word does, the name is no word
 no-word : (ws : List Word) (s : List ℕ) → first-like s ws ≡ nowhere → find-word ws s ≡ nowhere

@@ -3,7 +3,7 @@ use Prim.Native.Nat.{ℕ, zero, suc, _+_, _-_, _≤_, _<_}
 use native.Mathlib.Numerals.{add-one}
 use native.Mathlib.Omega.{arith}
 use mathlib.Core.Path.{_≡_, refl, sym, ap, _∙_}
-use mathlib.Core.Bool.{Bool, true, false, not, _&&_}
+use mathlib.Core.Bool.{Bool, true, false, not, _&&_, and-false}
 use mathlib.Core.List.{List, [], _∷_}
 use lib.Dec.{eqb}
 use lib.ListN.{length, take, drop, getD, drop-of-length-le, length-drop}
@@ -12,12 +12,13 @@ use borrow.Author.Tests.{eq-eqb, ne-eqb, lt-ltb, le-ltb}
 use Rattle.paper.specs.Bytes.{pick, bytes, same}
 use Rattle.paper.specs.Classes.{unfit}
 use Rattle.paper.specs.Words.{Word, word, Found, found, nowhere, find-word, word-of, statements, operators, read-operators, functions}
+use Rattle.laws.specs.Names.{same-ne}
 use Rattle.tokens.specs.declared.Found.{Found as Answer}
 use Rattle.tokens.specs.declared.Found.the-variants.{Token, Nothing}
 use Rattle.tokens.specs.declared.Statement.the-variants.{Word as AWord, Nothing as NoStatement}
 use Rattle.tokens.specs.declared.Reserved.the-variants.{Operator, Function, Nothing as NotReserved}
 use Rattle.tokens.specs.Tables.{tabulated, total, end-to-end, read-words, fixed-words, word-size, statement-lengths, operator-lengths, words-of, begins, first-word, token-found, statement-found, reserved-found}
-use Rattle.tokens.specs.Same.{not-same, same-as}
+use Rattle.tokens.specs.Same.{same-as}
 use Rattle.tokens.specs.Words.{find-read}
 
 -- ---- one word
@@ -26,14 +27,10 @@ use Rattle.tokens.specs.Words.{find-read}
 abbrev pub stands : List ℕ → ℕ → ℕ → List ℕ → Bool
 stands bs from size s = not (eqb size 0) && same (take size (drop from bs)) s
 
-and-false : (a : Bool) → (a && false) ≡ false
-and-false true = refl
-and-false false = refl
-
 pub other-length : (bs s : List ℕ) (from size : ℕ) → from + size ≤ length bs → (size ≡ length s → ⊥) → false ≡ stands bs from size s
 other-length bs s from size h n =
     let l : length (take size (drop from bs)) ≡ size = length-take-le size (drop from bs) (omega (arith, length-drop from bs)) in
-    sym (rw (not-same (take size (drop from bs)) s (λ e. n (sym l ∙ ap length e))) (and-false (not (eqb size 0))))
+    sym (rw (same-ne (take size (drop from bs)) s (λ e. n (sym l ∙ ap length e))) (and-false (not (eqb size 0))))
 
 pub no-bytes : (bs s : List ℕ) (from size : ℕ) → size ≡ 0 → false ≡ stands bs from size s
 no-bytes bs s from size e = sym (rw (eq-eqb size 0 e))
@@ -45,7 +42,7 @@ first-byte bs from (suc size) z h = rw (drop-cons bs from 0 (omega arith))
 pub other-first : (bs s : List ℕ) (from size : ℕ) → (size ≡ 0 → ⊥) → from + size ≤ length bs → (getD bs from 0 ≡ getD s 0 0 → ⊥) → false ≡ stands bs from size s
 other-first bs s from size z h n =
     sym
-    (rw (not-same (take size (drop from bs)) s (λ e. n (sym (first-byte bs from size z h) ∙ ap (λ (l : List ℕ). getD l 0 0) e)))
+    (rw (same-ne (take size (drop from bs)) s (λ e. n (sym (first-byte bs from size z h) ∙ ap (λ (l : List ℕ). getD l 0 0) e)))
     (and-false (not (eqb size 0))))
 
 pub all-bytes : (r : Bool) (bs s : List ℕ) (from size : ℕ) → size ≡ length s → (size ≡ 0 → ⊥) → (r ≡ true → take (from + size - from) (drop from bs) ≡ take size s)

@@ -10,10 +10,10 @@ use borrow.Author.Tests.{ltb-true, ltb-false, le-ltb}
 use Rattle.paper.specs.Bytes.{pick, bytes, same}
 use Rattle.paper.specs.Words.{word, word-of, find-word, statements, operators, read-operators, functions, placed-operators}
 use Rattle.paper.specs.Tokens.{read-as, found-or}
+use Rattle.laws.specs.Names.{same-eq}
 use Rattle.laws.specs.Tests.{and-left, and-right, is-true}
 use Rattle.tokens.specs.Tables.{tabulated, total, end-to-end, read-words, fixed-words, word-size, statement-lengths, operator-lengths, starts}
 use Rattle.tokens.specs.Parts.{source-of, bytes-at, fixed-part, statement-part, word-part, operator-part}
-use Rattle.tokens.specs.Same.{same-equal}
 use Rattle.tokens.specs.Words.{past-statements, past-operators}
 
 -- a test passes at each number below n
@@ -49,7 +49,7 @@ no-statement t h =
 statement-go : (t : ℕ) (b : Bool) → ltb t 0x36 ≡ b → bytes-at fixed-words [] (statement-part t) ≡ (word-of statements t) .spelling
 unfolding statement-test
 statement-go t true e =
-    same-equal (bytes-at fixed-words [] (statement-part t)) ((word-of statements t) .spelling)
+    same-eq (bytes-at fixed-words [] (statement-part t)) ((word-of statements t) .spelling)
     (is-true (statement-test t) (below-at statement-test 0x36 statement-tests t (ltb-true t 0x36 e)))
 statement-go t false e = no-statement t (ltb-false t 0x36 e)
 
@@ -91,7 +91,7 @@ no-operator t h =
 operator-go : (t : ℕ) (b : Bool) → ltb t 0x55 ≡ b → bytes-at fixed-words [] (operator-part t) ≡ (word-of operators t) .spelling
 unfolding operator-test
 operator-go t true e =
-    same-equal (bytes-at fixed-words [] (operator-part t)) ((word-of operators t) .spelling)
+    same-eq (bytes-at fixed-words [] (operator-part t)) ((word-of operators t) .spelling)
     (is-true (operator-test t) (below-at operator-test 0x55 operator-tests t (ltb-true t 0x55 e)))
 operator-go t false e = no-operator t (ltb-false t 0x55 e)
 

@@ -11,9 +11,10 @@ use borrow.Author.Tests.{eq-eqb, eqb-true, le-leb, lt-leb}
 use Rattle.paper.specs.Bytes.{pick, bytes, same, every}
 use Rattle.paper.specs.Classes.{unfit}
 use Rattle.paper.specs.Words.{Word, word, Found, found, nowhere, found?, find-word, word-of, statements, operators, read-operators, functions, placed-operators}
+use Rattle.laws.specs.Names.{same-self, same-eq, same-ne}
 use Rattle.laws.specs.Tests.{and-left, and-right, is-true, is-false}
 use Rattle.tokens.specs.Tables.{read-words}
-use Rattle.tokens.specs.Same.{no-bool, same-refl, same-of, same-equal, not-same}
+use Rattle.tokens.specs.Same.{no-bool, same-of}
 
 -- ---- a table in two parts
 
@@ -44,7 +45,7 @@ length-go : (w : Word) (r : List Word) (s : List ℕ) (f : Found) (b : Bool) →
 unfolding find-word
 length-go w r s f true e h = ap (pick (same (w .spelling) s) (found (w .token))) h
 length-go w r s f false e h =
-    rw (not-same (w .spelling) s (λ x. no-bool (sym e ∙ eq-eqb (length (w .spelling)) (length s) (ap length x)))) h
+    rw (same-ne (w .spelling) s (λ x. no-bool (sym e ∙ eq-eqb (length (w .spelling)) (length s) (ap length x)))) h
 
 pub find-of-length : (ws : List Word) (s : List ℕ) → find-word ws s ≡ find-word (of-length (length s) ws) s
 unfolding find-word of-length
@@ -61,7 +62,7 @@ found-spelling (v ∷ vs) s p a h = go (same (v .spelling) s) refl (λ x y. foun
   where
     go : (b : Bool) → same (v .spelling) s ≡ b → (T (every (λ w. p (w .spelling)) vs) → T (found? (find-word vs s)) → T (p s))
         → T (found? (pick b (found (v .token)) (find-word vs s))) → T (p s)
-    go true e ih h = subst (λ (x : List ℕ). T (p x)) (same-equal (v .spelling) s e) (and-left (p (v .spelling)) (every (λ w. p (w .spelling)) vs) a)
+    go true e ih h = subst (λ (x : List ℕ). T (p x)) (same-eq (v .spelling) s e) (and-left (p (v .spelling)) (every (λ w. p (w .spelling)) vs) a)
     go false e ih h = ih (and-right (p (v .spelling)) (every (λ w. p (w .spelling)) vs) a) h
 
 -- what holds of each word's token holds of one that is found
@@ -121,10 +122,10 @@ absent-at s (w ∷ ws) d a (suc k) h = absent-at s ws d (and-right (not (same (w
 pub found-at-once : (ws : List Word) (d : Word) → T (distinct ws) → (k : ℕ) → k < length ws → find-word ws ((getD ws k d) .spelling) ≡ found ((getD ws k d) .token)
 unfolding distinct absent find-word
 found-at-once [] d a k h = absurd (not-suc-le-zero h)
-found-at-once (w ∷ ws) d a zero h = rw (same-refl (w .spelling))
+found-at-once (w ∷ ws) d a zero h = rw (same-self (w .spelling))
 found-at-once (w ∷ ws) d a (suc k) h =
     let x = absent-at (w .spelling) ws d (and-left (every (λ v. not (same (v .spelling) (w .spelling))) ws) (distinct ws) a) k (le-of-suc-le-suc h) in
-    let y : same (w .spelling) ((getD ws k d) .spelling) ≡ false = not-same (w .spelling) ((getD ws k d) .spelling) (λ e. no-bool (sym x ∙ same-of (sym e))) in
+    let y : same (w .spelling) ((getD ws k d) .spelling) ≡ false = same-ne (w .spelling) ((getD ws k d) .spelling) (λ e. no-bool (sym x ∙ same-of (sym e))) in
     rw y (found-at-once ws d (and-right (every (λ v. not (same (v .spelling) (w .spelling))) ws) (distinct ws) a) k (le-of-suc-le-suc h))
 
 -- ---- tokens with no word

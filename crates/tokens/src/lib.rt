@@ -4,15 +4,14 @@ pub mod class;
 mod number;
 mod tables;
 
+use buffers::lesser;
 use number::function;
 use number::operator;
 use number::statement;
 ghost use mathlib.Core.Path.{_≡_};
 ghost use mathlib.Core.List.{[], _∷_};
 ghost use Prim.Native.Nat.{_-_};
-ghost use lib.Dec.{leb};
 ghost use lib.ListN.{length, getD, take, drop};
-ghost use Rattle.paper.specs.Bytes.{pick};
 ghost use Rattle.paper.specs.Words.{found, find-word, word-of, statements, operators, word-operator?};
 ghost use Rattle.paper.specs.Tokens.{operator-class, read-as};
 ghost use Rattle.paper.specs.Line.{raw-statement?};
@@ -631,13 +630,6 @@ pub fn operator_part(token: u8) -> Part
         from: tables::STATEMENT_BYTES + tables::operator_start(i) as usize,
         end: tables::STATEMENT_BYTES + tables::operator_start(i + 1) as usize,
     }
-}
-
-// The lesser of two numbers.
-fn lesser(a: usize, b: usize) -> usize
-    ensures { λ r. ⌜ r ≡ pick (leb a b) a b ⌝ }
-{
-    if a <= b { a } else { b }
 }
 
 // The bytes of a slice from one place to another, as far as they are there.

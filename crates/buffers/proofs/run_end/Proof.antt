@@ -1,4 +1,3 @@
--- `buffers::run_end` meets its contract.
 use mathlib.Core.Path.{_≡_, refl, sym, _∙_}
 use Prim.Native.Nat.{_+_, _-_, _≤_}
 use native.Mathlib.Omega.{arith}
@@ -15,41 +14,17 @@ Inv-loop s from kind i₀ i = (from ≤ length s → i ≤ length s) × (i + run
 abbrev μ-loop : tie.MeasureT-loop
 μ-loop s from kind i₀ i = length s - i
 
-loop-holds : tie.Need-loop-holds Inv-loop μ-loop
-loop-holds c = (λ h. h, refl)
-
-shared-slice-read-b : tie.Need-shared-slice-read-b Inv-loop μ-loop
-shared-slice-read-b c = search needs
-
-passes-requires : tie.Need-passes-requires Inv-loop μ-loop
-passes-requires c κs = search needs
-
-add-i : tie.Need-add-i Inv-loop μ-loop
-add-i c = search needs
-
-loop-less : tie.Need-loop-less Inv-loop μ-loop
-loop-less c = search needs
-
-loop-again : tie.Need-loop-again Inv-loop μ-loop
-loop-again c = (λ h. omega arith, omega (arith, c .before .before .before .before .loop .inv .1, run-on (test-of (c .before .before .before .before .before .before .args .kind)) (c .before .before .before .before .before .before .args .s .now) (c .before .before .before .before .loop .i) (c .before .before .before .loop-test .taken) (sym (c .before .passes .ensures) ∙ c .if1 .taken)))
-
-returns : tie.Need-returns Inv-loop μ-loop
-returns c = (omega (arith, c .before .before .before .before .loop .inv .1, run-off (test-of (c .before .before .before .before .before .before .args .kind)) (c .before .before .before .before .before .before .args .s .now) (c .before .before .before .before .loop .i) (c .before .before .before .loop-test .taken) (sym (c .before .passes .ensures) ∙ c .if1 .left)), c .before .before .before .before .loop .inv .0)
-
-returns-2 : tie.Need-returns-2 Inv-loop μ-loop
-returns-2 c = (omega (arith, c .before .loop .inv .1, run-past (test-of (c .before .before .before .args .kind)) (c .before .before .before .args .s .now) (c .before .loop .i) (c .loop-test .left)), c .before .loop .inv .0)
-
 pub run-end-spec : {M : Type 1} → statement M
 run-end-spec =
     tie.close
     (tie.spec
     Inv-loop
     μ-loop
-    loop-holds
-    shared-slice-read-b
-    passes-requires
-    add-i
-    loop-less
-    loop-again
-    returns
-    returns-2)
+    (λ c. (λ h. h, refl))
+    (λ c. search needs)
+    (λ c κs. search needs)
+    (λ c. search needs)
+    (λ c. search needs)
+    (λ c. (λ h. omega arith, omega (arith, c .before .before .before .before .loop .inv .1, run-on (test-of (c .before .before .before .before .before .before .args .kind)) (c .before .before .before .before .before .before .args .s .now) (c .before .before .before .before .loop .i) (c .before .before .before .loop-test .taken) (sym (c .before .passes .ensures) ∙ c .if1 .taken))))
+    (λ c. let l = c .before .before .before .before .loop in (omega (arith, l .inv .1, run-off (test-of (c .before .before .before .before .before .before .args .kind)) (c .before .before .before .before .before .before .args .s .now) (l .i) (c .before .before .before .loop-test .taken) (sym (c .before .passes .ensures) ∙ c .if1 .left)), l .inv .0))
+    (λ c. (omega (arith, c .before .loop .inv .1, run-past (test-of (c .before .before .before .args .kind)) (c .before .before .before .args .s .now) (c .before .loop .i) (c .loop-test .left)), c .before .loop .inv .0)))

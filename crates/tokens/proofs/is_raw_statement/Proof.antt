@@ -1,4 +1,3 @@
--- `tokens::is_raw_statement` meets its contract.
 use mathlib.Core.Path.{ap}
 use Prim.Native.Nat.{ℕ}
 use borrow.Author.Needs.{needs}
@@ -9,12 +8,10 @@ use Rattle.paper.specs.Tokens.{class}
 use Rattle.tokens.proofs.is_raw_statement.Statement.{statement}
 use Rattle.tokens.proofs.is_raw_statement.Tie as tie
 
-statement-class-requires : tie.Need-statement-class-requires
-statement-class-requires c κs = search needs
-
-returns : tie.Need-returns
-unfolding raw-statement? class
-returns c = ap (λ (x : ℕ). eqb x remark) (c .statement-class .ensures)
-
 pub is-raw-statement-spec : {M : Type 1} → statement M
-is-raw-statement-spec = tie.close (tie.spec statement-class-requires returns)
+unfolding raw-statement? class
+is-raw-statement-spec =
+    tie.close
+    (tie.spec
+    (λ c κs. search needs)
+    (λ c. ap (λ (x : ℕ). eqb x remark) (c .statement-class .ensures)))

@@ -1,4 +1,3 @@
--- `tokens::spelling` meets its contract.
 use mathlib.Core.Path.{sym, ap, _∙_}
 use Prim.Native.Nat.{_-_}
 use borrow.Author.Needs.{needs}
@@ -8,27 +7,14 @@ use Rattle.tokens.specs.declared.Source.{Source}
 use Rattle.tokens.proofs.spelling.Statement.{statement}
 use Rattle.tokens.proofs.spelling.Tie as tie
 
-enum-told : tie.Need-enum-told
-enum-told c = search needs
-
-between-requires : tie.Need-between-requires
-between-requires c κs = search needs
-
-enum-told-2 : tie.Need-enum-told-2
-enum-told-2 c = search needs
-
-between-requires-2 : tie.Need-between-requires-2
-between-requires-2 c κs = search needs
-
-returns : tie.Need-returns
-unfolding bytes-at source-of
-returns c = c .between .ensures ∙ sym (ap (λ (x : Source). take (c .before .before .before .before .before .args .part .end - c .before .before .before .before .before .args .part .from) (drop (c .before .before .before .before .before .args .part .from) (source-of (c .before .before .before .before .before .args .words .now) (c .before .before .before .before .before .args .names .now) x))) (c .before .enum-told .given .1))
-
-returns-2 : tie.Need-returns-2
-unfolding bytes-at source-of
-returns-2 c = c .between2 .ensures ∙ sym (ap (λ (x : Source). take (c .before .before .before .before .before .args .part .end - c .before .before .before .before .before .args .part .from) (drop (c .before .before .before .before .before .args .part .from) (source-of (c .before .before .before .before .before .args .words .now) (c .before .before .before .before .before .args .names .now) x))) (c .before .enum-told2 .given .1))
-
 pub spelling-spec : {M : Type 1} → statement M
+unfolding bytes-at source-of
 spelling-spec =
     tie.close
-    (tie.spec enum-told between-requires enum-told-2 between-requires-2 returns returns-2)
+    (tie.spec
+    (λ c. search needs)
+    (λ c κs. search needs)
+    (λ c. search needs)
+    (λ c κs. search needs)
+    (λ c. let a = c .before .before .before .before .before .args in c .between .ensures ∙ sym (ap (λ (x : Source). take (a .part .end - a .part .from) (drop (a .part .from) (source-of (a .words .now) (a .names .now) x))) (c .before .enum-told .given .1)))
+    (λ c. let a = c .before .before .before .before .before .args in c .between2 .ensures ∙ sym (ap (λ (x : Source). take (a .part .end - a .part .from) (drop (a .part .from) (source-of (a .words .now) (a .names .now) x))) (c .before .enum-told2 .given .1))))

@@ -5,19 +5,12 @@ use Rattle.constant_bytes.specs.Numerals.{down}
 use Rattle.constant_bytes.proofs.digits.down.Statement.{statement}
 use Rattle.constant_bytes.proofs.digits.down.Tie as tie
 
-cast-result : tie.Need-cast-result
-cast-result c = search needs
-
-add-result : tie.Need-add-result
-add-result c = search needs
-
-returns : tie.Need-returns
-unfolding down
-returns c = (rw (c .before .before .if1 .taken), omega arith)
-
-returns-2 : tie.Need-returns-2
-unfolding down
-returns-2 c = (rw (c .if1 .left), omega arith)
-
 pub down-spec : {M : Type 1} → statement M
-down-spec = tie.close (tie.spec cast-result add-result returns returns-2)
+unfolding down
+down-spec =
+    tie.close
+    (tie.spec
+    (λ c. search needs)
+    (λ c. search needs)
+    (λ c. (rw (c .before .before .if1 .taken), omega arith))
+    (λ c. (rw (c .if1 .left), omega arith)))

@@ -15,41 +15,17 @@ Inv-loop text n count i₀ i = (i ≤ count) × (run nought? (digits-in text n) 
 abbrev μ-loop : tie.MeasureT-loop
 μ-loop text n count i₀ i = count - i
 
-add-count : tie.Need-add-count Inv-loop μ-loop
-add-count c = omega (arith, c .before .before .pre .whole-there, c .before .before .pre .fraction-there)
-
-loop-holds : tie.Need-loop-holds Inv-loop μ-loop
-loop-holds c = (omega arith, omega arith)
-
-digit-requires : tie.Need-digit-requires Inv-loop μ-loop
-digit-requires c κs = c .before .before .before .before .pre
-
-returns : tie.Need-returns Inv-loop μ-loop
-returns c = no-more (digits-in (c .before .before .before .before .before .before .args .text .now) (c .before .before .before .before .before .before .args .n)) (c .before .before .before .loop .i) (c .before .digit .result) (omega (arith, count (c .before .before .before .before .before .before .args .text .now) (c .before .before .before .before .before .before .args .n) (c .before .before .before .before .before .before .pre))) (c .before .digit .ensures) (c .if1 .taken) (c .before .before .before .loop .inv .1)
-
-add-i : tie.Need-add-i Inv-loop μ-loop
-add-i c = omega arith
-
-loop-less : tie.Need-loop-less Inv-loop μ-loop
-loop-less c = omega arith
-
-loop-again : tie.Need-loop-again Inv-loop μ-loop
-loop-again c = (omega arith, one-more (digits-in (c .before .before .before .before .before .before .args .text .now) (c .before .before .before .before .before .before .args .n)) (c .before .before .before .loop .i) (c .before .digit .result) (omega (arith, count (c .before .before .before .before .before .before .args .text .now) (c .before .before .before .before .before .before .args .n) (c .before .before .before .before .before .before .pre))) (c .before .digit .ensures) (c .if1 .left) (c .before .before .before .loop .inv .1))
-
-returns-2 : tie.Need-returns-2 Inv-loop μ-loop
-returns-2 c = all-noughts (digits-in (c .before .before .before .before .args .text .now) (c .before .before .before .before .args .n)) (c .before .loop .i) (omega (arith, count (c .before .before .before .before .args .text .now) (c .before .before .before .before .args .n) (c .before .before .before .before .pre))) (c .before .loop .inv .1)
-
 pub leading-spec : {M : Type 1} → statement M
 leading-spec =
     tie.close
     (tie.spec
     Inv-loop
     μ-loop
-    add-count
-    loop-holds
-    digit-requires
-    returns
-    add-i
-    loop-less
-    loop-again
-    returns-2)
+    (λ c. omega (arith, c .before .before .pre .whole-there, c .before .before .pre .fraction-there))
+    (λ c. (omega arith, omega arith))
+    (λ c κs. c .before .before .before .before .pre)
+    (λ c. let a = c .before .before .before .before .before .before .args in no-more (digits-in (a .text .now) (a .n)) (c .before .before .before .loop .i) (c .before .digit .result) (omega (arith, count (a .text .now) (a .n) (c .before .before .before .before .before .before .pre))) (c .before .digit .ensures) (c .if1 .taken) (c .before .before .before .loop .inv .1))
+    (λ c. omega arith)
+    (λ c. omega arith)
+    (λ c. let a = c .before .before .before .before .before .before .args in (omega arith, one-more (digits-in (a .text .now) (a .n)) (c .before .before .before .loop .i) (c .before .digit .result) (omega (arith, count (a .text .now) (a .n) (c .before .before .before .before .before .before .pre))) (c .before .digit .ensures) (c .if1 .left) (c .before .before .before .loop .inv .1)))
+    (λ c. let a = c .before .before .before .before .args in all-noughts (digits-in (a .text .now) (a .n)) (c .before .loop .i) (omega (arith, count (a .text .now) (a .n) (c .before .before .before .before .pre))) (c .before .loop .inv .1)))

@@ -15,41 +15,17 @@ Inv-loop bytes most i₀ i = (i ≤ length bytes) × (every (digits-most most) b
 abbrev μ-loop : tie.MeasureT-loop
 μ-loop bytes most i₀ i = length bytes - i
 
-loop-holds : tie.Need-loop-holds Inv-loop μ-loop
-loop-holds c = (omega arith, refl)
-
-shared-slice-read-b : tie.Need-shared-slice-read-b Inv-loop μ-loop
-shared-slice-read-b c = omega arith
-
-returns : tie.Need-returns Inv-loop μ-loop
-returns c = every-off (digits-most (c .before .before .before .before .args .most)) (c .before .before .before .before .args .bytes .now) (c .before .before .before .loop .i) (omega arith) (upper-more (c .before .before .before .before .args .most) (getD (c .before .before .before .before .args .bytes .now) (c .before .before .before .loop .i) 0) (c .if1 .taken)) (c .before .before .before .loop .inv .1)
-
-returns-2 : tie.Need-returns-2 Inv-loop μ-loop
-returns-2 c = every-off (digits-most (c .before .before .before .before .before .args .most)) (c .before .before .before .before .before .args .bytes .now) (c .before .before .before .before .loop .i) (omega arith) (lower-more (c .before .before .before .before .before .args .most) (getD (c .before .before .before .before .before .args .bytes .now) (c .before .before .before .before .loop .i) 0) (c .if2 .taken)) (c .before .before .before .before .loop .inv .1)
-
-add-i : tie.Need-add-i Inv-loop μ-loop
-add-i c = omega arith
-
-loop-less : tie.Need-loop-less Inv-loop μ-loop
-loop-less c = omega arith
-
-loop-again : tie.Need-loop-again Inv-loop μ-loop
-loop-again c = (omega arith, every-on (digits-most (c .before .before .before .before .before .args .most)) (c .before .before .before .before .before .args .bytes .now) (c .before .before .before .before .loop .i) (omega arith) (none-more (c .before .before .before .before .before .args .most) (getD (c .before .before .before .before .before .args .bytes .now) (c .before .before .before .before .loop .i) 0) (c .before .if1 .left) (c .if2 .left)) (c .before .before .before .before .loop .inv .1))
-
-returns-3 : tie.Need-returns-3 Inv-loop μ-loop
-returns-3 c = every-end (digits-most (c .before .before .args .most)) (c .before .before .args .bytes .now) (c .before .loop .i) (omega arith) (c .before .loop .inv .1)
-
 pub digits-within-spec : {M : Type 1} → statement M
 digits-within-spec =
     tie.close
     (tie.spec
     Inv-loop
     μ-loop
-    loop-holds
-    shared-slice-read-b
-    returns
-    returns-2
-    add-i
-    loop-less
-    loop-again
-    returns-3)
+    (λ c. (omega arith, refl))
+    (λ c. omega arith)
+    (λ c. let a = c .before .before .before .before .args in let l = c .before .before .before .loop in every-off (digits-most (a .most)) (a .bytes .now) (l .i) (omega arith) (upper-more (a .most) (getD (a .bytes .now) (l .i) 0) (c .if1 .taken)) (l .inv .1))
+    (λ c. let a = c .before .before .before .before .before .args in let l = c .before .before .before .before .loop in every-off (digits-most (a .most)) (a .bytes .now) (l .i) (omega arith) (lower-more (a .most) (getD (a .bytes .now) (l .i) 0) (c .if2 .taken)) (l .inv .1))
+    (λ c. omega arith)
+    (λ c. omega arith)
+    (λ c. let a = c .before .before .before .before .before .args in let l = c .before .before .before .before .loop in (omega arith, every-on (digits-most (a .most)) (a .bytes .now) (l .i) (omega arith) (none-more (a .most) (getD (a .bytes .now) (l .i) 0) (c .before .if1 .left) (c .if2 .left)) (l .inv .1)))
+    (λ c. every-end (digits-most (c .before .before .args .most)) (c .before .before .args .bytes .now) (c .before .loop .i) (omega arith) (c .before .loop .inv .1)))

@@ -1,6 +1,6 @@
 -- `last` meets its contract. The invariant: without useless zeros, the digits up to `end` are all.
 use native.Mathlib.Omega.{arith}
-use Prim.Native.Nat.{_-_, _≤_}
+use Prim.Native.Nat.{_≤_}
 use mathlib.Core.Path.{_≡_}
 use lib.ListN.{drop}
 use lib.Seq.{slice}
@@ -16,41 +16,17 @@ Inv-loop s at point end₀ end = (point ≤ end) × (end ≤ 10) × (trimmed (sl
 abbrev μ-loop : tie.MeasureT-loop
 μ-loop s at point end₀ end = end
 
-loop-holds : tie.Need-loop-holds Inv-loop μ-loop
-loop-holds c = (omega arith, omega arith, trim-all (digits-here (c .before .args .s .now) (c .before .args .at)) (c .before .args .point) (ten-here (c .before .args .s .now) (c .before .args .at)))
-
-sub-digit : tie.Need-sub-digit Inv-loop μ-loop
-sub-digit c = omega arith
-
-digit-requires : tie.Need-digit-requires Inv-loop μ-loop
-digit-requires c κs = omega arith
-
-returns : tie.Need-returns Inv-loop μ-loop
-returns c = trim-stop (digits-here (c .before .before .before .before .before .args .s .now) (c .before .before .before .before .before .args .at)) (c .before .before .before .before .before .args .point) (c .before .before .before .loop .end) (c .before .digit .result) (ten-here (c .before .before .before .before .before .args .s .now) (c .before .before .before .before .before .args .at)) (omega arith) (c .before .before .before .loop .inv .1) (c .before .digit .ensures) (c .if1 .taken) (c .before .before .before .loop .inv .2)
-
-sub-end : tie.Need-sub-end Inv-loop μ-loop
-sub-end c = omega arith
-
-loop-less : tie.Need-loop-less Inv-loop μ-loop
-loop-less c = omega arith
-
-loop-again : tie.Need-loop-again Inv-loop μ-loop
-loop-again c = (omega arith, omega arith, trim-one (digits-here (c .before .before .before .before .before .args .s .now) (c .before .before .before .before .before .args .at)) (c .before .before .before .before .before .args .point) (c .before .before .before .loop .end) (c .before .digit .result) (ten-here (c .before .before .before .before .before .args .s .now) (c .before .before .before .before .before .args .at)) (omega arith) (c .before .before .before .loop .inv .1) (c .before .digit .ensures) (c .if1 .left) (c .before .before .before .loop .inv .2))
-
-returns-2 : tie.Need-returns-2 Inv-loop μ-loop
-returns-2 c = trim-none (digits-here (c .before .before .before .args .s .now) (c .before .before .before .args .at)) (c .before .before .before .args .point) (c .before .loop .end) (c .before .loop .inv .0) (omega arith) (c .before .loop .inv .1) (c .before .loop .inv .2)
-
 pub last-spec : {M : Type 1} → statement M
 last-spec =
     tie.close
     (tie.spec
     Inv-loop
     μ-loop
-    loop-holds
-    sub-digit
-    digit-requires
-    returns
-    sub-end
-    loop-less
-    loop-again
-    returns-2)
+    (λ c. (omega arith, omega arith, trim-all (digits-here (c .before .args .s .now) (c .before .args .at)) (c .before .args .point) (ten-here (c .before .args .s .now) (c .before .args .at))))
+    (λ c. omega arith)
+    (λ c κs. omega arith)
+    (λ c. let a = c .before .before .before .before .before .args in let l = c .before .before .before .loop in trim-stop (digits-here (a .s .now) (a .at)) (a .point) (l .end) (c .before .digit .result) (ten-here (a .s .now) (a .at)) (omega arith) (l .inv .1) (c .before .digit .ensures) (c .if1 .taken) (l .inv .2))
+    (λ c. omega arith)
+    (λ c. omega arith)
+    (λ c. let a = c .before .before .before .before .before .args in let l = c .before .before .before .loop in (omega arith, omega arith, trim-one (digits-here (a .s .now) (a .at)) (a .point) (l .end) (c .before .digit .result) (ten-here (a .s .now) (a .at)) (omega arith) (l .inv .1) (c .before .digit .ensures) (c .if1 .left) (l .inv .2)))
+    (λ c. let a = c .before .before .before .args in trim-none (digits-here (a .s .now) (a .at)) (a .point) (c .before .loop .end) (c .before .loop .inv .0) (omega arith) (c .before .loop .inv .1) (c .before .loop .inv .2)))

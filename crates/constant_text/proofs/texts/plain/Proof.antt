@@ -10,28 +10,14 @@ use Rattle.constant_text.proofs.TextShapes.{shaped-plain, plain-none, p
 use Rattle.constant_text.proofs.texts.plain.Statement.{statement}
 use Rattle.constant_text.proofs.texts.plain.Tie as tie
 
-sub-point : tie.Need-sub-point
-sub-point c = search needs
-
-cast-point : tie.Need-cast-point
-cast-point c = search needs
-
-mul-point : tie.Need-mul-point
-mul-point c = search needs
-
-last-requires : tie.Need-last-requires
-last-requires c κs = search needs
-
-returns : tie.Need-returns
-returns c = shaped-plain (c .before .before .before .args .s .now) (c .before .before .before .args .at) (c .before .before .before .args .first) _ 0 _ (c .before .before .before .pre .2) (c .before .before .before .pre .0) (c .before .before .before .pre .1) refl (omega arith) (plain-none (digits-here (c .before .before .before .args .s .now) (c .before .before .before .args .at)) _ (c .if1 .taken)) (c .before .last .ensures)
-
-skipped-requires : tie.Need-skipped-requires
-skipped-requires c κs = search needs
-
-returns-2 : tie.Need-returns-2
-returns-2 c = shaped-plain (c .before .before .before .before .args .s .now) (c .before .before .before .before .args .at) (c .before .before .before .before .args .first) _ (c .skipped .result) _ (c .before .before .before .before .pre .2) (c .before .before .before .before .pre .0) (c .before .before .before .before .pre .1) refl (omega (arith, zeros-most (getD (digits-here (c .before .before .before .before .args .s .now) (c .before .before .before .before .args .at)) 0 48) (c .skipped .result) (c .skipped .ensures))) (plain-some (digits-here (c .before .before .before .before .args .s .now) (c .before .before .before .before .args .at)) (2 * (c .before .before .before .before .args .first - 63)) (c .skipped .result) (ten-here (c .before .before .before .before .args .s .now) (c .before .before .before .before .args .at)) (omega arith) (omega arith) (c .skipped .ensures)) (c .before .before .last .ensures)
-
 pub plain-spec : {M : Type 1} → statement M
 plain-spec =
     tie.close
-    (tie.spec sub-point cast-point mul-point last-requires returns skipped-requires returns-2)
+    (tie.spec
+    (λ c. search needs)
+    (λ c. search needs)
+    (λ c. search needs)
+    (λ c κs. search needs)
+    (λ c. let a = c .before .before .before .args in shaped-plain (a .s .now) (a .at) (a .first) _ 0 _ (c .before .before .before .pre .2) (c .before .before .before .pre .0) (c .before .before .before .pre .1) refl (omega arith) (plain-none (digits-here (a .s .now) (a .at)) _ (c .if1 .taken)) (c .before .last .ensures))
+    (λ c κs. search needs)
+    (λ c. let a = c .before .before .before .before .args in shaped-plain (a .s .now) (a .at) (a .first) _ (c .skipped .result) _ (c .before .before .before .before .pre .2) (c .before .before .before .before .pre .0) (c .before .before .before .before .pre .1) refl (omega (arith, zeros-most (getD (digits-here (a .s .now) (a .at)) 0 48) (c .skipped .result) (c .skipped .ensures))) (plain-some (digits-here (a .s .now) (a .at)) (2 * (a .first - 63)) (c .skipped .result) (ten-here (a .s .now) (a .at)) (omega arith) (omega arith) (c .skipped .ensures)) (c .before .before .last .ensures)))

@@ -4,14 +4,10 @@ use borrow.Author.Tests.{eq-eqb, ne-eqb}
 use Rattle.constant_text.proofs.texts.skipped.Statement.{statement}
 use Rattle.constant_text.proofs.texts.skipped.Tie as tie
 
-digit-requires : tie.Need-digit-requires
-digit-requires c κs = search needs
-
-returns : tie.Need-returns
-returns c = rw (← c .before .digit .ensures, eq-eqb _ _ (c .if1 .taken))
-
-returns-2 : tie.Need-returns-2
-returns-2 c = rw (← c .before .digit .ensures, ne-eqb _ _ (c .if1 .left))
-
 pub skipped-spec : {M : Type 1} → statement M
-skipped-spec = tie.close (tie.spec digit-requires returns returns-2)
+skipped-spec =
+    tie.close
+    (tie.spec
+    (λ c κs. search needs)
+    (λ c. rw (← c .before .digit .ensures, eq-eqb _ _ (c .if1 .taken)))
+    (λ c. rw (← c .before .digit .ensures, ne-eqb _ _ (c .if1 .left))))

@@ -17,49 +17,19 @@ Inv-loop s at from to out₀ n i₀ out i = (from ≤ i) × (i ≤ to) × (out �
 abbrev μ-loop : tie.MeasureT-loop
 μ-loop s at from to out₀ n i₀ out i = to - i
 
-loop-holds : tie.Need-loop-holds Inv-loop μ-loop
-loop-holds c = (omega arith, omega arith, ap (λ xs. sets (c .before .before .args .out .now) (c .before .before .args .n) xs) (sym (slice-empty (c .before .before .args .from) (digits-here (c .before .before .args .s .now) (c .before .before .args .at)))))
-
-digit-requires : tie.Need-digit-requires Inv-loop μ-loop
-digit-requires c κs = omega arith
-
-sub-put : tie.Need-sub-put Inv-loop μ-loop
-sub-put c = omega arith
-
-add-put : tie.Need-add-put Inv-loop μ-loop
-add-put c = omega arith
-
-put-requires : tie.Need-put-requires Inv-loop μ-loop
-put-requires c κs = search needs
-
-add-i : tie.Need-add-i Inv-loop μ-loop
-add-i c = omega arith
-
-loop-less : tie.Need-loop-less Inv-loop μ-loop
-loop-less c = omega arith
-
-loop-again : tie.Need-loop-again Inv-loop μ-loop
-loop-again c = (omega arith, omega arith, digit-more (digits-here (c .before .before .before .before .before .before .before .before .before .args .s .now) (c .before .before .before .before .before .before .before .before .before .args .at)) (c .before .before .before .before .before .before .before .before .before .args .out .now) (c .before .before .before .before .before .before .loop .out) _ (c .before .before .before .before .before .before .before .before .before .args .n) (c .before .before .before .before .before .before .before .before .before .args .from) (c .before .before .before .before .before .before .loop .i) (c .before .before .before .before .digit .result) (omega arith) (omega (arith, (ten-here (c .before .before .before .before .before .before .before .before .before .args .s .now) (c .before .before .before .before .before .before .before .before .before .args .at)))) (c .before .before .before .before .before .before .loop .inv .2) (c .before .before .before .before .digit .ensures) (c .before .before .put .ensures))
-
-same-length : tie.Need-same-length Inv-loop μ-loop
-same-length c = ap length (c .before .loop .inv .2) ∙ length-sets (c .before .before .before .before .args .out .now) (c .before .before .before .before .args .n) (slice (c .before .before .before .before .args .from) (c .before .loop .i) (digits-here (c .before .before .before .before .args .s .now) (c .before .before .before .before .args .at)))
-
-returns : tie.Need-returns Inv-loop μ-loop
-returns c = c .before .loop .inv .2 ∙ ap (λ k. sets (c .before .before .before .before .args .out .now) (c .before .before .before .before .args .n) (slice (c .before .before .before .before .args .from) k (digits-here (c .before .before .before .before .args .s .now) (c .before .before .before .before .args .at)))) (ends (c .before .loop .i) (c .before .before .before .before .args .to) (c .before .loop .inv .1) (c .loop-test .left))
-
 pub write-digits-spec : {M : Type 1} → statement M
 write-digits-spec =
     tie.close
     (tie.spec
     Inv-loop
     μ-loop
-    loop-holds
-    digit-requires
-    sub-put
-    add-put
-    put-requires
-    add-i
-    loop-less
-    loop-again
-    same-length
-    returns)
+    (λ c. (omega arith, omega arith, ap (λ xs. sets (c .before .before .args .out .now) (c .before .before .args .n) xs) (sym (slice-empty (c .before .before .args .from) (digits-here (c .before .before .args .s .now) (c .before .before .args .at))))))
+    (λ c κs. omega arith)
+    (λ c. omega arith)
+    (λ c. omega arith)
+    (λ c κs. search needs)
+    (λ c. omega arith)
+    (λ c. omega arith)
+    (λ c. let a = c .before .before .before .before .before .before .before .before .before .args in let l = c .before .before .before .before .before .before .loop in (omega arith, omega arith, digit-more (digits-here (a .s .now) (a .at)) (a .out .now) (l .out) _ (a .n) (a .from) (l .i) (c .before .before .before .before .digit .result) (omega arith) (omega (arith, (ten-here (a .s .now) (a .at)))) (l .inv .2) (c .before .before .before .before .digit .ensures) (c .before .before .put .ensures)))
+    (λ c. let a = c .before .before .before .before .args in ap length (c .before .loop .inv .2) ∙ length-sets (a .out .now) (a .n) (slice (a .from) (c .before .loop .i) (digits-here (a .s .now) (a .at))))
+    (λ c. let a = c .before .before .before .before .args in c .before .loop .inv .2 ∙ ap (λ k. sets (a .out .now) (a .n) (slice (a .from) k (digits-here (a .s .now) (a .at)))) (ends (c .before .loop .i) (a .to) (c .before .loop .inv .1) (c .loop-test .left))))

@@ -1,4 +1,3 @@
--- `tokens::tables/find` meets its contract.
 use mathlib.Core.Path.{_≡_, refl, sym, _∙_}
 use Prim.Native.Nat.{_+_, _-_, _≤_}
 use native.Mathlib.Omega.{arith}
@@ -17,53 +16,20 @@ Inv-loop words start lengths first name i₀ from₀ token₀ i from token = (i 
 abbrev μ-loop : tie.MeasureT-loop
 μ-loop words start lengths first name i₀ from₀ token₀ i from token = length lengths - i
 
-loop-holds : tie.Need-loop-holds Inv-loop μ-loop
-loop-holds c = (omega arith, c .before .before .before .pre .0, omega (arith, c .before .before .before .pre .1), refl)
-
-shared-slice-read-size : tie.Need-shared-slice-read-size Inv-loop μ-loop
-shared-slice-read-size c = search needs
-
-cast-size : tie.Need-cast-size Inv-loop μ-loop
-cast-size c = omega (arith, c .shared-slice-known4 .given (c .before .before .loop .i))
-
-is-word-requires : tie.Need-is-word-requires Inv-loop μ-loop
-is-word-requires c κs = omega (arith, total-step (c .before .before .before .before .before .before .args .lengths .now) (c .before .before .before .before .before .before .args .words .now) (c .before .before .before .before .before .before .args .name .now) (c .before .before .loop .i) (c .before .before .loop .from) (c .before .before .loop .token) (c .before .loop-test .taken))
-
-returns : tie.Need-returns Inv-loop μ-loop
-returns c = hit (c .before .before .before .before .before .before .before .before .args .lengths .now) (c .before .before .before .before .before .before .before .before .args .words .now) (c .before .before .before .before .before .before .before .before .args .name .now) (c .before .before .before .before .loop .i) (c .before .before .before .before .loop .from) (c .before .before .before .before .loop .token) (c .before .before .before .loop-test .taken) (c .before .before .before .before .loop .inv .3) (sym (c .before .is-word .ensures) ∙ c .if1 .taken)
-
-add-from : tie.Need-add-from Inv-loop μ-loop
-add-from c = omega (arith, total-step (c .before .before .before .before .before .before .before .before .args .lengths .now) (c .before .before .before .before .before .before .before .before .args .words .now) (c .before .before .before .before .before .before .before .before .args .name .now) (c .before .before .before .before .loop .i) (c .before .before .before .before .loop .from) (c .before .before .before .before .loop .token) (c .before .before .before .loop-test .taken))
-
-add-token : tie.Need-add-token Inv-loop μ-loop
-add-token c = omega (arith, c .before .before .before .before .loop .inv .2)
-
-add-i : tie.Need-add-i Inv-loop μ-loop
-add-i c = search needs
-
-loop-less : tie.Need-loop-less Inv-loop μ-loop
-loop-less c = search needs
-
-loop-again : tie.Need-loop-again Inv-loop μ-loop
-loop-again c = (omega arith, omega (arith, total-step (c .before .before .before .before .before .before .before .before .args .lengths .now) (c .before .before .before .before .before .before .before .before .args .words .now) (c .before .before .before .before .before .before .before .before .args .name .now) (c .before .before .before .before .loop .i) (c .before .before .before .before .loop .from) (c .before .before .before .before .loop .token) (c .before .before .before .loop-test .taken)), omega (arith, c .before .before .before .before .loop .inv .2), miss (c .before .before .before .before .before .before .before .before .args .lengths .now) (c .before .before .before .before .before .before .before .before .args .words .now) (c .before .before .before .before .before .before .before .before .args .name .now) (c .before .before .before .before .loop .i) (c .before .before .before .before .loop .from) (c .before .before .before .before .loop .token) (c .before .before .before .loop-test .taken) (c .before .before .before .before .loop .inv .3) (sym (c .before .is-word .ensures) ∙ c .if1 .left))
-
-returns-2 : tie.Need-returns-2 Inv-loop μ-loop
-returns-2 c = done (c .before .before .before .before .before .args .lengths .now) (drop (c .before .loop .from) (c .before .before .before .before .before .args .words .now)) (c .before .before .before .before .before .args .name .now) (c .before .loop .i) (c .before .loop .token) (c .loop-test .left) (c .before .loop .inv .3)
-
 pub find-spec : {M : Type 1} → statement M
 find-spec =
     tie.close
     (tie.spec
     Inv-loop
     μ-loop
-    loop-holds
-    shared-slice-read-size
-    cast-size
-    is-word-requires
-    returns
-    add-from
-    add-token
-    add-i
-    loop-less
-    loop-again
-    returns-2)
+    (λ c. (omega arith, c .before .before .before .pre .0, omega (arith, c .before .before .before .pre .1), refl))
+    (λ c. search needs)
+    (λ c. omega (arith, c .shared-slice-known4 .given (c .before .before .loop .i)))
+    (λ c κs. omega (arith, total-step (c .before .before .before .before .before .before .args .lengths .now) (c .before .before .before .before .before .before .args .words .now) (c .before .before .before .before .before .before .args .name .now) (c .before .before .loop .i) (c .before .before .loop .from) (c .before .before .loop .token) (c .before .loop-test .taken)))
+    (λ c. hit (c .before .before .before .before .before .before .before .before .args .lengths .now) (c .before .before .before .before .before .before .before .before .args .words .now) (c .before .before .before .before .before .before .before .before .args .name .now) (c .before .before .before .before .loop .i) (c .before .before .before .before .loop .from) (c .before .before .before .before .loop .token) (c .before .before .before .loop-test .taken) (c .before .before .before .before .loop .inv .3) (sym (c .before .is-word .ensures) ∙ c .if1 .taken))
+    (λ c. omega (arith, total-step (c .before .before .before .before .before .before .before .before .args .lengths .now) (c .before .before .before .before .before .before .before .before .args .words .now) (c .before .before .before .before .before .before .before .before .args .name .now) (c .before .before .before .before .loop .i) (c .before .before .before .before .loop .from) (c .before .before .before .before .loop .token) (c .before .before .before .loop-test .taken)))
+    (λ c. omega (arith, c .before .before .before .before .loop .inv .2))
+    (λ c. search needs)
+    (λ c. search needs)
+    (λ c. (omega arith, omega (arith, total-step (c .before .before .before .before .before .before .before .before .args .lengths .now) (c .before .before .before .before .before .before .before .before .args .words .now) (c .before .before .before .before .before .before .before .before .args .name .now) (c .before .before .before .before .loop .i) (c .before .before .before .before .loop .from) (c .before .before .before .before .loop .token) (c .before .before .before .loop-test .taken)), omega (arith, c .before .before .before .before .loop .inv .2), miss (c .before .before .before .before .before .before .before .before .args .lengths .now) (c .before .before .before .before .before .before .before .before .args .words .now) (c .before .before .before .before .before .before .before .before .args .name .now) (c .before .before .before .before .loop .i) (c .before .before .before .before .loop .from) (c .before .before .before .before .loop .token) (c .before .before .before .loop-test .taken) (c .before .before .before .before .loop .inv .3) (sym (c .before .is-word .ensures) ∙ c .if1 .left)))
+    (λ c. done (c .before .before .before .before .before .args .lengths .now) (drop (c .before .loop .from) (c .before .before .before .before .before .args .words .now)) (c .before .before .before .before .before .args .name .now) (c .before .loop .i) (c .before .loop .token) (c .loop-test .left) (c .before .loop .inv .3)))

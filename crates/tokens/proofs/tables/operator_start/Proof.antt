@@ -1,349 +1,78 @@
--- `tokens::tables/operator_start` meets its contract.
 use Rattle.tokens.specs.Tables.{total}
 use Rattle.tokens.proofs.Cuts.{operator-sizes, operator-start-at, operator-start-else}
 use Rattle.tokens.proofs.tables.operator_start.Statement.{statement}
 use Rattle.tokens.proofs.tables.operator_start.Tie as tie
 
-returns : tie.Need-returns
-unfolding total operator-sizes
-returns c = operator-start-at 0x00 (c .match .keys1)
-
-returns-2 : tie.Need-returns-2
-unfolding total operator-sizes
-returns-2 c = operator-start-at 0x01 (c .match .keys2)
-
-returns-3 : tie.Need-returns-3
-unfolding total operator-sizes
-returns-3 c = operator-start-at 0x02 (c .match .keys3)
-
-returns-4 : tie.Need-returns-4
-unfolding total operator-sizes
-returns-4 c = operator-start-at 0x03 (c .match .keys4)
-
-returns-5 : tie.Need-returns-5
-unfolding total operator-sizes
-returns-5 c = operator-start-at 0x04 (c .match .keys5)
-
-returns-6 : tie.Need-returns-6
-unfolding total operator-sizes
-returns-6 c = operator-start-at 0x05 (c .match .keys6)
-
-returns-7 : tie.Need-returns-7
-unfolding total operator-sizes
-returns-7 c = operator-start-at 0x06 (c .match .keys7)
-
-returns-8 : tie.Need-returns-8
-unfolding total operator-sizes
-returns-8 c = operator-start-at 0x07 (c .match .keys8)
-
-returns-9 : tie.Need-returns-9
-unfolding total operator-sizes
-returns-9 c = operator-start-at 0x08 (c .match .keys9)
-
-returns-10 : tie.Need-returns-10
-unfolding total operator-sizes
-returns-10 c = operator-start-at 0x09 (c .match .keys10)
-
-returns-11 : tie.Need-returns-11
-unfolding total operator-sizes
-returns-11 c = operator-start-at 0x0a (c .match .keys11)
-
-returns-12 : tie.Need-returns-12
-unfolding total operator-sizes
-returns-12 c = operator-start-at 0x0b (c .match .keys12)
-
-returns-13 : tie.Need-returns-13
-unfolding total operator-sizes
-returns-13 c = operator-start-at 0x0c (c .match .keys13)
-
-returns-14 : tie.Need-returns-14
-unfolding total operator-sizes
-returns-14 c = operator-start-at 0x0d (c .match .keys14)
-
-returns-15 : tie.Need-returns-15
-unfolding total operator-sizes
-returns-15 c = operator-start-at 0x0e (c .match .keys15)
-
-returns-16 : tie.Need-returns-16
-unfolding total operator-sizes
-returns-16 c = operator-start-at 0x0f (c .match .keys16)
-
-returns-17 : tie.Need-returns-17
-unfolding total operator-sizes
-returns-17 c = operator-start-at 0x10 (c .match .keys17)
-
-returns-18 : tie.Need-returns-18
-unfolding total operator-sizes
-returns-18 c = operator-start-at 0x11 (c .match .keys18)
-
-returns-19 : tie.Need-returns-19
-unfolding total operator-sizes
-returns-19 c = operator-start-at 0x12 (c .match .keys19)
-
-returns-20 : tie.Need-returns-20
-unfolding total operator-sizes
-returns-20 c = operator-start-at 0x13 (c .match .keys20)
-
-returns-21 : tie.Need-returns-21
-unfolding total operator-sizes
-returns-21 c = operator-start-at 0x14 (c .match .keys21)
-
-returns-22 : tie.Need-returns-22
-unfolding total operator-sizes
-returns-22 c = operator-start-at 0x15 (c .match .keys22)
-
-returns-23 : tie.Need-returns-23
-unfolding total operator-sizes
-returns-23 c = operator-start-at 0x16 (c .match .keys23)
-
-returns-24 : tie.Need-returns-24
-unfolding total operator-sizes
-returns-24 c = operator-start-at 0x17 (c .match .keys24)
-
-returns-25 : tie.Need-returns-25
-unfolding total operator-sizes
-returns-25 c = operator-start-at 0x18 (c .match .keys25)
-
-returns-26 : tie.Need-returns-26
-unfolding total operator-sizes
-returns-26 c = operator-start-at 0x19 (c .match .keys26)
-
-returns-27 : tie.Need-returns-27
-unfolding total operator-sizes
-returns-27 c = operator-start-at 0x1a (c .match .keys27)
-
-returns-28 : tie.Need-returns-28
-unfolding total operator-sizes
-returns-28 c = operator-start-at 0x1b (c .match .keys28)
-
-returns-29 : tie.Need-returns-29
-unfolding total operator-sizes
-returns-29 c = operator-start-at 0x1c (c .match .keys29)
-
-returns-30 : tie.Need-returns-30
-unfolding total operator-sizes
-returns-30 c = operator-start-at 0x1d (c .match .keys30)
-
-returns-31 : tie.Need-returns-31
-unfolding total operator-sizes
-returns-31 c = operator-start-at 0x1e (c .match .keys31)
-
-returns-32 : tie.Need-returns-32
-unfolding total operator-sizes
-returns-32 c = operator-start-at 0x1f (c .match .keys32)
-
-returns-33 : tie.Need-returns-33
-unfolding total operator-sizes
-returns-33 c = operator-start-at 0x20 (c .match .keys33)
-
-returns-34 : tie.Need-returns-34
-unfolding total operator-sizes
-returns-34 c = operator-start-at 0x21 (c .match .keys34)
-
-returns-35 : tie.Need-returns-35
-unfolding total operator-sizes
-returns-35 c = operator-start-at 0x22 (c .match .keys35)
-
-returns-36 : tie.Need-returns-36
-unfolding total operator-sizes
-returns-36 c = operator-start-at 0x23 (c .match .keys36)
-
-returns-37 : tie.Need-returns-37
-unfolding total operator-sizes
-returns-37 c = operator-start-at 0x24 (c .match .keys37)
-
-returns-38 : tie.Need-returns-38
-unfolding total operator-sizes
-returns-38 c = operator-start-at 0x25 (c .match .keys38)
-
-returns-39 : tie.Need-returns-39
-unfolding total operator-sizes
-returns-39 c = operator-start-at 0x26 (c .match .keys39)
-
-returns-40 : tie.Need-returns-40
-unfolding total operator-sizes
-returns-40 c = operator-start-at 0x27 (c .match .keys40)
-
-returns-41 : tie.Need-returns-41
-unfolding total operator-sizes
-returns-41 c = operator-start-at 0x28 (c .match .keys41)
-
-returns-42 : tie.Need-returns-42
-unfolding total operator-sizes
-returns-42 c = operator-start-at 0x29 (c .match .keys42)
-
-returns-43 : tie.Need-returns-43
-unfolding total operator-sizes
-returns-43 c = operator-start-at 0x2a (c .match .keys43)
-
-returns-44 : tie.Need-returns-44
-unfolding total operator-sizes
-returns-44 c = operator-start-at 0x2b (c .match .keys44)
-
-returns-45 : tie.Need-returns-45
-unfolding total operator-sizes
-returns-45 c = operator-start-at 0x2c (c .match .keys45)
-
-returns-46 : tie.Need-returns-46
-unfolding total operator-sizes
-returns-46 c = operator-start-at 0x2d (c .match .keys46)
-
-returns-47 : tie.Need-returns-47
-unfolding total operator-sizes
-returns-47 c = operator-start-at 0x2e (c .match .keys47)
-
-returns-48 : tie.Need-returns-48
-unfolding total operator-sizes
-returns-48 c = operator-start-at 0x2f (c .match .keys48)
-
-returns-49 : tie.Need-returns-49
-unfolding total operator-sizes
-returns-49 c = operator-start-at 0x30 (c .match .keys49)
-
-returns-50 : tie.Need-returns-50
-unfolding total operator-sizes
-returns-50 c = operator-start-at 0x31 (c .match .keys50)
-
-returns-51 : tie.Need-returns-51
-unfolding total operator-sizes
-returns-51 c = operator-start-at 0x32 (c .match .keys51)
-
-returns-52 : tie.Need-returns-52
-unfolding total operator-sizes
-returns-52 c = operator-start-at 0x33 (c .match .keys52)
-
-returns-53 : tie.Need-returns-53
-unfolding total operator-sizes
-returns-53 c = operator-start-at 0x34 (c .match .keys53)
-
-returns-54 : tie.Need-returns-54
-unfolding total operator-sizes
-returns-54 c = operator-start-at 0x35 (c .match .keys54)
-
-returns-55 : tie.Need-returns-55
-unfolding total operator-sizes
-returns-55 c = operator-start-at 0x36 (c .match .keys55)
-
-returns-56 : tie.Need-returns-56
-unfolding total operator-sizes
-returns-56 c = operator-start-at 0x37 (c .match .keys56)
-
-returns-57 : tie.Need-returns-57
-unfolding total operator-sizes
-returns-57 c = operator-start-at 0x38 (c .match .keys57)
-
-returns-58 : tie.Need-returns-58
-unfolding total operator-sizes
-returns-58 c = operator-start-at 0x39 (c .match .keys58)
-
-returns-59 : tie.Need-returns-59
-unfolding total operator-sizes
-returns-59 c = operator-start-at 0x3a (c .match .keys59)
-
-returns-60 : tie.Need-returns-60
-unfolding total operator-sizes
-returns-60 c = operator-start-at 0x3b (c .match .keys60)
-
-returns-61 : tie.Need-returns-61
-unfolding total operator-sizes
-returns-61 c = operator-start-at 0x3c (c .match .keys61)
-
-returns-62 : tie.Need-returns-62
-unfolding total operator-sizes
-returns-62 c = operator-start-at 0x3d (c .match .keys62)
-
-returns-63 : tie.Need-returns-63
-unfolding total operator-sizes
-returns-63 c = operator-start-at 0x3e (c .match .keys63)
-
-returns-64 : tie.Need-returns-64
-unfolding total operator-sizes
-returns-64 c = operator-start-at 0x3f (c .match .keys64)
-
-returns-65 : tie.Need-returns-65
-unfolding total operator-sizes
-returns-65 c = operator-start-at 0x40 (c .match .keys65)
-
-returns-66 : tie.Need-returns-66
-unfolding total operator-sizes
-returns-66 c = operator-start-at 0x41 (c .match .keys66)
-
-returns-67 : tie.Need-returns-67
-unfolding total operator-sizes
-returns-67 c = operator-start-at 0x42 (c .match .keys67)
-
-returns-68 : tie.Need-returns-68
-returns-68 c = operator-start-else (c .before .args .i) (c .match .rest)
-
 pub operator-start-spec : {M : Type 1} → statement M
+unfolding total operator-sizes
 operator-start-spec =
     tie.close
     (tie.spec
-    returns
-    returns-2
-    returns-3
-    returns-4
-    returns-5
-    returns-6
-    returns-7
-    returns-8
-    returns-9
-    returns-10
-    returns-11
-    returns-12
-    returns-13
-    returns-14
-    returns-15
-    returns-16
-    returns-17
-    returns-18
-    returns-19
-    returns-20
-    returns-21
-    returns-22
-    returns-23
-    returns-24
-    returns-25
-    returns-26
-    returns-27
-    returns-28
-    returns-29
-    returns-30
-    returns-31
-    returns-32
-    returns-33
-    returns-34
-    returns-35
-    returns-36
-    returns-37
-    returns-38
-    returns-39
-    returns-40
-    returns-41
-    returns-42
-    returns-43
-    returns-44
-    returns-45
-    returns-46
-    returns-47
-    returns-48
-    returns-49
-    returns-50
-    returns-51
-    returns-52
-    returns-53
-    returns-54
-    returns-55
-    returns-56
-    returns-57
-    returns-58
-    returns-59
-    returns-60
-    returns-61
-    returns-62
-    returns-63
-    returns-64
-    returns-65
-    returns-66
-    returns-67
-    returns-68)
+    (λ c. operator-start-at 0x00 (c .match .keys1))
+    (λ c. operator-start-at 0x01 (c .match .keys2))
+    (λ c. operator-start-at 0x02 (c .match .keys3))
+    (λ c. operator-start-at 0x03 (c .match .keys4))
+    (λ c. operator-start-at 0x04 (c .match .keys5))
+    (λ c. operator-start-at 0x05 (c .match .keys6))
+    (λ c. operator-start-at 0x06 (c .match .keys7))
+    (λ c. operator-start-at 0x07 (c .match .keys8))
+    (λ c. operator-start-at 0x08 (c .match .keys9))
+    (λ c. operator-start-at 0x09 (c .match .keys10))
+    (λ c. operator-start-at 0x0a (c .match .keys11))
+    (λ c. operator-start-at 0x0b (c .match .keys12))
+    (λ c. operator-start-at 0x0c (c .match .keys13))
+    (λ c. operator-start-at 0x0d (c .match .keys14))
+    (λ c. operator-start-at 0x0e (c .match .keys15))
+    (λ c. operator-start-at 0x0f (c .match .keys16))
+    (λ c. operator-start-at 0x10 (c .match .keys17))
+    (λ c. operator-start-at 0x11 (c .match .keys18))
+    (λ c. operator-start-at 0x12 (c .match .keys19))
+    (λ c. operator-start-at 0x13 (c .match .keys20))
+    (λ c. operator-start-at 0x14 (c .match .keys21))
+    (λ c. operator-start-at 0x15 (c .match .keys22))
+    (λ c. operator-start-at 0x16 (c .match .keys23))
+    (λ c. operator-start-at 0x17 (c .match .keys24))
+    (λ c. operator-start-at 0x18 (c .match .keys25))
+    (λ c. operator-start-at 0x19 (c .match .keys26))
+    (λ c. operator-start-at 0x1a (c .match .keys27))
+    (λ c. operator-start-at 0x1b (c .match .keys28))
+    (λ c. operator-start-at 0x1c (c .match .keys29))
+    (λ c. operator-start-at 0x1d (c .match .keys30))
+    (λ c. operator-start-at 0x1e (c .match .keys31))
+    (λ c. operator-start-at 0x1f (c .match .keys32))
+    (λ c. operator-start-at 0x20 (c .match .keys33))
+    (λ c. operator-start-at 0x21 (c .match .keys34))
+    (λ c. operator-start-at 0x22 (c .match .keys35))
+    (λ c. operator-start-at 0x23 (c .match .keys36))
+    (λ c. operator-start-at 0x24 (c .match .keys37))
+    (λ c. operator-start-at 0x25 (c .match .keys38))
+    (λ c. operator-start-at 0x26 (c .match .keys39))
+    (λ c. operator-start-at 0x27 (c .match .keys40))
+    (λ c. operator-start-at 0x28 (c .match .keys41))
+    (λ c. operator-start-at 0x29 (c .match .keys42))
+    (λ c. operator-start-at 0x2a (c .match .keys43))
+    (λ c. operator-start-at 0x2b (c .match .keys44))
+    (λ c. operator-start-at 0x2c (c .match .keys45))
+    (λ c. operator-start-at 0x2d (c .match .keys46))
+    (λ c. operator-start-at 0x2e (c .match .keys47))
+    (λ c. operator-start-at 0x2f (c .match .keys48))
+    (λ c. operator-start-at 0x30 (c .match .keys49))
+    (λ c. operator-start-at 0x31 (c .match .keys50))
+    (λ c. operator-start-at 0x32 (c .match .keys51))
+    (λ c. operator-start-at 0x33 (c .match .keys52))
+    (λ c. operator-start-at 0x34 (c .match .keys53))
+    (λ c. operator-start-at 0x35 (c .match .keys54))
+    (λ c. operator-start-at 0x36 (c .match .keys55))
+    (λ c. operator-start-at 0x37 (c .match .keys56))
+    (λ c. operator-start-at 0x38 (c .match .keys57))
+    (λ c. operator-start-at 0x39 (c .match .keys58))
+    (λ c. operator-start-at 0x3a (c .match .keys59))
+    (λ c. operator-start-at 0x3b (c .match .keys60))
+    (λ c. operator-start-at 0x3c (c .match .keys61))
+    (λ c. operator-start-at 0x3d (c .match .keys62))
+    (λ c. operator-start-at 0x3e (c .match .keys63))
+    (λ c. operator-start-at 0x3f (c .match .keys64))
+    (λ c. operator-start-at 0x40 (c .match .keys65))
+    (λ c. operator-start-at 0x41 (c .match .keys66))
+    (λ c. operator-start-at 0x42 (c .match .keys67))
+    (λ c. operator-start-else (c .before .args .i) (c .match .rest)))
