@@ -1,6 +1,6 @@
 -- The promises, about the definitions of `paper`. The terms in which they are stated are in Terms.antt.
 use Prim.Native.Nat.{ℕ, zero, _+_, _≤_, _<_}
-use mathlib.Core.Path.{_≡_, sym, _∙_}
+use mathlib.Core.Path.{_≡_}
 use mathlib.Core.Bool.{Bool}
 use mathlib.Core.Logic.{_⊎_}
 use mathlib.Core.List.{List, List·Memᴰ}
@@ -14,7 +14,7 @@ use Rattle.paper.specs.Line.{line-number}
 use Rattle.paper.specs.WellFormed.{WellFormed, well-formed?}
 use Rattle.paper.specs.Listing.{listing}
 use Rattle.paper.specs.Store.{room, put-line}
-use Rattle.paper.specs.Calls.{State, names-of, lines-of, sound-state, Entered, enter, Listed, list}
+use Rattle.paper.specs.Calls.{State, names-of, lines-of, sound-state, enter, list}
 use Rattle.promises.specs.Terms.{items-in, NoReading, OutOfRange, Edited, Written, HoldsWellFormed, CutTo, bytes?, old-size, with-lines, accepted-with}
 use Rattle.promises.specs.ConstantRight as ConstantRight′
 use Rattle.promises.specs.ConstantSize as ConstantSize′
@@ -107,11 +107,3 @@ listed-again n s output b h k = ReEntry′.listed-again n s output h k b
 -- 7. No two different well-formed lines over one sound name table have the same listing, of any length.
 pub one-listing : (ns : List (List ℕ)) → T (sound-names ns) → (l m : List ℕ) → WellFormed ns l → WellFormed ns m → listing ns l ≡ listing ns m → l ≡ m
 one-listing ns s l m v w e = RoundTrip′.one-listing ns s l m v w e
-
--- 8. Tightness. Two outcomes that satisfy a call's contract are equal.
-pub one-entered : (text : List ℕ) (s : State) (a b : Entered) → a ≡ enter text s → b ≡ enter text s → a ≡ b
-one-entered text s a b h k = h ∙ sym k
-
--- the same of a listing
-pub one-listed : (n : ℕ) (s : State) (output : List ℕ) (a b : Listed) → a ≡ list n s output → b ≡ list n s output → a ≡ b
-one-listed n s output a b h k = h ∙ sym k
