@@ -35,11 +35,7 @@ struct Program {
 fn begun(source: usize) -> Program {
     Program {
         source,
-        record: Editor {
-            used: 0,
-            name_count: 0,
-            name_bytes: 0,
-        },
+        record: editor_edit::empty(),
     }
 }
 

@@ -14,6 +14,10 @@ abbrev pub state : List ℕ → List ℕ → List ℕ → Editor → State
 state names values store e =
     record { names = names; name-size = e .«name_bytes»; name-count = e .«name_count»; values = values; store = store; used = e .used }
 
+-- the record of empty tables and an empty store
+abbrev pub empty-record : Editor
+empty-record = record { used = 0; «name_count» = 0; «name_bytes» = 0 }
+
 -- what a call answered, with what it left in names, values and store
 abbrev pub entered : Entered → List ℕ → List ℕ → List ℕ → Outcome
 entered r names values store = record { number = r .number; place = r .place; added = r .added; after = state names values store (r .editor) }

@@ -6,7 +6,7 @@ use store::Stored;
 ghost use mathlib.Core.Path.{_≡_};
 ghost use lib.Dec.{T};
 ghost use Rattle.paper.specs.Calls.{sound-state, delete};
-ghost use Rattle.editor_edit.specs.States.{state, entered, refusing, Lies};
+ghost use Rattle.editor_edit.specs.States.{state, empty-record, entered, refusing, Lies};
 ghost use Rattle.editor_edit.specs.Lines.{Readable, Accepts};
 
 // The editor's record: the bytes of the store that are used, how many names there are, and how many bytes they have.
@@ -26,6 +26,17 @@ pub struct Entered {
 
 // The most bytes that a line may have.
 const LONGEST_LINE: usize = 255;
+
+// The record of empty tables and an empty store.
+pub fn empty() -> Editor
+    ensures { λ r. ⌜ r ≡ empty-record ⌝ }
+{
+    Editor {
+        used: 0,
+        name_count: 0,
+        name_bytes: 0,
+    }
+}
 
 // A refusal: nothing is added, and the record is as it was.
 pub fn refused(number: u8, place: usize, e: Editor) -> Entered

@@ -1,6 +1,6 @@
 -- The promises, about the definitions of `paper`. The terms in which they are stated are in Terms.antt.
 use Prim.Native.Nat.{ℕ, zero, _+_, _≤_, _<_}
-use mathlib.Core.Path.{_≡_, sym, _∙_}
+use mathlib.Core.Path.{_≡_}
 use mathlib.Core.Bool.{Bool}
 use mathlib.Core.Logic.{_↔_, _⊎_}
 use mathlib.Core.List.{List, List·Memᴰ}
@@ -14,7 +14,7 @@ use Rattle.paper.specs.Line.{line-number}
 use Rattle.paper.specs.WellFormed.{WellFormed, well-formed?}
 use Rattle.paper.specs.Listing.{listing}
 use Rattle.paper.specs.Store.{room, line-at, put-line}
-use Rattle.paper.specs.Calls.{State, names-of, lines-of, sound-state, Entered, enter, Listed, list}
+use Rattle.paper.specs.Calls.{State, names-of, lines-of, sound-state, enter, list}
 use Rattle.promises.specs.Terms.{number-end, past-number, items-in, NoReading, OutOfRange, Readable, Exactly, Unread, TooFar, text-refusals, listing-refusals, Edited, Written, HoldsWellFormed, CutTo, old-size, with-lines, accepted-with}
 use Rattle.promises.specs.ConstantRight as ConstantRight′
 use Rattle.promises.specs.ConstantSize as ConstantSize′
@@ -114,15 +114,7 @@ listed-again n s output b h k = ReEntry′.listed-again n s output h k b
 pub one-listing : (ns : List (List ℕ)) → T (sound-names ns) → (l m : List ℕ) → WellFormed ns l → WellFormed ns m → listing ns l ≡ listing ns m → l ≡ m
 one-listing ns s l m v w e = RoundTrip′.one-listing ns s l m v w e
 
--- 8. Tightness. Two outcomes that satisfy a call's contract are equal.
-pub one-entered : (text : List ℕ) (s : State) (a b : Entered) → a ≡ enter text s → b ≡ enter text s → a ≡ b
-one-entered text s a b h k = h ∙ sym k
-
--- the same of a listing
-pub one-listed : (n : ℕ) (s : State) (output : List ℕ) (a b : Listed) → a ≡ list n s output → b ≡ list n s output → a ≡ b
-one-listed n s output a b h k = h ∙ sym k
-
--- 9. Exactly when. Terms.antt lists the numbers of each call with their conditions, in the order and the words of document 01: of a text that is
+-- 8. Exactly when. Terms.antt lists the numbers of each call with their conditions, in the order and the words of document 01: of a text that is
 -- entered, of one that deletes, of a listing. A call answers k exactly when k's condition holds and none before it does, and 0 exactly when none holds.
 pub text-exactly : (text : List ℕ) (s : State) → Exactly (text-refusals text s) ((enter text s) .number)
 text-exactly text s = Exactly′.text-exactly text s

@@ -1,0 +1,30 @@
+-- One outcome: two that satisfy the same contract are equal, in the answer and in each lent buffer.
+use Prim.Native.Nat.{ℕ}
+use mathlib.Core.Path.{_≡_, sym, ap, _∙_}
+use mathlib.Core.List.{List}
+use Rattle.paper.specs.Calls.{State, accept}
+use Rattle.paper.specs.Calls.{Entered as Outcome}
+use Rattle.editor_edit.specs.States.{entered}
+use Rattle.editor_edit.specs.Lines.{Readable, Accepts}
+use Rattle.editor_edit.specs.declared.Editor.{Editor}
+use Rattle.editor_edit.specs.declared.Entered.{Entered}
+
+-- the record of a state
+abbrev pub record-of : State → Editor
+record-of s = record { used = s .used; «name_count» = s .name-count; «name_bytes» = s .name-size }
+
+-- the answer of an outcome
+abbrev answer-of : Outcome → Entered
+answer-of o = record { number = o .number; place = o .place; added = o .added; editor = record-of (o .after) }
+
+-- of a text entered, or a line taken out: o is the outcome that the contract gives
+pub one-entered : (o : Outcome) (r r′ : Entered) (n v s n′ v′ s′ : List ℕ) → entered r n v s ≡ o → entered r′ n′ v′ s′ ≡ o → (r ≡ r′) × (n ≡ n′) × (v ≡ v′) × (s ≡ s′)
+one-entered o r r′ n v s n′ v′ s′ h k =
+    let e = h ∙ sym k in (ap answer-of e, ap (λ (x : Outcome). x .after .names) e, ap (λ (x : Outcome). x .after .values) e, ap (λ (x : Outcome). x .after .store) e)
+
+-- of a line accepted that was read
+pub one-accepted : (x : State) (number : ℕ) (line : List ℕ) (size : ℕ) (fresh : List ℕ) → Readable x number line size fresh
+    → (r r′ : Entered) (n v s n′ v′ s′ : List ℕ) → Accepts x number line size fresh (entered r n v s) → Accepts x number line size fresh (entered r′ n′ v′ s′)
+    → (r ≡ r′) × (n ≡ n′) × (v ≡ v′) × (s ≡ s′)
+one-accepted x number line size fresh read r r′ n v s n′ v′ s′ h k =
+    one-entered (accept x number (read .ts)) r r′ n v s n′ v′ s′ (h (read .ts) (read .written)) (k (read .ts) (read .written))

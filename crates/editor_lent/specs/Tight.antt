@@ -1,0 +1,20 @@
+-- One outcome: two that satisfy the contract of a text entered over a lent record are equal, in the answer, in each lent buffer and in the record.
+use Prim.Native.Nat.{ℕ}
+use mathlib.Core.Path.{_≡_, sym, ap, _∙_}
+use mathlib.Core.List.{List}
+use Rattle.paper.specs.Calls.{Entered as Outcome}
+use Rattle.editor_edit.specs.declared.Editor.{Editor}
+use Rattle.editor_edit.specs.Tight.{record-of}
+use Rattle.editor_lent.specs.Answers.{answered}
+use Rattle.editor_lent.specs.declared.Answer.{Answer}
+
+-- the answer of an outcome
+abbrev answer-of : Outcome → Answer
+answer-of o = record { number = o .number; place = o .place; added = o .added }
+
+-- o is the outcome that the contract gives
+pub one-answered : (o : Outcome) (r r′ : Answer) (n v s n′ v′ s′ : List ℕ) (e e′ : Editor) → answered r n v s e ≡ o → answered r′ n′ v′ s′ e′ ≡ o
+    → (r ≡ r′) × (n ≡ n′) × (v ≡ v′) × (s ≡ s′) × (e ≡ e′)
+one-answered o r r′ n v s n′ v′ s′ e e′ h k =
+    let z = h ∙ sym k in
+    (ap answer-of z, ap (λ (x : Outcome). x .after .names) z, ap (λ (x : Outcome). x .after .values) z, ap (λ (x : Outcome). x .after .store) z, ap (λ (x : Outcome). record-of (x .after)) z)
