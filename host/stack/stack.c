@@ -1,24 +1,90 @@
 /*
- * Prints the greatest stack that entering and listing take. Each call runs on a stack of its own that
- * was painted before; what is no longer paint was used. Texts of 120 bytes that nest as deep as they
- * can are entered, and the lines that come of them are listed.
+ * Prints the greatest stack that entering and listing take, and the text that took it. Each call runs on
+ * a stack of its own that was painted before; what is no longer paint was used. Many texts are entered,
+ * of 1 to 20 parts and of as many as fit in 120 bytes, and the lines that come of them are listed.
+ *
+ *   stack [ENTER LIST]      status 1 where entering or listing takes more bytes than that
  */
 #include <stdio.h>
+#include <stdlib.h>
 #include <string.h>
 #include <ucontext.h>
 
 #include "virgontey.h"
 
-enum { STACK = 1 << 20, PAINT = 0xA5, TEXT = 120 };
+#define COUNT(array) (sizeof(array) / sizeof *(array))
 
-static uint8_t stack[STACK];
+enum { STACK = 1 << 18, TEXT = 120, LEVELS = 20 };
+
+static const uint64_t paint = 0xA5A5A5A5A5A5A5A5;
+
+/* What a text begins with: what takes an expression, and expressions that are nested already. */
+static const char *heads[] = {
+    "1",
+    "1A=",
+    "1?",
+    "1IF ",
+    "1A(",
+    "1A$=A$(",
+    "1DIM A(",
+    "1ON ",
+    "1A=(",
+    "1A=A(",
+    "1?A$(",
+    "1A=LEN(A$(",
+    "1A=((((",
+    "1A=A(A(A(A(",
+    "1A=A(1,A(1,A(1,A(1,",
+    "1A=LEN(A$(LEN(A$(",
+    "1A=LEN(STR$(LEN(STR$(",
+    "1A=A$=A$(A$=A$(A$=A$(A$=A$(",
+    "1A=(A$=A$((A$=A$(",
+    "1A=SIN(SIN(SIN(SIN(",
+    "1A=NOT(-(NOT(-(",
+    "1A=A$(A$=A$(1,A$=A$(1,A$=STR$(",
+};
+
+/* What is then written again and again: openings, prefixes, joined terms, statements, words and names. */
+static const char *parts[] = {
+    "(", "-(", "(-", "1+(", "NOT(", "(NOT ", "A(", "A(1,", "A$(", "A$(1,", "SIN(", "LEN(A$(", "VAL(STR$(",
+    "(A$=A$(", "A$=A$(", "A$=A$(A$=A$(", "A(A$=A$(1,", "-A$=A$(1,",
+    "+", "NOT ",
+    "1+", "1=", "A+", "-A+", "NOT A+", "(1)+", "A(1)+", "LEN(A$)+", "A$=", "A$=A$+",
+    ":", "?:", "1:A=", "NEXT A:", "IF1THEN",
+    "A", "A$", "1.5", "LEN", "STR$", "GRAPHICS", "PADDLE", "ABCDEFGHIJKLMNOPQRSTUVWXYZ",
+};
+
+/* Lines as a station's program has them. */
+static const char *lines[] = {
+    "1A=1",
+    "1PRINT \"HI\"",
+    "1IF TEMP(I)>MAX AND NOT (HUM<20 OR DRY=1) THEN PRINT \"HIGH AT \";I:GOTO 200",
+    "1LET S=S+INT(100*SIN(X/2)+0.5)/100:NEXT I",
+    "1DIM A$(10),B(3,4)",
+    "1FOR I=1 TO 1.5E+20 STEP -0.0125:POKE 1536+I,ASC(A$(I,I)):NEXT I",
+    "1DATA 1,2,3",
+    "1REM HELLO",
+};
+
+static uint64_t stack[STACK / sizeof(uint64_t)];
 static ucontext_t outside, inside;
 
 static uint8_t names[2048], values[1024], store[65535], out[1024];
 static size_t record[VIRGONTEY_RECORD_LENGTH], answer[VIRGONTEY_ENTER_LENGTH];
 static char text[TEXT + 1];
 
-/* Nothing: what a stack of its own costs. */
+/* The greatest stack of a call so far, and the text with which it took that. */
+struct most {
+    size_t bytes;
+    char text[TEXT + 1];
+};
+
+static struct most entering, listing;
+
+/* What a stack of its own takes for nothing. */
+static size_t idle;
+
+/* Nothing. */
 static void nothing(void)
 {
 }
@@ -38,30 +104,43 @@ static void list(void)
                    VIRGONTEY_RECORD_LENGTH, out, sizeof out, answer, VIRGONTEY_LIST_LENGTH);
 }
 
-/* How many bytes of stack a call takes. */
+/* How many bytes of stack a call takes. All of the stack is paint before and after. */
 static size_t used(void (*call)(void))
 {
-    size_t left = 0;
+    size_t left = 0, i;
 
-    memset(stack, PAINT, sizeof stack);
     getcontext(&inside);
     inside.uc_stack.ss_sp = stack;
     inside.uc_stack.ss_size = sizeof stack;
     inside.uc_link = &outside;
     makecontext(&inside, call, 0);
     swapcontext(&outside, &inside);
-    while (left < sizeof stack && stack[left] == PAINT)
+    while (left < COUNT(stack) && stack[left] == paint)
         left++;
-    return sizeof stack - left;
+    for (i = left; i < COUNT(stack); i++)
+        stack[i] = paint;
+    return sizeof stack - left * sizeof *stack;
 }
 
-/* Makes a text of a head, as many of a part as fit, and for each the part that closes it, if any does. */
-static void make(const char *head, const char *part, const char *middle, const char *close)
+/* Notes what a call takes beyond what nothing takes. */
+static void measure(void (*call)(void), struct most *most)
 {
-    size_t each = strlen(part) + strlen(close);
-    size_t count = (TEXT - strlen(head) - strlen(middle)) / each;
+    size_t bytes = used(call) - idle;
+
+    if (bytes > most->bytes) {
+        most->bytes = bytes;
+        strcpy(most->text, text);
+    }
+}
+
+/* Makes a text of a head, a part so many times or as often as it fits, a middle, and for each part a close. */
+static void make(const char *head, const char *part, size_t count, const char *middle, const char *close)
+{
+    size_t fit = (TEXT - strlen(head) - strlen(middle)) / (strlen(part) + strlen(close));
     size_t i;
 
+    if (count > fit)
+        count = fit;
     strcpy(text, head);
     for (i = 0; i < count; i++)
         strcat(text, part);
@@ -70,30 +149,40 @@ static void make(const char *head, const char *part, const char *middle, const c
         strcat(text, close);
 }
 
-int main(void)
+/* Prints what a call takes at most; whether that is within a bound, if there is one. */
+static int within(const char *call, const struct most *most, const char *bound)
 {
-    static const char *parts[] = {"(", "-(", "NOT(", "A(", "A(1,", "A$(", "A$(1,", "SIN(", "LEN(A$(",
-                                  "(A$=A$(", "VAL(STR$(", "1+(", "+", "NOT ", "IF1THEN"};
-    static const char *heads[] = {"1", "1A=", "1?", "1IF ", "1A(", "1A$=A$(", "1DIM A(", "1ON "};
-    size_t most_enter = 0, most_list = 0, base = used(nothing);
-    size_t h, p;
+    printf("%s: %zu bytes of stack, for %s\n", call, most->bytes, most->text);
+    return bound == NULL || most->bytes <= strtoul(bound, NULL, 10);
+}
 
-    for (h = 0; h < sizeof heads / sizeof *heads; h++)
-        for (p = 0; p < sizeof parts / sizeof *parts; p++) {
-            size_t n;
+int main(int argc, char **argv)
+{
+    size_t h, p, count;
+    int well;
 
-            make(heads[h], parts[p], "", "");
-            n = used(enter) - base;
-            if (n > most_enter)
-                most_enter = n;
-            make(heads[h], parts[p], "1", ")");
-            n = used(enter) - base;
-            if (n > most_enter)
-                most_enter = n;
-            n = used(list) - base;
-            if (n > most_list)
-                most_list = n;
-        }
-    printf("%zu, %zu\n", most_enter, most_list);
-    return 0;
+    for (p = 0; p < COUNT(stack); p++)
+        stack[p] = paint;
+    idle = used(nothing);
+    for (h = 0; h < COUNT(heads); h++)
+        for (p = 0; p < COUNT(parts); p++)
+            for (count = 1; count <= LEVELS + 1; count++) {
+                size_t n = count <= LEVELS ? count : TEXT;
+
+                memset(record, 0, sizeof record);
+                make(heads[h], parts[p], n, "", "");
+                measure(enter, &entering);
+                make(heads[h], parts[p], n, "1", ")");
+                measure(enter, &entering);
+                measure(list, &listing);
+            }
+    memset(record, 0, sizeof record);
+    for (p = 0; p < COUNT(lines); p++) {
+        strcpy(text, lines[p]);
+        measure(enter, &entering);
+        measure(list, &listing);
+    }
+    well = within("enter", &entering, argc == 3 ? argv[1] : NULL);
+    well &= within("list", &listing, argc == 3 ? argv[2] : NULL);
+    return well ? 0 : 1;
 }
