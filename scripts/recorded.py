@@ -116,9 +116,9 @@ def row(call):
         number, place, added, used_after, size_after, count_after, names_after, values_after, store_after = answer
         before = state(names, size_of_names, count, values, store, used)
         after = state(names_after, size_after, count_after, values_after, store_after, used_after)
-        return f"enters {quoted(text)} {before} {number} {place} {added} {after}"
+        return f"enters (hex {quoted(text)}) {before} {number} {place} {added} {after}"
     line, names, size_of_names, count, values, store, used, output = asked[1:]
-    return f"lists {line} {state(names, size_of_names, count, values, store, used)} {quoted(output)} {answer[0]} {answer[1]} {quoted(answer[2])}"
+    return f"lists {line} {state(names, size_of_names, count, values, store, used)} (hex {quoted(output)}) {answer[0]} {answer[1]} (hex {quoted(answer[2])})"
 
 
 FILE = "crates/cases/specs/Recorded.antt"
@@ -132,9 +132,6 @@ def main():
         n = i // GROUP
         out += f"\nunfoldable pub calls-{n} : List Call\ncalls-{n} =\n    " + "\n    ∷ ".join(table[i : i + GROUP]) + "\n    ∷ []\n"
         out += f"\npub agree-{n} : failing {i} calls-{n} ≡ []\nunfolding everything state same-state meets failing calls-{n}\nagree-{n} = refl\n"
-    groups = [f"calls-{i}" for i in range((len(table) + GROUP - 1) // GROUP)]
-    out += f"\n-- all calls\nunfoldable pub calls : List Call\ncalls = {' ++ '.join(groups)}\n"
-    out += f"\n-- to unfold it is to unfold the tables\nunfoldable pub all-calls : Unit {{0}}\nunfolding state calls {' '.join(groups)}\nall-calls = tt\n"
     open(FILE, "w").write(out)
     print(len(table), "calls")
 

@@ -1,69 +1,174 @@
--- Every row of the grammar is used by the reading of some case or recorded call: no row stands untried.
-use Prim.Native.Nat.{ℕ}
+-- Nothing of the grammar stands untried: every row is used by the reading of some case; without any one of the frames that a row wants some case
+-- is read otherwise; and if any one frame more might be empty some case is read otherwise, but for the few frames listed below.
+use Prim.Native.Nat.{ℕ, zero, suc}
 use mathlib.Core.Path.{_≡_, refl}
-use mathlib.Core.Bool.{Bool, false, _&&_, _||_}
+use mathlib.Core.Bool.{Bool, false, not, _&&_, _||_}
 use mathlib.Core.List.{List, [], _∷_, _++_}
 use lib.Dec.{eqb}
-use Rattle.paper.specs.Bytes.{pick, bytes}
-use Rattle.paper.specs.Hex.{hex}
+use lib.ListN.{length, getD}
+use Rattle.paper.specs.Bytes.{pick, bytes, same, among}
+use Rattle.paper.specs.Frames.{want-statement, want-after-then, want-end, want-raw-text, want-raw-end, want-array-open, want-let-target, want-dim-array-open, want-restore-number}
 use Rattle.paper.specs.Tokens.{class}
 use Rattle.paper.specs.Items.{Item, items}
-use Rattle.paper.specs.Machine.{Act, Row, row, find-row, Taken, Run, left, done, bad, read}
-use Rattle.paper.specs.Grammar.{Gives, grammar, may-be-empty, start}
+use Rattle.paper.specs.Machine.{Row, row, find-row, Taken, Run, left, done, bad, read}
+use Rattle.paper.specs.Grammar.{Gives, itself, for-strings, as-prefix, put, grammar, may-be-empty, start}
 use Rattle.paper.specs.Calls.{Head, numbered, too-great, no-digit, head-of}
 use Rattle.paper.specs.Open.{everything}
 use Rattle.paper.specs.Cases.{Case, stores, refuses, telling}
 use Rattle.cases.specs.Worked.{worked}
-use Rattle.cases.specs.Recorded.{Call, enters, lists, calls, all-calls}
+use Rattle.cases.specs.Following.{Walk, along, walks, all-walks}
+
+-- ---- the texts of all cases, as the classes of their items
+
+-- the classes of items
+unfoldable pub classes : List Item → List ℕ
+classes [] = []
+classes (i ∷ is) = class (i .token) ∷ classes is
+
+-- the classes of a numbered text, in front of those of others
+unfoldable pub and-text : Head → List (List ℕ) → List (List ℕ)
+and-text (numbered n p rest) more = classes (items p rest) ∷ more
+and-text too-great more = more
+and-text no-digit more = more
+
+-- the texts of worked cases
+unfoldable pub texts-of-cases : List Case → List (List ℕ)
+texts-of-cases [] = []
+texts-of-cases (c ∷ cs) = and-text (head-of (bytes (c .text))) (texts-of-cases cs)
+
+-- the texts at each place of which what may follow is tried
+unfoldable pub texts-of-walks : List Walk → List (List ℕ)
+texts-of-walks [] = []
+texts-of-walks (w ∷ ws) = and-text (head-of (bytes (w .text))) (texts-of-walks ws)
+
+-- ---- readings by some rows and some frames that may be empty
 
 -- the same rows, each giving itself
 unfoldable pub traced : List (Row Gives) → List (Row (Row Gives))
 traced [] = []
 traced (r ∷ rs) = row (r .frame) (r .class) r (r .wants) ∷ traced rs
 
--- what a frame does with an item, and by which row
-unfoldable pub look-traced : ℕ → Item → Act (Row Gives)
-look-traced f i = find-row (traced grammar) may-be-empty f (class (i .token))
-
--- the rows by which items were taken
-unfoldable pub rows-of : List (Taken (Row Gives) Item) → List (Row Gives)
+-- the rows by which classes were taken
+unfoldable pub rows-of : List (Taken (Row Gives) ℕ) → List (Row Gives)
 rows-of [] = []
 rows-of (t ∷ ts) = t .gave ∷ rows-of ts
 
--- the rows that a run used to its end, if it took all items
-unfoldable pub rows-of-run : Run (Row Gives) Item → List (Row Gives)
+-- what a row gives, as a number
+unfoldable pub give-number : Gives → ℕ
+give-number itself = 0
+give-number for-strings = 1
+give-number as-prefix = 2
+give-number (put k) = k
+
+-- what taken classes gave
+unfoldable pub gave-numbers : List (Taken Gives ℕ) → List ℕ
+gave-numbers [] = []
+gave-numbers (t ∷ ts) = give-number (t .gave) ∷ gave-numbers ts
+
+-- what a reading comes to: read, with what is still wanted and what was given; or refused, with how many items are left
+unfoldable pub verdict : Run Gives ℕ → List ℕ
+verdict (left ts s) = 0 ∷ length s ∷ gave-numbers ts
+verdict (done ts r) = 1 ∷ length r ∷ []
+verdict (bad k ts r) = 1 ∷ length r ∷ []
+
+-- a text: its classes, the rows by which they are taken, up to the end or to the refusal, and what its reading comes to
+pub record Text : Type 0 where
+  pub classes-of : List ℕ
+  pub rows : List (Row Gives)
+  pub comes-to : List ℕ
+
+-- the rows that a run used
+unfoldable pub rows-of-run : Run (Row Gives) ℕ → List (Row Gives)
 rows-of-run (left ts s) = rows-of ts
-rows-of-run (done ts r) = []
-rows-of-run (bad k ts r) = []
+rows-of-run (done ts r) = rows-of ts
+rows-of-run (bad k ts r) = rows-of ts
 
--- the rows that the reading of a numbered text uses
-unfoldable pub rows-of-head : Head → List (Row Gives)
-rows-of-head (numbered n p rest) = rows-of-run (read look-traced start (items p rest))
-rows-of-head too-great = []
-rows-of-head no-digit = []
+-- a text, read
+unfoldable pub read-text : List ℕ → Text
+read-text t = record { classes-of = t; rows = rows-of-run (read (find-row (traced grammar) may-be-empty) start t); comes-to = verdict (read (find-row grammar may-be-empty) start t) }
 
--- the rows that the worked cases use
-unfoldable pub rows-of-cases : List Case → List (Row Gives)
-rows-of-cases [] = []
-rows-of-cases (c ∷ cs) = rows-of-head (head-of (bytes (c .text))) ++ rows-of-cases cs
+-- texts, read
+unfoldable pub read-texts : List (List ℕ) → List Text
+read-texts [] = []
+read-texts (t ∷ ts) = read-text t ∷ read-texts ts
 
--- the rows that the recorded texts use
-unfoldable pub rows-of-calls : List Call → List (Row Gives)
-rows-of-calls [] = []
-rows-of-calls (enters text s number place added after ∷ cs) = rows-of-head (head-of (hex text)) ++ rows-of-calls cs
-rows-of-calls (lists n s output number written after ∷ cs) = rows-of-calls cs
+-- a text is read otherwise by these rows, with these frames that may be empty
+unfoldable pub read-otherwise : List (Row Gives) → List ℕ → Text → Bool
+read-otherwise rows empty t = not (same (verdict (read (find-row rows empty) start (t .classes-of))) (t .comes-to))
+
+-- ---- every row is used
 
 -- a row is one of some rows
 unfoldable pub used? : Row Gives → List (Row Gives) → Bool
 used? r [] = false
 used? r (u ∷ us) = (eqb (r .frame) (u .frame) && eqb (r .class) (u .class)) || used? r us
 
--- the rows that are not used
-unfoldable pub unused : List (Row Gives) → List (Row Gives) → List (Row Gives)
-unused [] us = []
-unused (r ∷ rs) us = let more = unused rs us in pick (used? r us) more (r ∷ more)
+-- a row is used by the reading of some text
+unfoldable pub used-by-some? : Row Gives → List Text → Bool
+used-by-some? r [] = false
+used-by-some? r (t ∷ ts) = used? r (t .rows) || used-by-some? r ts
 
--- every row of the grammar is used
-pub every-row-is-used : unused grammar (rows-of-cases telling ++ rows-of-cases worked ++ rows-of-calls calls) ≡ []
-unfolding everything traced look-traced rows-of rows-of-run rows-of-head rows-of-cases rows-of-calls used? unused stores refuses telling worked all-calls
-every-row-is-used = refl
+-- the rows that are not used
+unfoldable pub unused : List (Row Gives) → List Text → List (Row Gives)
+unused [] ts = []
+unused (r ∷ rs) ts = let more = unused rs ts in pick (used-by-some? r ts) more (r ∷ more)
+
+-- ---- every frame that a row wants is needed
+
+-- some text that uses a row is read otherwise with another in front of it, of the same frame and class
+unfoldable pub other-row-shows : Row Gives → List Text → Bool
+other-row-shows r [] = false
+other-row-shows r (t ∷ ts) = (used? r (t .rows) && read-otherwise (r ∷ grammar) may-be-empty t) || other-row-shows r ts
+
+-- the frames, among those that a row wants after `before`, without which no text is read otherwise; each with the row's frame and class
+unfoldable pub not-needed : Row Gives → List ℕ → List ℕ → List Text → List (List ℕ)
+not-needed r before [] ts = []
+not-needed r before (w ∷ ws) ts =
+    let more = not-needed r (before ++ w ∷ []) ws ts in
+    pick (other-row-shows (row (r .frame) (r .class) (r .gives) (before ++ ws)) ts) more ((r .frame ∷ r .class ∷ w ∷ []) ∷ more)
+
+-- all frames that a row wants and no text needs
+unfoldable pub all-not-needed : List (Row Gives) → List Text → List (List ℕ)
+all-not-needed [] ts = []
+all-not-needed (r ∷ rs) ts = not-needed r [] (r .wants) ts ++ all-not-needed rs ts
+
+-- ---- every frame of which something must come is needed
+
+-- the texts that are refused: a frame that may be empty leaves all others as they are
+unfoldable pub refused-texts : List Text → List Text
+refused-texts [] = []
+refused-texts (t ∷ ts) = let more = refused-texts ts in pick (eqb (getD (t .comes-to) 0 0) 1) (t ∷ more) more
+
+-- some text is read otherwise if a frame may be empty
+unfoldable pub empty-shows : ℕ → List Text → Bool
+empty-shows f [] = false
+empty-shows f (t ∷ ts) = read-otherwise grammar (f ∷ may-be-empty) t || empty-shows f ts
+
+-- the frames up to n, the greatest first, that may not be empty, and without which no text is read otherwise
+unfoldable pub not-missed : ℕ → List Text → List ℕ
+not-missed zero ts = []
+not-missed (suc n) ts = let more = not-missed n ts in pick (among n may-be-empty || empty-shows n ts) more (n ∷ more)
+
+-- the texts of all cases with their rows
+unfoldable pub texts : List Text
+texts = read-texts (texts-of-walks walks ++ texts-of-cases worked ++ texts-of-cases telling)
+
+-- Frames of which a text never shows that something must come. An array's name is one only before `(`, and text always follows REM and DATA, so
+-- that three frames find in every text what they want (`Following` tries them with other items too). Below the other five nothing is wanted, so
+-- that what they leave is refused all the same, at the same place.
+unfoldable pub never-missed : List ℕ
+never-missed = want-dim-array-open ∷ want-let-target ∷ want-array-open ∷ want-raw-end ∷ want-raw-text ∷ want-end ∷ want-after-then ∷ want-statement ∷ []
+
+-- the rows that no text uses, the frames that a row wants and no text needs, and the frames that no text misses
+pub record Untried : Type 0 where
+  pub rows : List (Row Gives)
+  pub wanted : List (List ℕ)
+  pub frames : List ℕ
+
+-- what some texts leave untried
+unfoldable pub untried : List Text → Untried
+untried ts = record { rows = unused grammar ts; wanted = all-not-needed grammar ts; frames = not-missed (suc want-restore-number) (refused-texts ts) }
+
+pub nothing-untried : untried texts ≡ record { rows = []; wanted = []; frames = never-missed }
+unfolding everything classes and-text texts-of-cases texts-of-walks traced rows-of give-number gave-numbers verdict rows-of-run read-text read-texts read-otherwise used? used-by-some? unused other-row-shows not-needed all-not-needed refused-texts empty-shows not-missed texts never-missed untried stores refuses telling worked all-walks
+nothing-untried = refl

@@ -1,3 +1,6 @@
+pub mod Answers
 pub mod Worked
 pub mod Recorded
+pub mod Limits
+pub mod Following
 pub mod Coverage

@@ -98,6 +98,14 @@ worked =
     ∷ stores "10 A=1.E2" "0A 00 0F 0F 36 80 2D 0E 41 01 00 00 00 00 16" "C1" "10 A=100"
     ∷ stores "10 A=.0099" "0A 00 0F 0F 36 80 2D 0E 3E 99 00 00 00 00 16" "C1" "10 A=9.9E-03"
     ∷ stores "10 A=9999999999.9" "0A 00 0F 0F 36 80 2D 0E 44 99 99 99 99 99 16" "C1" "10 A=9999999999"
+    ∷ stores "10 A=0.01" "0A 00 0F 0F 36 80 2D 0E 3F 01 00 00 00 00 16" "C1" "10 A=0.01"
+    ∷ stores "10 A=0.009999999999" "0A 00 0F 0F 36 80 2D 0E 3E 99 99 99 99 99 16" "C1" "10 A=9.999999999E-03"
+    ∷ stores "10 A=1E10" "0A 00 0F 0F 36 80 2D 0E 45 01 00 00 00 00 16" "C1" "10 A=1E+10"
+    ∷ stores "10 A=10E-99" "0A 00 0F 0F 36 80 2D 0E 0F 01 00 00 00 00 16" "C1" "10 A=1E-98"
+    ∷ stores "10 A=99.5" "0A 00 0F 0F 36 80 2D 0E 40 99 50 00 00 00 16" "C1" "10 A=99.5"
+    ∷ stores "10 A=100" "0A 00 0F 0F 36 80 2D 0E 41 01 00 00 00 00 16" "C1" "10 A=100"
+    ∷ refuses "10 A=10E97" 5 5
+    ∷ refuses "10 A=1E-99" 5 5
     ∷ refuses "10 A=0.99999999999E-98" 5 5
     ∷ refuses "10 A=1E98+1E98" 5 5
     ∷ refuses "10 A=1E98+" 5 5
@@ -145,6 +153,24 @@ worked =
     ∷ refuses "10 DIM A$(1,2)" 4 11
     ∷ refuses "10 ON A THEN 1" 4 8
     ∷ refuses "10 GOTO10" 4 9
+    ∷ refuses "10 NEXT" 4 7
+    ∷ refuses "10 DIM" 4 6
+    ∷ refuses "10 DIM A(1)," 4 12
+    ∷ refuses "10 DIM A$ 1)" 4 10
+    ∷ refuses "10 READ" 4 7
+    ∷ refuses "10 READ A," 4 10
+    ∷ refuses "10 A=B(1" 4 8
+    ∷ refuses "10 A=B(1,2,3)" 4 10
+    ∷ refuses "10 A$(1,2,3)=B$" 4 9
+    ∷ refuses "10 A=SIN 1)" 4 9
+    ∷ refuses "10 A=LEN()" 4 9
+    ∷ refuses "10 IF A 10" 4 8
+    ∷ refuses "10 FOR =1 TO 2" 4 7
+    ∷ refuses "10 FOR I 1 TO 2" 4 9
+    ∷ refuses "10 FOR I=1 2" 4 11
+    ∷ refuses "10 ON A 1" 4 8
+    ∷ refuses "10 POKE 1 2" 4 10
+    ∷ refuses "10 LET" 4 6
     ∷ refuses "A=1" 3 0
     ∷ refuses "" 3 0
     ∷ refuses "   " 3 0
