@@ -8,12 +8,12 @@ use tokens::class;
 ghost use mathlib.Core.Path.{_≡_};
 ghost use mathlib.Core.Bool.{Bool, false};
 ghost use mathlib.Core.List.{List, _++_};
-ghost use Prim.Native.Nat.{ℕ, _+_, _≤_};
+ghost use Prim.Native.Nat.{ℕ, _+_, _≤_, _<_};
 ghost use lib.ListN.{length, take, set};
 ghost use Rattle.paper.specs.Tokens.{class};
 ghost use Rattle.paper.specs.Names.{names-in};
 ghost use Rattle.paper.specs.Grammar.{itself};
-ghost use Rattle.enter_item.specs.Says.{env, mem, spot, item-of, Asks, Took, Expects, Counts, as-operator, as-own};
+ghost use Rattle.enter_item.specs.Says.{env, mem, spot, item-of, Asks, Took, Expects, Counts};
 ghost use Rattle.names_numbered.specs.Answers.{Numbers};
 ghost use Rattle.enter_scan.specs.Sees.{Sees, token-at};
 ghost use Rattle.enter_item.specs.Draft.{low};
@@ -79,39 +79,30 @@ pub fn compares(class: u8) -> bool
     }
 }
 
+// An operator's token that many on.
+fn shifted(t: u8, by: u8) -> u8
+    requires { ⌜ by < 128 ⌝ }
+    ensures { λ r. ⌜ r ≡ shifted by t ⌝ }
+{
+    if t < 128 { t + by } else { t }
+}
+
 // The prefix operator of `+` or `-`.
 pub fn prefix_operator(t: u8) -> u8
     ensures { λ r. ⌜ r ≡ shifted 0x10 t ⌝ }
 {
-    if t < 128 { t + 0x10 } else { t }
+    shifted(t, 0x10)
 }
 
 // The comparison of strings that a comparison stands for.
 pub fn string_operator(t: u8) -> u8
     ensures { λ r. ⌜ r ≡ shifted 0x12 t ⌝ }
 {
-    if t < 128 { t + 0x12 } else { t }
+    shifted(t, 0x12)
 }
 
-// An item of a class, written as it is.
-pub fn expect(part: &[u8], offset: usize, q: Spot, line: &mut [u8], wanted: u8) -> Step
-    requires { ⌜ (q .at ≤ length (now part)) × (offset + length (now part) ≤ 120) × (q .written ≤ 1000) ⌝ }
-    ensures { λ r. ⌜ ((n : List ℕ) → Expects wanted as-own (env (now (part .entry)) offset n) q (now (line .entry)) (now (line .exit)) r) ⌝ }
-{
-    let at = q.at;
-    let seen = see(part, at, false);
-    let it = seen.item;
-    let end = it.end;
-    let place = offset + it.at;
-    if seen.class == wanted {
-        Step::Done(token(line, q, end, seen.own))
-    } else {
-        Step::Refused(4, place)
-    }
-}
-
-// An item of a class, written as another operator.
-pub fn expect_as(
+// An item of a class, written as an operator; or refusal 4.
+pub fn expect(
     part: &[u8],
     offset: usize,
     q: Spot,
@@ -120,7 +111,7 @@ pub fn expect_as(
     operator: OperatorToken,
 ) -> Step
     requires { ⌜ (q .at ≤ length (now part)) × (offset + length (now part) ≤ 120) × (q .written ≤ 1000) ⌝ }
-    ensures { λ r. ⌜ ((n : List ℕ) → Expects wanted (as-operator (operator .0)) (env (now (part .entry)) offset n) q (now (line .entry)) (now (line .exit)) r) ⌝ }
+    ensures { λ r. ⌜ ((n : List ℕ) → Expects wanted (operator .0) (env (now (part .entry)) offset n) q (now (line .entry)) (now (line .exit)) r) ⌝ }
 {
     let at = q.at;
     let seen = see(part, at, false);

@@ -1,8 +1,6 @@
 use native.Mathlib.Omega.{arith}
-use Prim.Native.Nat.{ℕ}
-use mathlib.Core.Path.{refl, sym, ap, _∙_}
+use mathlib.Core.Path.{refl, sym, _∙_}
 use mathlib.Core.List.{[]}
-use lib.ListN.{set}
 use Rattle.enter_item.specs.ExpectLaws.{expect-hit, expect-miss}
 use borrow.Author.Needs.{needs}
 use Rattle.enter_item.proofs.expect.Statement.{statement}
@@ -16,5 +14,5 @@ expect-spec =
     (λ c. let see = c .before .before .see in omega (arith, (see .ensures .next 0 []) .spans, (see .ensures .next 0 []) .within, c .before .before .before .before .before .pre .1))
     (λ c κs. c .before .before .before .before .before .before .before .before .pre .2)
     (search needs)
-    (λ c. let start = c .before .before .before .before .before .before .before .before .before .before .before in let see = c .before .before .before .before .before .before .before .before .see in let token = c .before .before .token in λ n. expect-hit (see .ensures .next _ n) (sym (see .ensures .class) ∙ c .before .before .before .before .if1 .taken) (token .ensures .0 ∙ ap (λ (b : ℕ). set (start .args .line .now) (start .args .q .written) b) (see .ensures .own)) (token .ensures .1))
+    (λ c. let see = c .before .before .before .before .before .before .before .before .see in let token = c .before .before .token in λ n. expect-hit (see .ensures .next _ n) (sym (see .ensures .class) ∙ c .before .before .before .before .if1 .taken) (token .ensures .0) (token .ensures .1))
     (λ c. let see = c .before .before .before .before .see in λ n. expect-miss (see .ensures .next _ n) (λ e. c .if1 .left (see .ensures .class ∙ e)) refl))

@@ -1,12 +1,12 @@
 use borrow.Author.Tests.{lt-ltb, le-ltb}
 use borrow.Author.Needs.{needs}
 use Rattle.enter_item.specs.TookLaws.{shifted}
-use Rattle.enter_item.proofs.prefix_operator.Statement.{statement}
-use Rattle.enter_item.proofs.prefix_operator.Tie as tie
+use Rattle.enter_item.proofs.shifted.Statement.{statement}
+use Rattle.enter_item.proofs.shifted.Tie as tie
 
-pub prefix-operator-spec : {M : Type 1} → statement M
+pub shifted-spec : {M : Type 1} → statement M
 unfolding shifted
-prefix-operator-spec =
+shifted-spec =
     tie.close
     (tie.spec
     (search needs)
