@@ -12,7 +12,7 @@ use Rattle.paper.specs.Words.{Word, word, word-of, statements, operators}
 use Rattle.paper.specs.Tokens.{Token, statement, assigned, operator, variable, constant, string, raw, out-of-range, unreadable, out-of-range?, by-kind, operator-class, class}
 use Rattle.paper.specs.Open.{all-Bytes, all-Words, all-Tokens}
 use Rattle.laws.specs.Names.{every-first, every-rest}
-use Rattle.enter_item.specs.DraftLaws.{no-bool}
+use Rattle.tokens.specs.Same.{no-bool}
 
 -- the number of a word's or symbol's token
 unfoldable pub own-of : Token → ℕ

@@ -10,7 +10,7 @@ use Rattle.enter_item.specs.Says.{Env, spot, Next, Hit, Expects}
 use Rattle.enter_item.specs.declared.Spot.{Spot}
 use Rattle.enter_item.specs.declared.Step.the-variants.{Done, Refused}
 
-no-done : {A : Type 0} {q : Spot} {k p : ℕ} → Done q ≡ Refused k p → A
+pub no-done : {A : Type 0} {q : Spot} {k p : ℕ} → Done q ≡ Refused k p → A
 no-done e = let z : _≡_ {A = ℕ} 0 1 = cc in absurd (omega arith)
 
 pub expect-hit : {c b : ℕ} {E : Env} {q q′ : Spot} {t : Token} {a e : ℕ} {old new : List ℕ} → Next E false (q .at) t a e → class t ≡ c → new ≡ set old (q .written) b

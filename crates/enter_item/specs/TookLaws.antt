@@ -20,7 +20,7 @@ use Rattle.paper.specs.Line.{begins?}
 use Rattle.laws.specs.Names.{names-added}
 use Rattle.enter_item.specs.Draft.{written, after, draft}
 use Rattle.enter_item.specs.NameLaws.{new-same}
-use Rattle.enter_item.specs.DraftLaws.{no-bool}
+use Rattle.tokens.specs.Same.{no-bool}
 use Rattle.enter_item.specs.ClassLaws.{own-of, operator-by-class, small-operator}
 use Rattle.enter_item.specs.Says.{Env, Mem, mem, spot, known, items-at, Asks, Next, item-of, Wrote, Passed, Took, Says, Hit, Expects}
 use Rattle.enter_item.specs.Laws.{takes-last, refuses}

@@ -13,10 +13,9 @@ ghost use lib.ListN.{length, take, set};
 ghost use Rattle.paper.specs.Tokens.{class};
 ghost use Rattle.paper.specs.Names.{names-in};
 ghost use Rattle.paper.specs.Grammar.{itself};
-ghost use Rattle.enter_item.specs.Says.{env, mem, spot, item-of, Asks, Took, Expects, Counts};
+ghost use Rattle.enter_item.specs.Says.{env, mem, spot, item-of, Asks, Took, Expects, VariableWritten, Counts};
 ghost use Rattle.names_numbered.specs.Answers.{Numbers};
 ghost use Rattle.enter_scan.specs.Sees.{Sees, token-at};
-ghost use Rattle.enter_item.specs.Draft.{low};
 ghost use Rattle.enter_item.specs.LeafLaws.{NameSeen, spelling};
 ghost use Rattle.enter_item.specs.Sees.{Shows};
 ghost use Rattle.enter_item.specs.Tests.{compares?};
@@ -205,11 +204,12 @@ pub fn name_number(part: &[u8], it: Item, names: &[u8], fresh: &mut [u8], named:
     )
 }
 
-// The token of the variable with a number, as far as a byte holds it.
-pub fn variable_token(number: usize) -> u8
-    ensures { λ r. ⌜ r ≡ low (0x80 + number) ⌝ }
+// Writes the token of the variable with a number to a place of the line, as far as bytes hold it, and answers how many bytes it has.
+pub fn write_variable(line: &mut [u8], at: usize, number: usize) -> usize
+    ensures { λ r. ⌜ VariableWritten number (now (line .entry)) at (now (line .exit)) r ⌝ }
 {
-    ((128 + number % 256) % 256) as u8
+    buffers::put(line, at, ((128 + number % 256) % 256) as u8);
+    1
 }
 
 // A variable: its name's number, and its name where it is new.
@@ -228,10 +228,10 @@ pub fn variable(
     let end = it.end;
     let written = q.written;
     let found = name_number(part, it, names, fresh, q.named);
-    buffers::put(line, written, variable_token(found.number));
+    let size = write_variable(line, written, found.number);
     Spot {
         at: end,
-        written: written + 1,
+        written: written + size,
         named: found.size,
     }
 }

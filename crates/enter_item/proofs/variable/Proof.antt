@@ -14,5 +14,4 @@ variable-spec =
     (search needs)
     (search needs)
     (search needs)
-    (search needs)
-    (λ c. let start = c .before .before .before .before .before .before .before .before .before .before .before .before .before in took-variable (start .pre .0) (start .pre .1) (start .pre .2) (start .pre .3) (c .before .before .before .before .before .before .before .name-number .ensures) (c .before .before .before .variable-token .ensures) (c .before .before .put .ensures)))
+    (λ c. let start = c .before .before .before .before .before .before .before .before .before .before .before .before in took-variable (start .pre .0) (start .pre .1) (start .pre .2) (start .pre .3) (c .before .before .before .before .before .before .name-number .ensures) (c .before .before .write-variable .ensures)))
