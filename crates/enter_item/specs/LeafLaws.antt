@@ -8,7 +8,7 @@ use mathlib.Core.List.{List, [], _∷_, _++_, append-nil, append-assoc}
 use lib.Dec.{eqb}
 use borrow.Author.Tests.{ne-eqb}
 use lib.ListN.{length, take, drop, set, length-append, length-drop}
-use lib.Seq.{sets, drop-drop, length-take-le, length-sets, take-length, take-all}
+use lib.Seq.{sets, drop-drop, length-take-le, length-sets, take-length}
 use Rattle.paper.specs.Bytes.{pick, every}
 use Rattle.paper.specs.Tokens.{Token, assigned, variable, constant, string, out-of-range, out-of-range?, class}
 use Rattle.paper.specs.Constants.{value, powers, six, six-at, five, zero-bytes}
@@ -23,6 +23,7 @@ use Rattle.constant_bytes.specs.Laws.{six-token}
 use Rattle.constant_bytes.specs.declared.Numeral.{Numeral}
 use Rattle.constant_bytes.specs.declared.Six.{Six}
 use Rattle.enter_scan.specs.Sees.{Sees, token-at}
+use Rattle.enter_scan.specs.ScanLaws.{rest-part}
 use Rattle.enter_scan.specs.declared.Item.{Item as Found}
 use Rattle.names_numbered.specs.Answers.{spelled, Numbers}
 use Rattle.names_numbered.specs.declared.Numbered.{Numbered}
@@ -334,9 +335,6 @@ name-part {k} {b} s it e f =
 pub numbers-as : {n n′ old new : List ℕ} {f : ℕ} {r : Numbered} (names : List ℕ) (more : List (List ℕ)) → n ≡ n′ → Numbers (names-in (take (length names) names) ++ more) n old f r new → Numbers (names-in names ++ more) n′ old f r new
 numbers-as {n} {n′} {old} {new} {f} {r} names more e d =
     subst (λ (x : List ℕ). Numbers (names-in names ++ more) x old f r new) e (subst (λ (l : List ℕ). Numbers (names-in l ++ more) n old f r new) (take-length names) d)
-
-rest-part : (s : List ℕ) (a : ℕ) → take (length s - a) (drop a s) ≡ drop a s
-rest-part s a = take-all (length s - a) (drop a s) (omega (arith, length-drop a s))
 
 -- the text from a number on holds it
 pub number-written : {s : List ℕ} {at : ℕ} {b : Bool} {it : Found} {n : Numeral} → Sees s at b it → class (token-at s b it) ≡ 3 → n ≡ numeral-of (it .kind)

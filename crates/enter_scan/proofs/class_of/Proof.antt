@@ -1,4 +1,3 @@
--- `items::class_of` meets its contract.
 use mathlib.Core.Path.{sym, ap, _∙_}
 use borrow.Author.Needs.{needs}
 use Rattle.enter_scan.specs.Kinds.{class-of}

@@ -1,4 +1,3 @@
--- `items::item_at` meets its contract.
 use mathlib.Core.Path.{refl, sym, _∙_}
 use borrow.Author.Needs.{needs}
 use Rattle.enter_scan.proofs.PlaceLaws.{at-end, at-name, at-number, at-string, at-print, at-symbol}

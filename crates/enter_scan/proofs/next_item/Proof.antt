@@ -1,4 +1,3 @@
--- `items::next_item` meets its contract.
 use borrow.Author.Needs.{needs}
 use Rattle.enter_scan.proofs.PlaceLaws.{next-seen}
 use Rattle.enter_scan.proofs.next_item.Statement.{statement}

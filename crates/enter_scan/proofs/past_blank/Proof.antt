@@ -1,4 +1,3 @@
--- `items::past_blank` meets its contract.
 use mathlib.Core.Path.{sym, _∙_}
 use native.Mathlib.Numerals.{add-one}
 use native.Mathlib.Omega.{arith}

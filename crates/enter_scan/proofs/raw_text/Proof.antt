@@ -1,4 +1,3 @@
--- `items::raw_text` meets its contract.
 use borrow.Author.Needs.{needs}
 use Rattle.enter_scan.proofs.PlaceLaws.{raw-code}
 use Rattle.enter_scan.proofs.raw_text.Statement.{statement}

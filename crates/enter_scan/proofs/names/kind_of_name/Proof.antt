@@ -1,4 +1,3 @@
--- `items::names/kind_of_name` meets its contract.
 use borrow.Author.Needs.{needs}
 use Rattle.enter_scan.proofs.NameLaws.{name-statement, name-no-statement, name-elsewhere}
 use Rattle.enter_scan.proofs.names.kind_of_name.Statement.{statement}

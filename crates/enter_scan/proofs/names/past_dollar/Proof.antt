@@ -1,4 +1,3 @@
--- `items::names/past_dollar` meets its contract.
 use mathlib.Core.Path.{sym, _∙_}
 use native.Mathlib.Numerals.{add-one}
 use native.Mathlib.Omega.{arith}

@@ -1,4 +1,3 @@
--- `items::names/reserved_or` meets its contract.
 use borrow.Author.Needs.{needs}
 use Rattle.enter_scan.proofs.NameLaws.{reserved-operator, reserved-function, reserved-other}
 use Rattle.paper.specs.Words.{operators, find-word}

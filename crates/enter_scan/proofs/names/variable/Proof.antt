@@ -1,4 +1,3 @@
--- `items::names/variable` meets its contract.
 use mathlib.Core.Path.{sym}
 use borrow.Author.Tests.{eq-eqb, ne-eqb}
 use Rattle.enter_scan.specs.Kinds.{variable-kind}

@@ -1,4 +1,3 @@
--- `items::numbers/begins_number` meets its contract.
 use mathlib.Core.Path.{sym, _∙_}
 use borrow.Author.Needs.{needs}
 use Rattle.enter_scan.proofs.NumberLaws.{begins-point, begins-not}

@@ -1,4 +1,3 @@
--- `items::numbers/exponent` meets its contract.
 use mathlib.Core.Path.{sym, _∙_}
 use Prim.Native.Nat.{_+_}
 use native.Mathlib.Omega.{arith}

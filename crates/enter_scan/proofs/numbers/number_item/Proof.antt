@@ -1,4 +1,3 @@
--- `items::numbers/number_item` meets its contract.
 use native.Mathlib.Omega.{arith}
 use borrow.Author.Needs.{needs}
 use Rattle.enter_scan.proofs.NumberLaws.{number-bounds, number-code}

@@ -1,4 +1,3 @@
--- `items::numbers/past_fraction` meets its contract.
 use mathlib.Core.Path.{sym, _∙_}
 use native.Mathlib.Omega.{arith}
 use borrow.Author.Needs.{needs}

@@ -1,4 +1,3 @@
--- `items::numbers/power_value` meets its contract.
 use native.Mathlib.Omega.{arith}
 use borrow.Author.Needs.{needs}
 use Rattle.enter_scan.proofs.NumberLaws.{tens-bounds, ones-bounds, value-one, value-two}

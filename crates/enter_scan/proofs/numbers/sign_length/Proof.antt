@@ -1,4 +1,3 @@
--- `items::numbers/sign_length` meets its contract.
 use mathlib.Core.Path.{sym, ap}
 use borrow.Author.Tests.{ne-eqb}
 use Rattle.paper.specs.Items.{sign-size}

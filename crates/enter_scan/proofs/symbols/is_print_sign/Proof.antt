@@ -1,4 +1,3 @@
--- `items::symbols/is_print_sign` meets its contract.
 use mathlib.Core.Path.{sym}
 use borrow.Author.Tests.{eq-eqb, ne-eqb}
 use Rattle.enter_scan.proofs.symbols.is_print_sign.Statement.{statement}

@@ -1,4 +1,3 @@
--- `items::symbols/string_item` meets its contract.
 use native.Mathlib.Omega.{arith}
 use borrow.Author.Needs.{needs}
 use Rattle.enter_scan.proofs.SymbolLaws.{string-closed, string-open}

@@ -1,4 +1,3 @@
--- `items::symbols/symbol_item` meets its contract.
 use mathlib.Core.Path.{ap, _∙_}
 use mathlib.Core.List.{[], _∷_}
 use Prim.Native.Nat.{ℕ, _+_}
