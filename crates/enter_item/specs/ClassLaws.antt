@@ -1,18 +1,18 @@
 -- What a token is, by its class.
 use Prim.Native.Nat.{ℕ, _≤_, _<_}
 use native.Mathlib.Omega.{arith}
-use mathlib.Core.Path.{_≡_, refl, sym}
+use mathlib.Core.Path.{_≡_, refl, sym, ap, subst, _∙_}
 use mathlib.Core.Bool.{Bool, true, false, _&&_, _||_}
 use mathlib.Core.List.{List, [], _∷_}
 use lib.Dec.{eqb, leb, ltb}
-use borrow.Author.Tests.{eqb-true, ltb-true, leb-true}
+use borrow.Author.Tests.{eqb-true, ltb-true, leb-true, le-leb, eq-eqb}
 use Rattle.paper.specs.Bytes.{pick, every}
-use Rattle.paper.specs.Classes.{unfit}
+use Rattle.paper.specs.Classes.{unfit, close-sign}
 use Rattle.paper.specs.Words.{Word, word, word-of, statements, operators}
 use Rattle.paper.specs.Tokens.{Token, statement, assigned, operator, variable, constant, string, raw, out-of-range, unreadable, out-of-range?, by-kind, operator-class, class}
 use Rattle.paper.specs.Open.{all-Bytes, all-Words, all-Tokens}
 use Rattle.laws.specs.Names.{every-first, every-rest}
-use Rattle.enter_item.specs.DraftLaws.{no-bool}
+use Rattle.tokens.specs.Same.{no-bool}
 
 -- the number of a word's or symbol's token
 unfoldable pub own-of : Token → ℕ
@@ -191,21 +191,26 @@ in-range-by-class (raw b) h = refl
 in-range-by-class out-of-range h = no-bool (sym h)
 in-range-by-class unreadable h = refl
 
--- an operator's token that fits is below 96
-small-go : (w : Word) (ws : List Word) (t : ℕ) (b : Bool) → eqb (w .token) t ≡ b → ltb (w .token) 96 ≡ true → (3 ≤ (word-of ws t) .class → t < 96) → 3 ≤ (word-of (w ∷ ws) t) .class → t < 96
+both-go : (p : ℕ → ℕ → Bool) (w : Word) (ws : List Word) (t : ℕ) (b : Bool) → eqb (w .token) t ≡ b → p (w .class) (w .token) ≡ true → p ((word-of ws t) .class) t ≡ true → p ((word-of (w ∷ ws) t) .class) t ≡ true
 unfolding word-of
-small-go w ws t true e h ih k = omega (arith, eqb-true (w .token) t e, ltb-true (w .token) 96 h)
-small-go w ws t false e h ih k = ih (rw e at k)
+both-go p w ws t true e h ih = rw e (subst (λ (x : ℕ). p (w .class) x ≡ true) (eqb-true (w .token) t e) h)
+both-go p w ws t false e h ih = rw e ih
 
-small-word : (ws : List Word) (t : ℕ) → every (λ w. ltb (w .token) 96) ws ≡ true → 3 ≤ (word-of ws t) .class → t < 96
+-- what holds of class and token of all words of a table, and of no word, holds of a token with its class
+word-both : (p : ℕ → ℕ → Bool) (ws : List Word) (t : ℕ) → every (λ w. p (w .class) (w .token)) ws ≡ true → p unfit t ≡ true → p ((word-of ws t) .class) t ≡ true
 unfolding word-of word
-small-word [] t h k = absurd (omega arith)
-small-word (w ∷ ws) t h k = small-go w ws t (eqb (w .token) t) refl (every-first (λ w. ltb (w .token) 96) w ws h) (λ z. small-word ws t (every-rest (λ w. ltb (w .token) 96) w ws h) z) k
+word-both p [] t h k = k
+word-both p (w ∷ ws) t h k =
+    both-go p w ws t (eqb (w .token) t) refl (every-first (λ w. p (w .class) (w .token)) w ws h) (word-both p ws t (every-rest (λ w. p (w .class) (w .token)) w ws h) k)
 
-operators-small : every (λ w. ltb (w .token) 96) operators ≡ true
+abbrev small? : ℕ → ℕ → Bool
+small? c t = pick (leb 3 c) (ltb t 96) true
+
+operators-small : every (λ w. small? (w .class) (w .token)) operators ≡ true
 unfolding all-Bytes all-Words
 operators-small = refl
 
+-- an operator's token that fits is below 96
 pub small-operator : (t : ℕ) → 3 ≤ class (operator t) → t < 96
 unfolding class operator-class
 small-operator t h = go (eqb t 0x16) (eqb t 0x9b) h
@@ -213,4 +218,26 @@ small-operator t h = go (eqb t 0x16) (eqb t 0x9b) h
     go : (a b : Bool) → 3 ≤ pick a 0 (pick b 1 ((word-of operators t) .class)) → t < 96
     go true b k = absurd (omega arith)
     go false true k = absurd (omega arith)
-    go false false k = small-word operators t operators-small k
+    go false false k = ltb-true t 96 (rw (le-leb 3 ((word-of operators t) .class) k) at (word-both small? operators t operators-small refl))
+
+abbrev closing? : ℕ → ℕ → Bool
+closing? c t = pick (eqb c 12) (eqb t 0x2c) true
+
+operators-closing : every (λ w. closing? (w .class) (w .token)) operators ≡ true
+unfolding all-Bytes all-Words
+operators-closing = refl
+
+closing-operator : (t : ℕ) → class (operator t) ≡ 12 → 0x2c ≡ t
+unfolding class operator-class
+closing-operator t h = go (eqb t 0x16) (eqb t 0x9b) h
+  where
+    go : (a b : Bool) → pick a 0 (pick b 1 ((word-of operators t) .class)) ≡ 12 → 0x2c ≡ t
+    go true b k = absurd (omega arith)
+    go false true k = absurd (omega arith)
+    go false false k = sym (eqb-true t 0x2c (rw (eq-eqb ((word-of operators t) .class) 12 k) at (word-both closing? operators t operators-closing refl)))
+
+-- `)` alone closes
+pub closing : (t : Token) → class t ≡ close-sign → 0x2c ≡ own-of t
+closing t h =
+    let e : t ≡ operator (own-of t) = operator-by-class t (omega (arith, h)) (omega (arith, h)) in
+    closing-operator (own-of t) (ap class (sym e) ∙ h)

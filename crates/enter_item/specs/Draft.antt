@@ -5,19 +5,24 @@ use mathlib.Core.List.{List, [], _∷_, _++_}
 use lib.ListN.{length}
 use Rattle.paper.specs.Bytes.{pick, every}
 use Rattle.paper.specs.Tokens.{Token, statement, assigned, operator, variable, constant, string, raw, out-of-range, unreadable}
-use Rattle.paper.specs.Names.{number-of, add-names}
-use Rattle.paper.specs.Line.{begins?, to-next}
+use Rattle.paper.specs.Names.{add-names}
+use Rattle.paper.specs.Line.{variable-bytes, begins?, to-next}
 
 -- the low byte of a number: what a byte of the line can hold of a variable's token, an offset or a length
 unfoldable pub low : ℕ → ℕ
 low n = n % 256
 
+-- the low byte of each
+unfoldable pub lows : List ℕ → List ℕ
+lows [] = []
+lows (n ∷ ns) = low n ∷ lows ns
+
 -- the bytes of a token over the names known before it
 unfoldable pub written : List (List ℕ) → Token → List ℕ
 written ks (statement t) = t ∷ []
-written ks (assigned n) = 0x36 ∷ low (0x80 + number-of ks n) ∷ []
+written ks (assigned n) = 0x36 ∷ lows (variable-bytes ks n)
 written ks (operator t) = t ∷ []
-written ks (variable n) = low (0x80 + number-of ks n) ∷ []
+written ks (variable n) = lows (variable-bytes ks n)
 written ks (constant b) = 0x0e ∷ b
 written ks (string b) = 0x0f ∷ length b ∷ b
 written ks (raw b) = b

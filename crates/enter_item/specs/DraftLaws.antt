@@ -11,11 +11,9 @@ use Rattle.paper.specs.Tokens.{Token, statement, assigned, operator, variable, 
 use Rattle.paper.specs.Names.{number-of, add-name, add-names}
 use Rattle.paper.specs.Line.{own-bytes, variable-bytes, begins?, to-next, token-bytes, line-bytes}
 use Rattle.laws.specs.Names.{adds-extend}
-use Rattle.enter_item.specs.Draft.{low, written, after, draft, with-offsets, written-line, still}
+use Rattle.tokens.specs.Same.{no-bool}
+use Rattle.enter_item.specs.Draft.{low, lows, written, after, draft, with-offsets, written-line, still}
 use Rattle.enter_item.specs.NameLaws.{add-one-by-one, number-at-end, number-below}
-
-pub no-bool : {A : Type 0} → false ≡ true → A
-no-bool e = let z : _≡_ {A = ℕ} 0 1 = cc in absurd (omega arith)
 
 -- ---- drafts one after another
 
@@ -67,7 +65,7 @@ still-append (t ∷ ts) us h k = still-more t (ts ++ us) (still-first t ts h) (s
 
 -- the length of a token does not depend on the names
 written-size : (ks ns : List (List ℕ)) (t : Token) → length (written ks t) ≡ length (own-bytes ns t)
-unfolding written own-bytes variable-bytes
+unfolding written lows own-bytes variable-bytes
 written-size ks ns (statement t) = refl
 written-size ks ns (assigned n) = refl
 written-size ks ns (operator t) = refl
@@ -186,7 +184,7 @@ low-name ks ns n xs e h =
     low-small (0x80 + number-of ks n) b ∙ ap (λ (x : ℕ). 0x80 + x) (sym f)
 
 written-own : (ks : List (List ℕ)) (t : Token) (ts : List Token) → length (add-names (after ks t) ts) ≤ 128 → written ks t ≡ own-bytes (add-names (after ks t) ts) t
-unfolding written own-bytes variable-bytes add-names
+unfolding written lows own-bytes variable-bytes add-names
 written-own ks (statement t) ts h = refl
 written-own ks (assigned n) ts h = let l = adds-extend (add-name ks n) ts in ap (λ (x : ℕ). 0x36 ∷ x ∷ []) (low-name ks (add-names (add-name ks n) ts) n (l .more) (l .whole) h)
 written-own ks (operator t) ts h = refl

@@ -24,7 +24,7 @@ use Rattle.names_numbered.specs.Answers.{spelled}
 use Rattle.enter_item.specs.ClassLaws.{own-of, statement-classes, operator-classes, no-statement, no-symbol}
 
 -- how many bytes of name an item has
-unfoldable pub name-length : Kind → ℕ
+abbrev pub name-length : Kind → ℕ
 name-length (Numeric n) = n
 name-length (Text n) = n
 name-length (Array n) = n
@@ -37,7 +37,7 @@ name-length End = 0
 name-length Bad = 0
 
 -- an array's name
-unfoldable pub array? : Kind → Bool
+abbrev pub array? : Kind → Bool
 array? (Numeric n) = false
 array? (Text n) = false
 array? (Array n) = true
@@ -54,7 +54,7 @@ abbrev pub no-numeral : Numeral
 no-numeral = record { whole = 0; fraction = 0; down = false; power = 0 }
 
 -- a number as it is written
-unfoldable pub numeral-of : Kind → Numeral
+abbrev pub numeral-of : Kind → Numeral
 numeral-of (Numeric n) = no-numeral
 numeral-of (Text n) = no-numeral
 numeral-of (Array n) = no-numeral
@@ -67,7 +67,7 @@ numeral-of End = no-numeral
 numeral-of Bad = no-numeral
 
 -- how many bytes stand between an item's quotes
-unfoldable pub quoted-length : Kind → ℕ
+abbrev pub quoted-length : Kind → ℕ
 quoted-length (Numeric n) = 0
 quoted-length (Text n) = 0
 quoted-length (Array n) = 0
@@ -80,7 +80,7 @@ quoted-length End = 0
 quoted-length Bad = 0
 
 -- the number of a word's or symbol's token
-unfoldable pub own-kind : Kind → ℕ
+abbrev pub own-kind : Kind → ℕ
 own-kind (Numeric n) = 0
 own-kind (Text n) = 0
 own-kind (Array n) = 0
@@ -114,7 +114,7 @@ own-numeral s n = go (n .down)
     go false = own-constant (value 0 (digits-in s n)) (n .power) (n .fraction)
 
 pub own-seen : (k : Kind) (s : List ℕ) (first : Bool) → own-of (token-of k s first) ≡ own-kind k
-unfolding token-of own-of own-kind
+unfolding token-of own-of
 own-seen (Numeric n) s first = own-variable first (take n s)
 own-seen (Text n) s first = own-variable first (take n s)
 own-seen (Array n) s first = own-variable first (take n s ++ 40 ∷ [])
@@ -157,7 +157,7 @@ plain-array n s size h =
     some-plain (take n s ++ 40 ∷ []) (omega (arith, length-append (take n s) (40 ∷ []))) (every-append (λ b. ltb b 128) (take n s) (40 ∷ []) (low-every (take n s) (h .low)) refl)
 
 pub is-name : (k : Kind) (s : List ℕ) (size : ℕ) (first : Bool) → Holds s k size → size ≤ length s → 5 ≤ class-of k first → class-of k first ≤ 10 → IsName k s size first
-unfolding token-of class-of name-length array? spelled
+unfolding token-of class-of spelled
 is-name (Numeric n) s size first h z l u =
     record { token = refl; plain = plain-bare n s size (h .0) z; there = sym (h .0 .whole); short = omega (arith, h .0 .whole, length-take-le n s (omega (arith, h .0 .whole))); some = omega (arith, h .0 .whole, h .0 .some) }
 is-name (Text n) s size first h z l u =
@@ -182,7 +182,7 @@ pick-between true x y h k e = omega arith
 pick-between false x y h k e = omega arith
 
 pub is-number : (k : Kind) (s : List ℕ) (size : ℕ) (first : Bool) → Holds s k size → class-of k first ≡ 3 → IsNumber k s first
-unfolding token-of class-of numeral-of
+unfolding token-of class-of
 is-number (Numeric n) s size first h e = absurd (pick-between first 8 5 (omega arith) (omega arith) e)
 is-number (Text n) s size first h e = absurd (pick-between first 9 6 (omega arith) (omega arith) e)
 is-number (Array n) s size first h e = absurd (pick-between first 10 7 (omega arith) (omega arith) e)
@@ -204,7 +204,7 @@ pick-four true x y h k e = omega arith
 pick-four false x y h k e = omega arith
 
 pub is-quoted : (k : Kind) (s : List ℕ) (size : ℕ) (first : Bool) → Holds s k size → class-of k first ≡ 4 → IsQuoted k s size first
-unfolding token-of class-of quoted-length
+unfolding token-of class-of
 is-quoted (Numeric n) s size first h e = absurd (pick-four first 8 5 (omega arith) (omega arith) e)
 is-quoted (Text n) s size first h e = absurd (pick-four first 9 6 (omega arith) (omega arith) e)
 is-quoted (Array n) s size first h e = absurd (pick-four first 10 7 (omega arith) (omega arith) e)

@@ -24,6 +24,7 @@ use Rattle.enter_item.specs.NameLaws.{new-append, new-none}
 use Rattle.enter_item.specs.DraftLaws.{draft-append, still-append, still-more, still-none}
 use Rattle.enter_item.specs.ClassLaws.{in-range-by-class}
 use Rattle.enter_item.specs.Says.{Env, Mem, known, items-at, taken, Asks, Next, item-of, Marks, Wrote, Took, Got, Stop, Says, Counts}
+use Rattle.enter_item.specs.ExpectLaws.{no-done}
 use Rattle.enter_item.specs.declared.Spot.{Spot}
 use Rattle.enter_item.specs.declared.Step.{Step}
 use Rattle.enter_item.specs.declared.Step.the-variants.{Done, Refused}
@@ -141,9 +142,6 @@ stop-first {fs} {E} {q} gs a = record {
 }
 
 -- ---- what a reader says
-
-no-done : {A : Type 0} {q : Spot} {k p : ℕ} → Done q ≡ Refused k p → A
-no-done e = let z : _≡_ {A = ℕ} 0 1 = cc in absurd (omega arith)
 
 -- a reader, and then the rest
 pub says-then : {fs gs : List ℕ} {E : Env} {q q₁ : Spot} {m m₁ m₂ : Mem} {r : Step} → Got fs E q m q₁ m₁ → Says gs E q₁ m₁ m₂ r → Says (fs ++ gs) E q m m₂ r

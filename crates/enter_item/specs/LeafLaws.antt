@@ -8,14 +8,14 @@ use mathlib.Core.List.{List, [], _∷_, _++_, append-nil, append-assoc}
 use lib.Dec.{eqb}
 use borrow.Author.Tests.{ne-eqb}
 use lib.ListN.{length, take, drop, set, length-append, length-drop}
-use lib.Seq.{sets, drop-drop, length-take-le, length-sets, take-length, take-all}
+use lib.Seq.{sets, drop-drop, length-take-le, length-sets, take-length}
 use Rattle.paper.specs.Bytes.{pick, every}
 use Rattle.paper.specs.Tokens.{Token, assigned, variable, constant, string, out-of-range, out-of-range?, class}
 use Rattle.paper.specs.Constants.{value, powers, six, six-at, five, zero-bytes}
-use Rattle.paper.specs.Names.{names-in, name-bytes, number-of, known?, marked, add-name, add-names}
+use Rattle.paper.specs.Names.{names-in, name-bytes, known?, marked, add-name, add-names}
 use Rattle.paper.specs.Items.{variable-at}
 use Rattle.paper.specs.Grammar.{itself, given}
-use Rattle.paper.specs.Line.{begins?}
+use Rattle.paper.specs.Line.{variable-bytes, begins?}
 use Rattle.laws.specs.Names.{names-added, name-added, add-append, closed?, closed-append, closed-names, plain-name, names-of-more, length-marked}
 use Rattle.buffers.specs.Sets.{written as read-back}
 use Rattle.constant_bytes.specs.Numerals.{Written, digits-in, up, down, six-if, zeros-if, six-of, numeral-six, token-of-six}
@@ -23,22 +23,24 @@ use Rattle.constant_bytes.specs.Laws.{six-token}
 use Rattle.constant_bytes.specs.declared.Numeral.{Numeral}
 use Rattle.constant_bytes.specs.declared.Six.{Six}
 use Rattle.enter_scan.specs.Sees.{Sees, token-at}
+use Rattle.enter_scan.specs.ScanLaws.{rest-part}
 use Rattle.enter_scan.specs.declared.Item.{Item as Found}
 use Rattle.names_numbered.specs.Answers.{spelled, Numbers}
 use Rattle.names_numbered.specs.declared.Numbered.{Numbered}
-use Rattle.enter_item.specs.Draft.{low, written, after, draft}
+use Rattle.enter_item.specs.Draft.{low, lows, written, after, draft}
 use Rattle.enter_item.specs.NameLaws.{new-is}
 use Rattle.enter_item.specs.KindLaws.{name-length, array?, numeral-of, quoted-length, IsName, is-name, is-number, is-quoted}
-use Rattle.enter_item.specs.Says.{Env, env, Mem, mem, spot, known, Asks, item-of, Wrote, Took, Counts}
+use Rattle.enter_item.specs.Says.{Env, env, Mem, mem, spot, known, Asks, item-of, Wrote, Took, VariableWritten, Counts}
 use Rattle.enter_item.specs.SeesLaws.{next-of}
 use Rattle.enter_item.specs.TookLaws.{calm?, calm-end, next-calm, passed-bytes}
+use Rattle.enter_item.specs.ExpectLaws.{no-done}
 use Rattle.enter_item.specs.declared.Spot.{Spot}
 use Rattle.enter_item.specs.declared.Step.the-variants.{Done, Refused}
 
 -- ---- names
 
 -- a number's low byte with 80 is that of the number with 80
-pub low-of : (n : ℕ) → (128 + n % 256) % 256 ≡ low (0x80 + n)
+low-of : (n : ℕ) → (128 + n % 256) % 256 ≡ low (0x80 + n)
 unfolding low
 low-of n = add-mod-mod 128 n 256
 
@@ -118,17 +120,17 @@ module _ {E : Env} {q : Spot} {m : Mem} {r : Numbered} {fresh new : List ℕ} (t
     closed = ap closed? front ∙ closed-append (take (q .named) (m .fresh)) bytes (g .closed) (closed-names (name-added ks n));
   }
 
-variable-draft : (ks : List (List ℕ)) (n : List ℕ) (b : ℕ) → b ≡ low (0x80 + number-of ks n) → draft ks (variable n ∷ []) ≡ b ∷ []
+variable-draft : (ks : List (List ℕ)) (n : List ℕ) → draft ks (variable n ∷ []) ≡ lows (variable-bytes ks n)
 unfolding draft written begins?
-variable-draft ks n b e = ap (λ (x : ℕ). x ∷ []) (sym e)
+variable-draft ks n = append-nil (lows (variable-bytes ks n))
 
 variable-after : (ks : List (List ℕ)) (n : List ℕ) → after ks (variable n) ≡ add-name ks n
 unfolding add-names
 variable-after ks n = refl
 
-pub assigned-draft : (ks : List (List ℕ)) (n : List ℕ) (b : ℕ) → b ≡ low (0x80 + number-of ks n) → draft ks (assigned n ∷ []) ≡ 0 ∷ 0x36 ∷ b ∷ []
+pub assigned-draft : (ks : List (List ℕ)) (n : List ℕ) → draft ks (assigned n ∷ []) ≡ 0 ∷ 0x36 ∷ lows (variable-bytes ks n)
 unfolding draft written begins?
-assigned-draft ks n b e = ap (λ (x : ℕ). 0 ∷ 0x36 ∷ x ∷ []) (sym e)
+assigned-draft ks n = ap (λ (l : List ℕ). 0 ∷ 0x36 ∷ l) (append-nil (lows (variable-bytes ks n)))
 
 pub assigned-after : (ks : List (List ℕ)) (n : List ℕ) → after ks (assigned n) ≡ add-name ks n
 unfolding add-names
@@ -141,29 +143,40 @@ variable-plain t n e = ap begins? e
 calm-name : (c : ℕ) → 5 ≤ c → c ≤ 7 → calm? c ≡ true
 calm-name c l h = rw (ne-eqb c 0 (λ e. omega arith), ne-eqb c 14 (λ e. omega arith), ne-eqb c 25 (λ e. omega arith), ne-eqb c 30 (λ e. omega arith))
 
+-- a variable's token: a byte that holds its number with 80
+pub variable-put : {number at b : ℕ} {old new : List ℕ} → b ≡ (128 + number % 256) % 256 → new ≡ set old at b → VariableWritten number old at new 1
+unfolding lows variable-bytes
+variable-put {number} {at} {b} {old} {new} e w = record {
+  line = λ ks n k. w ∙ ap (set old at) (e ∙ low-of number ∙ ap (λ (x : ℕ). low (0x80 + x)) k);
+  size = λ ks n k. refl;
+  few = omega arith;
+}
+
 -- a variable
-pub took-variable : {s names : List ℕ} {o : ℕ} {q : Spot} {m : Mem} {it : Found} {r : Numbered} {fresh new : List ℕ} {b : ℕ} → Asks (env s o names) q m → (v : Sees s (q .at) false it) → 5 ≤ class (token-at s false it)
-    → class (token-at s false it) ≤ 7 → Numbers (known (env s o names) q m) (spelling s it) (m .fresh) (q .named) r fresh → b ≡ low (0x80 + r .number) → new ≡ set (m .line) (q .written) b
-    → Took (env s o names) false q m itself (item-of (env s o names) (token-at s false it) (it .at) (it .end)) false (spot (it .end) (q .written + 1) (r .size)) (mem new fresh)
+pub took-variable : {s names : List ℕ} {o k : ℕ} {q : Spot} {m : Mem} {it : Found} {r : Numbered} {fresh new : List ℕ} → Asks (env s o names) q m → (v : Sees s (q .at) false it) → 5 ≤ class (token-at s false it)
+    → class (token-at s false it) ≤ 7 → Numbers (known (env s o names) q m) (spelling s it) (m .fresh) (q .named) r fresh → VariableWritten (r .number) (m .line) (q .written) new k
+    → Took (env s o names) false q m itself (item-of (env s o names) (token-at s false it) (it .at) (it .end)) false (spot (it .end) (q .written + k) (r .size)) (mem new fresh)
 unfolding given variable-at
-took-variable {s} {names} {o} {q} {m} {it} {r} {fresh} {new} {b} g v l h d e w =
+took-variable {s} {names} {o} {k} {q} {m} {it} {r} {fresh} {new} g v l h d w =
     let E = env s o names in
     let n = spelling s it in
     let x = name-facts (record { at = q .at; first = false; sees = v; least = l; most = omega arith }) in
     let y = next-of v o names in
     let ks = known E q m in
-    let u : b ≡ low (0x80 + number-of ks n) = e ∙ ap (λ (k : ℕ). low (0x80 + k)) (d .number) in
+    let bs = lows (variable-bytes ks n) in
+    let size : k ≡ length bs = w .size ks n (d .number) in
     let t : token-at s false it ≡ variable n = x .token in
-    let dr : draft ks (token-at s false it ∷ []) ≡ b ∷ [] = ap (λ (z : Token). draft ks (z ∷ [])) t ∙ variable-draft ks n b u in
+    let dr : draft ks (token-at s false it ∷ []) ≡ bs = ap (λ (z : Token). draft ks (z ∷ [])) t ∙ variable-draft ks n in
     let af : after ks (token-at s false it) ≡ add-name ks n = ap (after ks) t ∙ variable-after ks n in
     let sz : length n ≤ 2 * it .end - 2 * q .at = omega (arith, x .short, x .some, v .after, v .spans) in
-    let fw : length (b ∷ []) ≤ 7 * it .end - 7 * q .at = omega (arith, x .some, v .after, v .spans) in
+    let fw : length bs ≤ 7 * it .end - 7 * q .at = omega (arith, x .some, v .after, v .spans, w .few) in
     let lt : q .at ≤ it .end = omega (arith, v .after, v .spans) in
+    subst (λ (z : ℕ). Took E false q m itself (item-of E (token-at s false it) (it .at) (it .end)) false (spot (it .end) (q .written + z) (r .size)) (mem new fresh)) (sym size)
     record {
       pass = record {
         here = next-calm y (calm-name (class (token-at s false it)) l h);
-        wrote = wrote-name (token-at s false it) n (b ∷ []) (it .end) g (x .plain) sz lt (v .within) af dr fw d w;
-        asks = asks-name (token-at s false it) n (b ∷ []) (it .end) g (x .plain) sz lt (v .within) af dr fw d w;
+        wrote = wrote-name (token-at s false it) n bs (it .end) g (x .plain) sz lt (v .within) af dr fw d (w .line ks n (d .number));
+        asks = asks-name (token-at s false it) n bs (it .end) g (x .plain) sz lt (v .within) af dr fw d (w .line ks n (d .number));
         ahead = omega (arith, x .some, v .after, v .spans);
       };
       plain = variable-plain (token-at s false it) n t;
@@ -270,9 +283,6 @@ number-token {s} {at} {b} {it} {x} v h e =
     let y = is-number (it .kind) (drop (it .at) s) (it .end - it .at) b (v .holds) (sym (v .classed) ∙ h) in
     y .token ∙ sym (six-token (drop (it .at) s) (numeral-of (it .kind))) ∙ ap token-of-six (sym e)
 
-no-done : {A : Type 0} {q : Spot} {k p : ℕ} → Done q ≡ Refused k p → A
-no-done e = let z : _≡_ {A = ℕ} 0 1 = cc in absurd (omega arith)
-
 -- in range: its six bytes were written
 pub counts-inside : {s names : List ℕ} {o : ℕ} {q : Spot} {m : Mem} {it : Found} {x : Six} {l₁ new : List ℕ} (b : Bool) → Asks (env s o names) q m → Sees s (q .at) b it → class (token-at s b it) ≡ 3
     → x ≡ numeral-six (drop (it .at) s) (numeral-of (it .kind)) → x .«in_range» ≡ true → l₁ ≡ set (m .line) (q .written) 0x0e → new ≡ sets l₁ (q .written + 1) (x .bytes)
@@ -325,9 +335,6 @@ name-part {k} {b} s it e f =
 pub numbers-as : {n n′ old new : List ℕ} {f : ℕ} {r : Numbered} (names : List ℕ) (more : List (List ℕ)) → n ≡ n′ → Numbers (names-in (take (length names) names) ++ more) n old f r new → Numbers (names-in names ++ more) n′ old f r new
 numbers-as {n} {n′} {old} {new} {f} {r} names more e d =
     subst (λ (x : List ℕ). Numbers (names-in names ++ more) x old f r new) e (subst (λ (l : List ℕ). Numbers (names-in l ++ more) n old f r new) (take-length names) d)
-
-rest-part : (s : List ℕ) (a : ℕ) → take (length s - a) (drop a s) ≡ drop a s
-rest-part s a = take-all (length s - a) (drop a s) (omega (arith, length-drop a s))
 
 -- the text from a number on holds it
 pub number-written : {s : List ℕ} {at : ℕ} {b : Bool} {it : Found} {n : Numeral} → Sees s at b it → class (token-at s b it) ≡ 3 → n ≡ numeral-of (it .kind)

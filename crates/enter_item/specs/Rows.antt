@@ -12,7 +12,7 @@ use Rattle.paper.specs.Machine.{take, leave, refuse, row, at-row}
 use Rattle.paper.specs.Grammar.{itself, for-strings, as-prefix, put, look}
 use Rattle.paper.specs.Open.{all-Bytes, all-Machine, all-Grammar}
 use Rattle.enter_item.specs.Tests.{joins?, compares?}
-use Rattle.enter_item.specs.DraftLaws.{no-bool}
+use Rattle.tokens.specs.Same.{no-bool}
 use Rattle.enter_item.specs.TookLaws.{sign?}
 
 pub operand-sign : look want-operand plus-minus ≡ take as-prefix (want-operand ∷ [])

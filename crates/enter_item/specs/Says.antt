@@ -7,15 +7,14 @@ use lib.ListN.{length, take, drop, set}
 use lib.Seq.{sets}
 use Rattle.paper.specs.Classes.{line-end, remark}
 use Rattle.paper.specs.Tokens.{Token, class, out-of-range?}
-use Rattle.paper.specs.Names.{names-in, name-bytes, add-names}
+use Rattle.paper.specs.Names.{names-in, name-bytes, number-of, add-names}
 use Rattle.paper.specs.Items.{Item, item, opens, scan, raw-at}
 use Rattle.paper.specs.Machine.{Taken, done, bad, read}
 use Rattle.paper.specs.Grammar.{Gives, itself, given, look-in-range}
-use Rattle.paper.specs.Line.{begins?}
+use Rattle.paper.specs.Line.{variable-bytes, begins?}
 use Rattle.paper.specs.WellFormed.{tokens-of}
 use Rattle.laws.specs.Names.{names-added, closed?}
-use Rattle.enter_item.specs.Draft.{draft, still}
-use Rattle.enter_item.specs.ClassLaws.{own-of}
+use Rattle.enter_item.specs.Draft.{lows, draft, still}
 use Rattle.enter_item.specs.declared.Spot.{Spot}
 use Rattle.enter_item.specs.declared.Step.{Step}
 use Rattle.enter_item.specs.declared.Step.the-variants.{Done, Refused}
@@ -124,14 +123,14 @@ pub record Says (fs : List ℕ) (E : Env) (q : Spot) (m m′ : Mem) (r : Step) :
   pub got : (q′ : Spot) → r ≡ Done q′ → Got fs E q m q′ m′
   pub stop : (k p : ℕ) → r ≡ Refused k p → Stop fs E q m k p m′
 
--- one item of the class c is expected, and written as w makes of its own token
-pub record Hit (c : ℕ) (w : ℕ → ℕ) (E : Env) (q : Spot) (old new : List ℕ) (q′ : Spot) : Type 0 where
+-- one item of the class c is expected, and written as the operator b
+pub record Hit (c b : ℕ) (E : Env) (q : Spot) (old new : List ℕ) (q′ : Spot) : Type 0 where
   pub t : Token
   pub a : ℕ
   pub e : ℕ
   pub next : Next E false (q .at) t a e
   pub class : class t ≡ c
-  pub wrote : new ≡ set old (q .written) (w (own-of t))
+  pub wrote : new ≡ set old (q .written) b
   pub stands : q′ ≡ spot e (q .written + 1) (q .named)
 
 -- another stands there: refusal 4 at its place, and nothing is written
@@ -145,16 +144,15 @@ pub record Miss (c : ℕ) (E : Env) (q : Spot) (old new : List ℕ) (k p : ℕ) 
   pub place : p ≡ E .from + a
   pub kept : new ≡ old
 
-pub record Expects (c : ℕ) (w : ℕ → ℕ) (E : Env) (q : Spot) (old new : List ℕ) (r : Step) : Type 0 where
-  pub hit : (q′ : Spot) → r ≡ Done q′ → Hit c w E q old new q′
+pub record Expects (c b : ℕ) (E : Env) (q : Spot) (old new : List ℕ) (r : Step) : Type 0 where
+  pub hit : (q′ : Spot) → r ≡ Done q′ → Hit c b E q old new q′
   pub miss : (k p : ℕ) → r ≡ Refused k p → Miss c E q old new k p
 
--- written as the operator b, whatever it is; written as it is
-abbrev pub as-operator : ℕ → ℕ → ℕ
-as-operator b x = b
-
-abbrev pub as-own : ℕ → ℕ
-as-own x = x
+-- The token of the variable with a number was written to a place of the line, and has so many bytes.
+pub record VariableWritten (number : ℕ) (old : List ℕ) (at : ℕ) (new : List ℕ) (r : ℕ) : Type 0 where
+  pub line : (ks : List (List ℕ)) (n : List ℕ) → number ≡ number-of ks n → new ≡ sets old at (lows (variable-bytes ks n))
+  pub size : (ks : List (List ℕ)) (n : List ℕ) → number ≡ number-of ks n → r ≡ length (lows (variable-bytes ks n))
+  pub few : r ≤ 2
 
 -- a constant in range is taken
 pub record Inside (E : Env) (first : Bool) (t : Token) (a e : ℕ) (q : Spot) (m : Mem) (q′ : Spot) (m′ : Mem) : Type 0 where

@@ -20,9 +20,9 @@ use Rattle.paper.specs.Line.{begins?}
 use Rattle.laws.specs.Names.{names-added}
 use Rattle.enter_item.specs.Draft.{written, after, draft}
 use Rattle.enter_item.specs.NameLaws.{new-same}
-use Rattle.enter_item.specs.DraftLaws.{no-bool}
+use Rattle.tokens.specs.Same.{no-bool}
 use Rattle.enter_item.specs.ClassLaws.{own-of, operator-by-class, small-operator}
-use Rattle.enter_item.specs.Says.{Env, Mem, mem, spot, known, items-at, Asks, Next, item-of, Wrote, Passed, Took, Says, Hit, Expects, as-operator, as-own}
+use Rattle.enter_item.specs.Says.{Env, Mem, mem, spot, known, items-at, Asks, Next, item-of, Wrote, Passed, Took, Says, Hit, Expects}
 use Rattle.enter_item.specs.Laws.{takes-last, refuses}
 use Rattle.enter_item.specs.declared.Spot.{Spot}
 use Rattle.enter_item.specs.declared.Step.{Step}
@@ -187,34 +187,31 @@ took-compare {t = t} {b = b} c k ask s h o n st =
 
 -- ---- an expected symbol
 
-pub hit-put : {c b : ℕ} {E : Env} {q q′ : Spot} {m : Mem} {new : List ℕ} → sign? c ≡ true → Asks E q m → (h : Hit c (as-operator b) E q (m .line) new q′)
+pub hit-put : {c b : ℕ} {E : Env} {q q′ : Spot} {m : Mem} {new : List ℕ} → sign? c ≡ true → Asks E q m → (h : Hit c b E q (m .line) new q′)
     → Took E false q m (put b) (item-of E (h .t) (h .a) (h .e)) false q′ (mem new (m .fresh))
 hit-put {c} {b} k g h = took-put c b k g (h .next) (h .class) (h .wrote) (h .stands)
 
-pub hit-own : {c : ℕ} {E : Env} {q q′ : Spot} {m : Mem} {new : List ℕ} → sign? c ≡ true → Asks E q m → (h : Hit c as-own E q (m .line) new q′)
-    → Took E false q m itself (item-of E (h .t) (h .a) (h .e)) false q′ (mem new (m .fresh))
-hit-own {c} k g h = took-own c k g (h .next) (h .class) refl (h .wrote) (h .stands)
-
-pub missed : {c : ℕ} {w : ℕ → ℕ} {E : Env} {q : Spot} {m : Mem} {new : List ℕ} {r₁ : Step} {k p : ℕ} (f : ℕ) → ((d : ℕ) → (d ≡ c → ⊥) → look f d ≡ refuse 4)
-    → Expects c w E q (m .line) new r₁ → r₁ ≡ Refused k p → Says (f ∷ []) E q m (mem new (m .fresh)) (Refused k p)
-missed {c} {w} {E} {q} {m} {new} {r₁} {k} {p} f l x e =
+pub missed : {c b : ℕ} {E : Env} {q : Spot} {m : Mem} {new : List ℕ} {r₁ : Step} {k p : ℕ} (f : ℕ) → ((d : ℕ) → (d ≡ c → ⊥) → look f d ≡ refuse 4)
+    → Expects c b E q (m .line) new r₁ → r₁ ≡ Refused k p → Says (f ∷ []) E q m (mem new (m .fresh)) (Refused k p)
+missed {c} {b} {E} {q} {m} {new} {r₁} {k} {p} f l x e =
     let h = x .miss k p e in
     subst (λ (n : List ℕ). Says (f ∷ []) E q m (mem n (m .fresh)) (Refused k p)) (sym (h .kept))
     (subst (λ (n : ℕ). Says (f ∷ []) E q m m (Refused n p)) (sym (h .number)) (refuses f m (h .next) (l _ (h .class)) (h .place)))
 
 -- a frame that wants the symbol, and nothing after it
-expects : {c : ℕ} {w : ℕ → ℕ} {E : Env} {q : Spot} {m : Mem} {new : List ℕ} {r : Step} (f : ℕ) (g : Gives) → look f c ≡ take g [] → sign? c ≡ true → ((d : ℕ) → (d ≡ c → ⊥) → look f d ≡ refuse 4)
-    → ((q′ : Spot) (h : Hit c w E q (m .line) new q′) → Took E false q m g (item-of E (h .t) (h .a) (h .e)) false q′ (mem new (m .fresh)))
-    → Expects c w E q (m .line) new r → Says (f ∷ []) E q m (mem new (m .fresh)) r
-expects {c} {w} {E} {q} {m} {new} {r} f g l k o t x = record {
+expects : {c b : ℕ} {E : Env} {q : Spot} {m : Mem} {new : List ℕ} {r : Step} (f : ℕ) (g : Gives) → look f c ≡ take g [] → sign? c ≡ true → ((d : ℕ) → (d ≡ c → ⊥) → look f d ≡ refuse 4)
+    → ((q′ : Spot) (h : Hit c b E q (m .line) new q′) → Took E false q m g (item-of E (h .t) (h .a) (h .e)) false q′ (mem new (m .fresh)))
+    → Expects c b E q (m .line) new r → Says (f ∷ []) E q m (mem new (m .fresh)) r
+expects {c} {b} {E} {q} {m} {new} {r} f g l k o t x = record {
   got = λ q′ e. let h = x .hit q′ e in (takes-last f c l (sign c k .range) (h .class) (t q′ h)) .got q′ refl;
   stop = λ n p e. (missed f o x e) .stop n p refl;
 }
 
 pub expects-put : {c b : ℕ} {E : Env} {q : Spot} {m : Mem} {new : List ℕ} {r : Step} (f : ℕ) → look f c ≡ take (put b) [] → sign? c ≡ true → ((d : ℕ) → (d ≡ c → ⊥) → look f d ≡ refuse 4) → Asks E q m
-    → Expects c (as-operator b) E q (m .line) new r → Says (f ∷ []) E q m (mem new (m .fresh)) r
+    → Expects c b E q (m .line) new r → Says (f ∷ []) E q m (mem new (m .fresh)) r
 expects-put {b = b} f l k o g x = expects f (put b) l k o (λ q′ h. hit-put k g h) x
 
-pub expects-own : {c : ℕ} {E : Env} {q : Spot} {m : Mem} {new : List ℕ} {r : Step} (f : ℕ) → look f c ≡ take itself [] → sign? c ≡ true → ((d : ℕ) → (d ≡ c → ⊥) → look f d ≡ refuse 4) → Asks E q m
-    → Expects c as-own E q (m .line) new r → Says (f ∷ []) E q m (mem new (m .fresh)) r
-expects-own f l k o g x = expects f itself l k o (λ q′ h. hit-own k g h) x
+-- the same, where no other symbol has the class
+pub expects-own : {c b : ℕ} {E : Env} {q : Spot} {m : Mem} {new : List ℕ} {r : Step} (f : ℕ) → look f c ≡ take itself [] → sign? c ≡ true → ((d : ℕ) → (d ≡ c → ⊥) → look f d ≡ refuse 4)
+    → ((t : Token) → class t ≡ c → b ≡ own-of t) → Asks E q m → Expects c b E q (m .line) new r → Says (f ∷ []) E q m (mem new (m .fresh)) r
+expects-own {c} f l k o s g x = expects f itself l k o (λ q′ h. took-own c k g (h .next) (h .class) (s (h .t) (h .class)) (h .wrote) (h .stands)) x

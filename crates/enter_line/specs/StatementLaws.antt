@@ -284,9 +284,6 @@ rest-other c h a = rw (ne-eqb c remark h) a
 -- ---- a whole statement
 
 -- the part of the text after the first item
-pub rest-part : (s : List ℕ) (a : ℕ) → take (length s - a) (drop a s) ≡ drop a s
-rest-part s a = take-all (length s - a) (drop a s) (omega (arith, length-drop a s))
-
 part-rest : (s n : List ℕ) (o e c : ℕ) → rest-items (env (drop e s) (o + e) n) c 0 ≡ rest-items (env s o n) c e
 unfolding rest-items
 part-rest s n o e c =

@@ -7,7 +7,7 @@ use mathlib.Core.Bool.{Bool, true, false}
 use mathlib.Core.List.{List, [], _∷_}
 use lib.Dec.{eqb, ltb}
 use lib.ListN.{length, take, drop, getD, length-drop}
-use lib.Seq.{drop-drop, getD-drop}
+use lib.Seq.{drop-drop, getD-drop, take-all}
 use borrow.Author.Tests.{eq-eqb, eqb-true, eqb-false, ne-eqb, ltb-true, ltb-false}
 use Rattle.paper.specs.Bytes.{pick, run, blank?}
 use Rattle.paper.specs.Classes.{line-end, remark}
@@ -21,6 +21,10 @@ use Rattle.enter_scan.specs.Kinds.{Shape, shape-at, class-of, item-with,
 use Rattle.enter_scan.specs.Sees.{Holds, Sees, token-at}
 use Rattle.enter_scan.specs.Shapes.{item-of, item-shape}
 use Rattle.enter_scan.specs.Sound.{Sound, in-text, shape-sound}
+
+-- the part of a text from a place on
+pub rest-part : (s : List ℕ) (a : ℕ) → take (length s - a) (drop a s) ≡ drop a s
+rest-part s a = take-all (length s - a) (drop a s) (omega (arith, length-drop a s))
 
 -- ---- the scanner
 

@@ -5,7 +5,6 @@ use enter_item::Step;
 use enter_item::compares;
 use enter_item::constant;
 use enter_item::expect;
-use enter_item::expect_as;
 use enter_item::prefix_operator;
 use enter_item::quoted;
 use enter_item::see;
@@ -81,7 +80,14 @@ fn enclosed(
     ensures { λ r. ⌜ Says (want-operand ∷ want-more-terms ∷ want-close ∷ []) (env (now (part .entry)) offset (now (names .entry))) q (mem (now (line .entry)) (now (fresh .entry))) (mem (now (line .exit)) (now (fresh .exit))) r ⌝ }
 {
     match expression(part, offset, q, line, names, fresh) {
-        Step::Done(p) => expect(part, offset, p, line, class::CLOSE_SIGN),
+        Step::Done(p) => expect(
+            part,
+            offset,
+            p,
+            line,
+            class::CLOSE_SIGN,
+            OperatorToken::CLOSE,
+        ),
         Step::Refused(k, p) => Step::Refused(k, p),
     }
 }
@@ -144,7 +150,7 @@ fn argument(
     requires { ⌜ Asks (env (now part) offset (now names)) q (mem (now line) (now fresh)) ⌝ }
     ensures { λ r. ⌜ Says (want-function-open ∷ want-operand ∷ want-more-terms ∷ want-close ∷ []) (env (now (part .entry)) offset (now (names .entry))) q (mem (now (line .entry)) (now (fresh .entry))) (mem (now (line .exit)) (now (fresh .exit))) r ⌝ }
 {
-    match expect_as(
+    match expect(
         part,
         offset,
         q,
@@ -169,7 +175,7 @@ fn string_argument(
     requires { ⌜ Asks (env (now part) offset (now names)) q (mem (now line) (now fresh)) ⌝ }
     ensures { λ r. ⌜ Says (want-function-open ∷ want-string ∷ want-close ∷ []) (env (now (part .entry)) offset (now (names .entry))) q (mem (now (line .entry)) (now (fresh .entry))) (mem (now (line .exit)) (now (fresh .exit))) r ⌝ }
 {
-    match expect_as(
+    match expect(
         part,
         offset,
         q,
@@ -178,7 +184,14 @@ fn string_argument(
         OperatorToken::FUNCTION_OPEN,
     ) {
         Step::Done(p) => match string(part, offset, p, line, names, fresh) {
-            Step::Done(r) => expect(part, offset, r, line, class::CLOSE_SIGN),
+            Step::Done(r) => expect(
+                part,
+                offset,
+                r,
+                line,
+                class::CLOSE_SIGN,
+                OperatorToken::CLOSE,
+            ),
             Step::Refused(k, z) => Step::Refused(k, z),
         },
         Step::Refused(k, p) => Step::Refused(k, p),
@@ -197,7 +210,7 @@ fn element(
     requires { ⌜ Asks (env (now part) offset (now names)) q (mem (now line) (now fresh)) ⌝ }
     ensures { λ r. ⌜ Says (want-array-open ∷ want-operand ∷ want-more-terms ∷ want-second ∷ []) (env (now (part .entry)) offset (now (names .entry))) q (mem (now (line .entry)) (now (fresh .entry))) (mem (now (line .exit)) (now (fresh .exit))) r ⌝ }
 {
-    match expect_as(
+    match expect(
         part,
         offset,
         q,

@@ -1,25 +1,15 @@
--- `items::numbers/begins_number` meets its contract.
 use mathlib.Core.Path.{sym, _∙_}
 use borrow.Author.Needs.{needs}
 use Rattle.enter_scan.proofs.NumberLaws.{begins-point, begins-not}
 use Rattle.enter_scan.proofs.numbers.begins_number.Statement.{statement}
 use Rattle.enter_scan.proofs.numbers.begins_number.Tie as tie
 
-is-digit-requires : tie.Need-is-digit-requires
-is-digit-requires c κs = search needs
-
-returns : tie.Need-returns
-returns c = sym (rw (sym (c .before .is-digit .ensures) ∙ c .if1 .taken))
-
-is-digit-requires-2 : tie.Need-is-digit-requires-2
-is-digit-requires-2 c κs = search needs
-
-returns-2 : tie.Need-returns-2
-returns-2 c = c .is-digit2 .ensures ∙ begins-point (c .before .before .before .before .args .next) (sym (c .before .before .before .is-digit .ensures) ∙ c .before .before .if1 .left) (c .before .if2 .taken)
-
-returns-3 : tie.Need-returns-3
-returns-3 c = begins-not (c .before .before .before .args .next) (sym (c .before .before .is-digit .ensures) ∙ c .before .if1 .left) (c .if2 .left)
-
 pub begins-number-spec : {M : Type 1} → statement M
 begins-number-spec =
-    tie.close (tie.spec is-digit-requires returns is-digit-requires-2 returns-2 returns-3)
+    tie.close
+    (tie.spec
+    (search needs)
+    (λ c. sym (rw (sym (c .before .is-digit .ensures) ∙ c .if1 .taken)))
+    (search needs)
+    (λ c. c .is-digit2 .ensures ∙ begins-point (c .before .before .before .before .args .next) (sym (c .before .before .before .is-digit .ensures) ∙ c .before .before .if1 .left) (c .before .if2 .taken))
+    (λ c. begins-not (c .before .before .before .args .next) (sym (c .before .before .is-digit .ensures) ∙ c .before .if1 .left) (c .if2 .left)))

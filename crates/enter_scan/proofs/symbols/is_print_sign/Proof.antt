@@ -1,14 +1,11 @@
--- `items::symbols/is_print_sign` meets its contract.
 use mathlib.Core.Path.{sym}
 use borrow.Author.Tests.{eq-eqb, ne-eqb}
 use Rattle.enter_scan.proofs.symbols.is_print_sign.Statement.{statement}
 use Rattle.enter_scan.proofs.symbols.is_print_sign.Tie as tie
 
-returns : tie.Need-returns
-returns c = sym (rw (eq-eqb (c .before .args .b) 63 (c .if1 .taken)))
-
-returns-2 : tie.Need-returns-2
-returns-2 c = sym (rw (ne-eqb (c .before .args .b) 63 (c .if1 .left)))
-
 pub is-print-sign-spec : {M : Type 1} → statement M
-is-print-sign-spec = tie.close (tie.spec returns returns-2)
+is-print-sign-spec =
+    tie.close
+    (tie.spec
+    (λ c. sym (rw (eq-eqb (c .before .args .b) 63 (c .if1 .taken))))
+    (λ c. sym (rw (ne-eqb (c .before .args .b) 63 (c .if1 .left)))))
