@@ -8,7 +8,7 @@ use lib.Dec.{T, eqb, leb}
 use lib.ListN.{length, take, drop, getD, length-drop}
 use lib.Seq.{drop-drop, take-all}
 use borrow.Author.Tests.{eq-eqb, eqb-true, leb-true}
-use Rattle.paper.specs.Bytes.{pick, bytes, same, among, every}
+use Rattle.paper.specs.Bytes.{pick, same, among, every}
 use Rattle.paper.specs.Classes.{unfit}
 use Rattle.paper.specs.Words.{Word, word, Found, found, nowhere, find-word, statements, operators, read-operators, functions}
 use Rattle.paper.specs.Tokens.{found-or}

@@ -1,4 +1,3 @@
--- `buffers::copy` meets its contract.
 use mathlib.Core.Path.{_≡_, refl, ap, _∙_}
 use mathlib.Core.List.{List}
 use Prim.Native.Nat.{ℕ, _+_, _-_, _≤_}
@@ -30,6 +29,6 @@ copy-spec =
     (λ c. omega (arith, simp length-sets at (ap length (c .before .before .loop .inv .1))))
     (λ c. search needs)
     (λ c. search needs)
-    (λ c. (omega arith, ap (λ (l : List ℕ). set l (c .before .before .before .before .before .before .args .at + c .before .before .loop .i) (getD (c .before .before .before .before .before .before .args .src .now) (c .before .before .loop .i) 0)) (c .before .before .loop .inv .1) ∙ sets-more (c .before .before .before .before .before .before .args .out .now) (c .before .before .before .before .before .before .args .at) (c .before .before .before .before .before .before .args .src .now) (c .before .before .loop .i) (omega arith)))
+    (λ c. let a = c .before .before .before .before .before .before .args in (omega arith, ap (λ (l : List ℕ). set l (a .at + c .before .before .loop .i) (getD (a .src .now) (c .before .before .loop .i) 0)) (c .before .before .loop .inv .1) ∙ sets-more (a .out .now) (a .at) (a .src .now) (c .before .before .loop .i) (omega arith)))
     (λ c. simp length-sets at (ap length (c .before .loop .inv .1)))
-    (λ c. copied (c .before .before .before .before .before .args .out .now) (c .before .before .before .before .before .args .at) (c .before .loop .i) (c .before .before .before .before .before .args .src .now) (c .before .before .fitting .ensures) (c .before .loop .inv .0) (c .loop-test .left) (c .before .loop .inv .1)))
+    (λ c. let a = c .before .before .before .before .before .args in copied (a .out .now) (a .at) (c .before .loop .i) (a .src .now) (c .before .before .fitting .ensures) (c .before .loop .inv .0) (c .loop-test .left) (c .before .loop .inv .1)))

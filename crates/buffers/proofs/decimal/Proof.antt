@@ -25,6 +25,6 @@ decimal-spec =
     (λ c κs. search needs)
     (λ c. search needs)
     (λ c. search needs)
-    (λ c. digit-on _ (c .before .before .before .loop .i) (c .before .before .before .loop .n) _ (c .before .before .loop-test .taken) (c .with-digit .ensures) (c .before .before .before .loop .inv))
+    (λ c. let l = c .before .before .before .loop in digit-on _ (l .i) (l .n) _ (c .before .before .loop-test .taken) (c .with-digit .ensures) (l .inv))
     (λ c κs. search needs)
     (λ c. c .lesser .ensures ∙ digits-end _ (c .before .before .loop .i) (c .before .before .loop .n) (c .before .loop-test .left) (c .before .before .loop .inv)))

@@ -1,4 +1,3 @@
--- `buffers::is_digit` meets its contract.
 use borrow.Author.Tests.{le-leb, lt-leb}
 use Rattle.paper.specs.Bytes.{digit?}
 use Rattle.buffers.proofs.is_digit.Statement.{statement}

@@ -1,4 +1,3 @@
--- `buffers::is_letter` meets its contract.
 use borrow.Author.Tests.{le-leb, lt-leb}
 use Rattle.paper.specs.Bytes.{letter?}
 use Rattle.buffers.proofs.is_letter.Statement.{statement}

@@ -1,4 +1,3 @@
--- `buffers::is_letter_or_digit` meets its contract.
 use mathlib.Core.Path.{sym, _∙_}
 use borrow.Author.Needs.{needs}
 use Rattle.paper.specs.Bytes.{letter-or-digit?}

@@ -1,4 +1,3 @@
--- `buffers::is_string_byte` meets its contract.
 use mathlib.Core.Path.{sym, ap}
 use borrow.Author.Tests.{ne-eqb}
 use Rattle.paper.specs.Items.{string-byte?}

@@ -1,4 +1,3 @@
--- `buffers::passes` meets its contract.
 use mathlib.Core.Path.{sym, ap, _∙_}
 use borrow.Author.Needs.{needs}
 use Rattle.buffers.specs.Runs.{test-of}

@@ -1,4 +1,3 @@
--- `buffers::run_end` meets its contract.
 use mathlib.Core.Path.{_≡_, refl, sym, _∙_}
 use Prim.Native.Nat.{_+_, _-_, _≤_}
 use native.Mathlib.Omega.{arith}
@@ -27,5 +26,5 @@ run-end-spec =
     (λ c. search needs)
     (λ c. search needs)
     (λ c. (λ h. omega arith, omega (arith, c .before .before .before .before .loop .inv .1, run-on (test-of (c .before .before .before .before .before .before .args .kind)) (c .before .before .before .before .before .before .args .s .now) (c .before .before .before .before .loop .i) (c .before .before .before .loop-test .taken) (sym (c .before .passes .ensures) ∙ c .if1 .taken))))
-    (λ c. (omega (arith, c .before .before .before .before .loop .inv .1, run-off (test-of (c .before .before .before .before .before .before .args .kind)) (c .before .before .before .before .before .before .args .s .now) (c .before .before .before .before .loop .i) (c .before .before .before .loop-test .taken) (sym (c .before .passes .ensures) ∙ c .if1 .left)), c .before .before .before .before .loop .inv .0))
+    (λ c. let l = c .before .before .before .before .loop in (omega (arith, l .inv .1, run-off (test-of (c .before .before .before .before .before .before .args .kind)) (c .before .before .before .before .before .before .args .s .now) (l .i) (c .before .before .before .loop-test .taken) (sym (c .before .passes .ensures) ∙ c .if1 .left)), l .inv .0))
     (λ c. (omega (arith, c .before .loop .inv .1, run-past (test-of (c .before .before .before .args .kind)) (c .before .before .before .args .s .now) (c .before .loop .i) (c .loop-test .left)), c .before .loop .inv .0)))

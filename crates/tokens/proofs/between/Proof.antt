@@ -1,4 +1,3 @@
--- `tokens::between` meets its contract.
 use borrow.Author.Needs.{needs}
 use Rattle.tokens.proofs.Cuts.{cut-same}
 use Rattle.tokens.proofs.between.Statement.{statement}
@@ -13,4 +12,4 @@ between-spec =
     (λ c. search needs)
     (λ c. search needs)
     (λ c. search needs)
-    (λ c. cut-same (c .before .before .before .before .args .s .now) (c .before .before .before .before .args .from) (c .before .before .before .before .args .end) (c .before .before .lesser .ensures) (c .before .lesser2 .ensures)))
+    (λ c. let a = c .before .before .before .before .args in cut-same (a .s .now) (a .from) (a .end) (c .before .before .lesser .ensures) (c .before .lesser2 .ensures)))

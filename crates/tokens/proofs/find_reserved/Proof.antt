@@ -1,4 +1,3 @@
--- `tokens::find_reserved` meets its contract.
 use native.Mathlib.Omega.{arith}
 use borrow.Author.Needs.{needs}
 use Rattle.paper.specs.Bytes.{bytes}

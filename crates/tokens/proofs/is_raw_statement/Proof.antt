@@ -1,4 +1,3 @@
--- `tokens::is_raw_statement` meets its contract.
 use mathlib.Core.Path.{ap}
 use Prim.Native.Nat.{ℕ}
 use borrow.Author.Needs.{needs}

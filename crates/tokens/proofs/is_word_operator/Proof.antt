@@ -1,4 +1,3 @@
--- `tokens::is_word_operator` meets its contract.
 use Rattle.tokens.proofs.Classes.{word-operator-low, word-operator-first, word-operator-gap, word-operator-last}
 use Rattle.tokens.proofs.is_word_operator.Statement.{statement}
 use Rattle.tokens.proofs.is_word_operator.Tie as tie

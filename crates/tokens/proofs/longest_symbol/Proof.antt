@@ -1,4 +1,3 @@
--- `tokens::longest_symbol` meets its contract.
 use mathlib.Core.List.{[], _∷_}
 use borrow.Author.Needs.{needs}
 use Rattle.paper.specs.Words.{operators, find-word}
@@ -17,6 +16,6 @@ longest-symbol-spec =
     (λ c κs. search needs)
     (λ c. search needs)
     (λ c. search needs)
-    (λ c. symbol-two (pair-found (c .before .before .before .before .args .b) (find-word operators (c .before .before .before .before .args .b ∷ c .before .before .before .before .args .c ∷ []))) (find-word operators (c .before .before .before .before .args .b ∷ [])) (c .before .before .before .pair .ensures) (c .before .t .given .1))
-    (λ c. symbol-one (pair-found (c .before .before .before .before .before .before .before .args .b) (find-word operators (c .before .before .before .before .before .before .before .args .b ∷ c .before .before .before .before .before .before .before .args .c ∷ []))) (find-word operators (c .before .before .before .before .before .before .before .args .b ∷ [])) (c .before .before .before .before .before .before .pair .ensures) (c .before .before .before .before .enum-told .given .1) (c .before .before .before .sign .ensures) (c .before .t2 .given .1))
-    (λ c. symbol-none (pair-found (c .before .before .before .before .before .before .args .b) (find-word operators (c .before .before .before .before .before .before .args .b ∷ c .before .before .before .before .before .before .args .c ∷ []))) (find-word operators (c .before .before .before .before .before .before .args .b ∷ [])) (c .before .before .before .before .before .pair .ensures) (c .before .before .before .enum-told .given .1) (c .before .before .sign .ensures) (c .enum-told2 .given .1)))
+    (λ c. let a = c .before .before .before .before .args in symbol-two (pair-found (a .b) (find-word operators (a .b ∷ a .c ∷ []))) (find-word operators (a .b ∷ [])) (c .before .before .before .pair .ensures) (c .before .t .given .1))
+    (λ c. let a = c .before .before .before .before .before .before .before .args in symbol-one (pair-found (a .b) (find-word operators (a .b ∷ a .c ∷ []))) (find-word operators (a .b ∷ [])) (c .before .before .before .before .before .before .pair .ensures) (c .before .before .before .before .enum-told .given .1) (c .before .before .before .sign .ensures) (c .before .t2 .given .1))
+    (λ c. let a = c .before .before .before .before .before .before .args in symbol-none (pair-found (a .b) (find-word operators (a .b ∷ a .c ∷ []))) (find-word operators (a .b ∷ [])) (c .before .before .before .before .before .pair .ensures) (c .before .before .before .enum-told .given .1) (c .before .before .sign .ensures) (c .enum-told2 .given .1)))

@@ -1,4 +1,3 @@
--- `tokens::operator_class` meets its contract.
 use Rattle.paper.specs.Tokens.{operator-class}
 use Rattle.paper.specs.Words.{word, read-operators, functions, placed-operators, operators, word-of}
 use Rattle.tokens.proofs.Keys.{at-key}

@@ -1,4 +1,3 @@
--- `tokens::operator_part` meets its contract.
 use borrow.Author.Needs.{needs}
 use Rattle.tokens.proofs.Cuts.{part-none, operator-part-past, operator-part-at}
 use Rattle.tokens.specs.Parts.{fixed-part}

@@ -1,4 +1,3 @@
--- `tokens::pair` meets its contract.
 use Rattle.paper.specs.Bytes.{bytes, letter?, same}
 use Rattle.paper.specs.Words.{word, read-operators, functions, placed-operators, operators, find-word}
 use Rattle.tokens.proofs.Symbols.{pair-at, less-alone, greater-alone, no-pair}

@@ -1,4 +1,3 @@
--- `tokens::read_as` meets its contract.
 use Rattle.paper.specs.Bytes.{bytes, same}
 use Rattle.paper.specs.Tokens.{found-or, read-as}
 use Rattle.paper.specs.Words.{word, read-operators, functions, placed-operators, operators, find-word, word-of}

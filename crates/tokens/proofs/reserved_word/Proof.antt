@@ -1,4 +1,3 @@
--- `tokens::reserved_word` meets its contract.
 use borrow.Author.Needs.{needs}
 use Rattle.tokens.specs.Tables.{read-words}
 use Rattle.tokens.proofs.First.{first-found, reserved-nowhere}

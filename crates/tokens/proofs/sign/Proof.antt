@@ -1,4 +1,3 @@
--- `tokens::sign` meets its contract.
 use Rattle.paper.specs.Bytes.{bytes, same}
 use Rattle.paper.specs.Words.{word, read-operators, functions, placed-operators, operators, find-word}
 use Rattle.tokens.proofs.Symbols.{sign-at, no-sign}

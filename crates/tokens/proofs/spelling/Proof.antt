@@ -1,4 +1,3 @@
--- `tokens::spelling` meets its contract.
 use mathlib.Core.Path.{sym, ap, _∙_}
 use Prim.Native.Nat.{_-_}
 use borrow.Author.Needs.{needs}
@@ -17,5 +16,5 @@ spelling-spec =
     (λ c κs. search needs)
     (λ c. search needs)
     (λ c κs. search needs)
-    (λ c. c .between .ensures ∙ sym (ap (λ (x : Source). take (c .before .before .before .before .before .args .part .end - c .before .before .before .before .before .args .part .from) (drop (c .before .before .before .before .before .args .part .from) (source-of (c .before .before .before .before .before .args .words .now) (c .before .before .before .before .before .args .names .now) x))) (c .before .enum-told .given .1)))
-    (λ c. c .between2 .ensures ∙ sym (ap (λ (x : Source). take (c .before .before .before .before .before .args .part .end - c .before .before .before .before .before .args .part .from) (drop (c .before .before .before .before .before .args .part .from) (source-of (c .before .before .before .before .before .args .words .now) (c .before .before .before .before .before .args .names .now) x))) (c .before .enum-told2 .given .1))))
+    (λ c. let a = c .before .before .before .before .before .args in c .between .ensures ∙ sym (ap (λ (x : Source). take (a .part .end - a .part .from) (drop (a .part .from) (source-of (a .words .now) (a .names .now) x))) (c .before .enum-told .given .1)))
+    (λ c. let a = c .before .before .before .before .before .args in c .between2 .ensures ∙ sym (ap (λ (x : Source). take (a .part .end - a .part .from) (drop (a .part .from) (source-of (a .words .now) (a .names .now) x))) (c .before .enum-told2 .given .1))))

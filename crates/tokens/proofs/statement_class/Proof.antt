@@ -1,4 +1,3 @@
--- `tokens::statement_class` meets its contract.
 use Prim.Native.Nat.{ℕ}
 use Rattle.paper.specs.Words.{word, statements, word-of}
 use Rattle.tokens.proofs.Keys.{at-key}

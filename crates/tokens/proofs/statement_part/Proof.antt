@@ -1,4 +1,3 @@
--- `tokens::statement_part` meets its contract.
 use borrow.Author.Needs.{needs}
 use Rattle.tokens.proofs.Cuts.{statement-part-past, statement-part-at}
 use Rattle.tokens.specs.Parts.{fixed-part}

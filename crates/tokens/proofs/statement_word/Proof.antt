@@ -1,4 +1,3 @@
--- `tokens::statement_word` meets its contract.
 use borrow.Author.Needs.{needs}
 use Rattle.paper.specs.Words.{statements}
 use Rattle.tokens.proofs.First.{first-found, statement-nowhere}

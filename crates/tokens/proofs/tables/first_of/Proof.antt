@@ -1,4 +1,3 @@
--- `tokens::tables/first_of` meets its contract.
 use mathlib.Core.Path.{sym}
 use native.Mathlib.Omega.{arith}
 use borrow.Author.Needs.{needs}

@@ -1,4 +1,3 @@
--- `tokens::tables/first_statement` meets its contract.
 use mathlib.Core.List.{[], _∷_}
 use Rattle.paper.specs.Bytes.{bytes, among, every}
 use Rattle.paper.specs.Words.{word, statements}

@@ -1,4 +1,3 @@
--- `tokens::tables/is_word` meets its contract.
 use mathlib.Core.Path.{sym}
 use native.Mathlib.Omega.{arith}
 use borrow.Author.Needs.{needs}
@@ -11,15 +10,15 @@ pub is-word-spec : {M : Type 1} → statement M
 is-word-spec =
     tie.close
     (tie.spec
-    (λ c. other-length (c .before .before .before .args .words .now) (c .before .before .before .args .name .now) (c .before .before .before .args .from) (c .before .before .before .args .size) (c .before .before .before .pre) (search needs))
-    (λ c. no-bytes (c .before .before .before .before .args .words .now) (c .before .before .before .before .args .name .now) (c .before .before .before .before .args .from) (c .before .before .before .before .args .size) (c .if2 .taken))
+    (λ c. let a = c .before .before .before .args in other-length (a .words .now) (a .name .now) (a .from) (a .size) (c .before .before .before .pre) (search needs))
+    (λ c. let a = c .before .before .before .before .args in no-bytes (a .words .now) (a .name .now) (a .from) (a .size) (c .if2 .taken))
     (λ c. search needs)
     (λ c. search needs)
-    (λ c. other-first (c .before .before .before .before .before .before .before .args .words .now) (c .before .before .before .before .before .before .before .args .name .now) (c .before .before .before .before .before .before .before .args .from) (c .before .before .before .before .before .before .before .args .size) (c .before .before .before .if2 .left) (c .before .before .before .before .before .before .before .pre) (c .if3 .taken))
+    (λ c. let a = c .before .before .before .before .before .before .before .args in other-first (a .words .now) (a .name .now) (a .from) (a .size) (c .before .before .before .if2 .left) (c .before .before .before .before .before .before .before .pre) (c .if3 .taken))
     (λ c. search needs)
     (λ c. search needs)
     (λ c. search needs)
     (λ c. search needs)
     (λ c. sym (length-take-le (c .before .before .before .before .before .before .before .before .before .args .size) (c .before .before .before .before .before .before .before .before .before .args .name .now) (omega arith)))
     (λ c κs. search needs)
-    (λ c. all-bytes (c .same .result) (c .before .before .before .before .before .before .before .before .before .before .args .words .now) (c .before .before .before .before .before .before .before .before .before .before .args .name .now) (c .before .before .before .before .before .before .before .before .before .before .args .from) (c .before .before .before .before .before .before .before .before .before .before .args .size) (c .before .before .before .before .before .before .before .if1 .left) (c .before .before .before .before .before .before .if2 .left) (c .same .ensures .0) (c .same .ensures .1)))
+    (λ c. let a = c .before .before .before .before .before .before .before .before .before .before .args in all-bytes (c .same .result) (a .words .now) (a .name .now) (a .from) (a .size) (c .before .before .before .before .before .before .before .if1 .left) (c .before .before .before .before .before .before .if2 .left) (c .same .ensures .0) (c .same .ensures .1)))

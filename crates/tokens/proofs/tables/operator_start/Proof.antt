@@ -1,4 +1,3 @@
--- `tokens::tables/operator_start` meets its contract.
 use Rattle.tokens.specs.Tables.{total}
 use Rattle.tokens.proofs.Cuts.{operator-sizes, operator-start-at, operator-start-else}
 use Rattle.tokens.proofs.tables.operator_start.Statement.{statement}

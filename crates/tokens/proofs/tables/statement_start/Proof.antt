@@ -1,4 +1,3 @@
--- `tokens::tables/statement_start` meets its contract.
 use Rattle.tokens.specs.Tables.{total}
 use Rattle.tokens.proofs.Cuts.{statement-sizes, statement-start-at, statement-start-else}
 use Rattle.tokens.proofs.tables.statement_start.Statement.{statement}
