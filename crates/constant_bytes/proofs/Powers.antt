@@ -1,5 +1,5 @@
 -- Powers of ten and of a hundred, and the exponent and ten digits that paper's six bytes have.
-use Prim.Native.Nat.{ℕ, zero, suc, _+_, _-_, _*_, _/_, _^_, _≤_, _<_}
+use Prim.Native.Nat.{ℕ, zero, suc, _+_, _*_, _/_, _^_, _≤_, _<_}
 use native.Mathlib.Nat.{pow-suc, pow-succ', pow-zero, add-zero, add-suc, mul-assoc, one-le-pow, mul-le-mul-left, le-trans, mul-one, le-div-iff-mul-le, div-lt-iff-lt-mul, one-le-mul, mul-div-mul-right}
 use native.Mathlib.Omega.{arith}
 use mathlib.Core.Path.{_≡_, refl, sym, ap, subst, _∙_}

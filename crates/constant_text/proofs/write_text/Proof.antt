@@ -13,10 +13,10 @@ write-text-spec =
     (tie.spec
     (λ c κs. search needs)
     (λ c κs. search needs)
-    (λ c. text-out (c .before .before .before .before .before .args .out .now) (c .before .before .laid-out .ensures) (ten-here (c .before .before .before .before .before .args .s .now) (c .before .before .before .before .before .args .at)) (c .size .ensures) (c .before .if1 .taken))
+    (λ c. let a = c .before .before .before .before .before .args in text-out (a .out .now) (c .before .before .laid-out .ensures) (ten-here (a .s .now) (a .at)) (c .size .ensures) (c .before .if1 .taken))
     (λ c κs. search needs)
-    (λ c κs. (c .before .before .before .before .before .before .laid-out .ensures .ordered, omega (arith, whole-next (digits-here (c .before .before .before .before .before .before .before .before .before .args .s .now) (c .before .before .before .before .before .before .before .before .before .args .at)) (c .before .before .before .before .before .before .laid-out .ensures .ordered) (ten-here (c .before .before .before .before .before .before .before .before .before .args .s .now) (c .before .before .before .before .before .before .before .before .before .args .at)) (c .before .before .before .write-whole .ensures), c .before .before .before .write-whole .kept .1 .1 .1 .0)))
-    (λ c κs. (c .before .before .before .before .before .before .before .before .before .before .laid-out .ensures .ordered, omega (arith, whole-next (digits-here (c .before .before .before .before .before .before .before .before .before .before .before .before .before .args .s .now) (c .before .before .before .before .before .before .before .before .before .before .before .before .before .args .at)) (c .before .before .before .before .before .before .before .before .before .before .laid-out .ensures .ordered) (ten-here (c .before .before .before .before .before .before .before .before .before .before .before .before .before .args .s .now) (c .before .before .before .before .before .before .before .before .before .before .before .before .before .args .at)) (c .before .before .before .before .before .before .before .write-whole .ensures), fraction-next (digits-here (c .before .before .before .before .before .before .before .before .before .before .before .before .before .args .s .now) (c .before .before .before .before .before .before .before .before .before .before .before .before .before .args .at)) (c .before .before .before .before .before .before .before .before .before .before .laid-out .ensures .ordered) (ten-here (c .before .before .before .before .before .before .before .before .before .before .before .before .before .args .s .now) (c .before .before .before .before .before .before .before .before .before .before .before .before .before .args .at)) (c .before .before .before .write-fraction .ensures), c .before .before .before .before .before .before .before .write-whole .kept .1 .1 .1 .0, c .before .before .before .write-fraction .kept .1 .1 .1 .0)))
+    (λ c κs. let a = c .before .before .before .before .before .before .before .before .before .args in (c .before .before .before .before .before .before .laid-out .ensures .ordered, omega (arith, whole-next (digits-here (a .s .now) (a .at)) (c .before .before .before .before .before .before .laid-out .ensures .ordered) (ten-here (a .s .now) (a .at)) (c .before .before .before .write-whole .ensures), c .before .before .before .write-whole .kept .1 .1 .1 .0)))
+    (λ c κs. let a = c .before .before .before .before .before .before .before .before .before .before .before .before .before .args in (c .before .before .before .before .before .before .before .before .before .before .laid-out .ensures .ordered, omega (arith, whole-next (digits-here (a .s .now) (a .at)) (c .before .before .before .before .before .before .before .before .before .before .laid-out .ensures .ordered) (ten-here (a .s .now) (a .at)) (c .before .before .before .before .before .before .before .write-whole .ensures), fraction-next (digits-here (a .s .now) (a .at)) (c .before .before .before .before .before .before .before .before .before .before .laid-out .ensures .ordered) (ten-here (a .s .now) (a .at)) (c .before .before .before .write-fraction .ensures), c .before .before .before .before .before .before .before .write-whole .kept .1 .1 .1 .0, c .before .before .before .write-fraction .kept .1 .1 .1 .0)))
     (λ c. search needs)
     (λ c. search needs)
     (λ c. text-in (c .before .before .before .before .before .before .before .before .before .before .before .before .before .laid-out .ensures) (c .before .before .before .before .before .before .before .before .before .before .write-whole .ensures) (c .before .before .before .before .before .before .write-fraction .ensures) (c .before .before .write-power .ensures)))

@@ -13,6 +13,6 @@ digit-spec =
     (λ c. whole-digit (c .before .before .args .text .now) (c .before .before .args .n) (c .before .before .pre) (c .before .before .args .i) (c .before .if1 .taken))
     (λ c. search needs)
     (λ c. search needs)
-    (λ c. fraction-low (c .before .before .before .args .text .now) (c .before .before .before .args .n) (c .before .before .before .pre) (c .before .before .before .args .i) (c .before .before .if1 .left) (c .before .if2 .taken))
-    (λ c. fraction-digit (c .before .before .before .args .text .now) (c .before .before .before .args .n) (c .before .before .before .pre) (c .before .before .before .args .i) (c .before .before .if1 .left) (c .before .if2 .taken))
+    (λ c. let a = c .before .before .before .args in fraction-low (a .text .now) (a .n) (c .before .before .before .pre) (a .i) (c .before .before .if1 .left) (c .before .if2 .taken))
+    (λ c. let a = c .before .before .before .args in fraction-digit (a .text .now) (a .n) (c .before .before .before .pre) (a .i) (c .before .before .if1 .left) (c .before .if2 .taken))
     (λ c. past-digit (c .before .before .args .text .now) (c .before .before .args .n) (c .before .before .pre) (c .before .before .args .i) (c .before .if1 .left) (c .if2 .left)))

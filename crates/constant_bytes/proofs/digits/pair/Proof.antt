@@ -1,4 +1,3 @@
--- `pair` meets its contract.
 use borrow.Author.Needs.{needs}
 use native.Mathlib.Omega.{arith}
 use Prim.Native.Nat.{_+_}
@@ -17,5 +16,5 @@ pair-spec =
     (λ c. omega (arith, digit-at-most (digits-in (c .before .before .args .text .now) (c .before .before .args .n)) (c .before .before .args .i) (all-digits (c .before .before .args .text .now) (c .before .before .args .n) (c .before .before .pre .1))))
     (λ c. search needs)
     (λ c κs. search needs)
-    (λ c. omega (arith, digit-at-most (digits-in (c .before .before .before .args .text .now) (c .before .before .before .args .n)) (c .before .before .before .args .i) (all-digits (c .before .before .before .args .text .now) (c .before .before .before .args .n) (c .before .before .before .pre .1)), digit-at-most (digits-in (c .before .before .before .args .text .now) (c .before .before .before .args .n)) (c .before .before .before .args .i + 1) (all-digits (c .before .before .before .args .text .now) (c .before .before .before .args .n) (c .before .before .before .pre .1))))
-    (λ c. (omega arith, omega (arith, digit-at-most (digits-in (c .before .before .before .args .text .now) (c .before .before .before .args .n)) (c .before .before .before .args .i) (all-digits (c .before .before .before .args .text .now) (c .before .before .before .args .n) (c .before .before .before .pre .1)), digit-at-most (digits-in (c .before .before .before .args .text .now) (c .before .before .before .args .n)) (c .before .before .before .args .i + 1) (all-digits (c .before .before .before .args .text .now) (c .before .before .before .args .n) (c .before .before .before .pre .1))))))
+    (λ c. let a = c .before .before .before .args in omega (arith, digit-at-most (digits-in (a .text .now) (a .n)) (a .i) (all-digits (a .text .now) (a .n) (c .before .before .before .pre .1)), digit-at-most (digits-in (a .text .now) (a .n)) (a .i + 1) (all-digits (a .text .now) (a .n) (c .before .before .before .pre .1))))
+    (λ c. let a = c .before .before .before .args in (omega arith, omega (arith, digit-at-most (digits-in (a .text .now) (a .n)) (a .i) (all-digits (a .text .now) (a .n) (c .before .before .before .pre .1)), digit-at-most (digits-in (a .text .now) (a .n)) (a .i + 1) (all-digits (a .text .now) (a .n) (c .before .before .before .pre .1))))))

@@ -7,7 +7,4 @@ use Rattle.constant_bytes.proofs.digits.zeros.Tie as tie
 
 pub zeros-spec : {M : Type 1} → statement M
 unfolding zeros-if zero-bytes
-zeros-spec =
-    tie.close
-    (tie.spec
-    (λ c. refl))
+zeros-spec = tie.close (tie.spec (λ c. refl))

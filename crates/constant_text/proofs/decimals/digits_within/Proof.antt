@@ -23,9 +23,9 @@ digits-within-spec =
     μ-loop
     (λ c. (omega arith, refl))
     (λ c. omega arith)
-    (λ c. every-off (digits-most (c .before .before .before .before .args .most)) (c .before .before .before .before .args .bytes .now) (c .before .before .before .loop .i) (omega arith) (upper-more (c .before .before .before .before .args .most) (getD (c .before .before .before .before .args .bytes .now) (c .before .before .before .loop .i) 0) (c .if1 .taken)) (c .before .before .before .loop .inv .1))
-    (λ c. every-off (digits-most (c .before .before .before .before .before .args .most)) (c .before .before .before .before .before .args .bytes .now) (c .before .before .before .before .loop .i) (omega arith) (lower-more (c .before .before .before .before .before .args .most) (getD (c .before .before .before .before .before .args .bytes .now) (c .before .before .before .before .loop .i) 0) (c .if2 .taken)) (c .before .before .before .before .loop .inv .1))
+    (λ c. let a = c .before .before .before .before .args in let l = c .before .before .before .loop in every-off (digits-most (a .most)) (a .bytes .now) (l .i) (omega arith) (upper-more (a .most) (getD (a .bytes .now) (l .i) 0) (c .if1 .taken)) (l .inv .1))
+    (λ c. let a = c .before .before .before .before .before .args in let l = c .before .before .before .before .loop in every-off (digits-most (a .most)) (a .bytes .now) (l .i) (omega arith) (lower-more (a .most) (getD (a .bytes .now) (l .i) 0) (c .if2 .taken)) (l .inv .1))
     (λ c. omega arith)
     (λ c. omega arith)
-    (λ c. (omega arith, every-on (digits-most (c .before .before .before .before .before .args .most)) (c .before .before .before .before .before .args .bytes .now) (c .before .before .before .before .loop .i) (omega arith) (none-more (c .before .before .before .before .before .args .most) (getD (c .before .before .before .before .before .args .bytes .now) (c .before .before .before .before .loop .i) 0) (c .before .if1 .left) (c .if2 .left)) (c .before .before .before .before .loop .inv .1)))
+    (λ c. let a = c .before .before .before .before .before .args in let l = c .before .before .before .before .loop in (omega arith, every-on (digits-most (a .most)) (a .bytes .now) (l .i) (omega arith) (none-more (a .most) (getD (a .bytes .now) (l .i) 0) (c .before .if1 .left) (c .if2 .left)) (l .inv .1)))
     (λ c. every-end (digits-most (c .before .before .args .most)) (c .before .before .args .bytes .now) (c .before .loop .i) (omega arith) (c .before .loop .inv .1)))

@@ -14,5 +14,5 @@ digit-spec =
     (λ c κs. search needs)
     (λ c. search needs)
     (λ c. search needs)
-    (λ c. digit-even (c .before .before .before .before .args .s .now) (c .before .before .before .before .args .at) (c .before .before .before .before .args .i) (c .before .byte-at .result) (c .before .before .before .before .pre) (c .if2 .taken) (c .before .byte-at .ensures))
-    (λ c. digit-odd (c .before .before .before .before .args .s .now) (c .before .before .before .before .args .at) (c .before .before .before .before .args .i) (c .before .byte-at .result) (c .before .before .before .before .pre) (c .if2 .left) (c .before .byte-at .ensures)))
+    (λ c. let a = c .before .before .before .before .args in digit-even (a .s .now) (a .at) (a .i) (c .before .byte-at .result) (c .before .before .before .before .pre) (c .if2 .taken) (c .before .byte-at .ensures))
+    (λ c. let a = c .before .before .before .before .args in digit-odd (a .s .now) (a .at) (a .i) (c .before .byte-at .result) (c .before .before .before .before .pre) (c .if2 .left) (c .before .byte-at .ensures)))

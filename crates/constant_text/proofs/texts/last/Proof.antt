@@ -1,6 +1,6 @@
 -- `last` meets its contract. The invariant: without useless zeros, the digits up to `end` are all.
 use native.Mathlib.Omega.{arith}
-use Prim.Native.Nat.{_-_, _≤_}
+use Prim.Native.Nat.{_≤_}
 use mathlib.Core.Path.{_≡_}
 use lib.ListN.{drop}
 use lib.Seq.{slice}
@@ -25,8 +25,8 @@ last-spec =
     (λ c. (omega arith, omega arith, trim-all (digits-here (c .before .args .s .now) (c .before .args .at)) (c .before .args .point) (ten-here (c .before .args .s .now) (c .before .args .at))))
     (λ c. omega arith)
     (λ c κs. omega arith)
-    (λ c. trim-stop (digits-here (c .before .before .before .before .before .args .s .now) (c .before .before .before .before .before .args .at)) (c .before .before .before .before .before .args .point) (c .before .before .before .loop .end) (c .before .digit .result) (ten-here (c .before .before .before .before .before .args .s .now) (c .before .before .before .before .before .args .at)) (omega arith) (c .before .before .before .loop .inv .1) (c .before .digit .ensures) (c .if1 .taken) (c .before .before .before .loop .inv .2))
+    (λ c. let a = c .before .before .before .before .before .args in let l = c .before .before .before .loop in trim-stop (digits-here (a .s .now) (a .at)) (a .point) (l .end) (c .before .digit .result) (ten-here (a .s .now) (a .at)) (omega arith) (l .inv .1) (c .before .digit .ensures) (c .if1 .taken) (l .inv .2))
     (λ c. omega arith)
     (λ c. omega arith)
-    (λ c. (omega arith, omega arith, trim-one (digits-here (c .before .before .before .before .before .args .s .now) (c .before .before .before .before .before .args .at)) (c .before .before .before .before .before .args .point) (c .before .before .before .loop .end) (c .before .digit .result) (ten-here (c .before .before .before .before .before .args .s .now) (c .before .before .before .before .before .args .at)) (omega arith) (c .before .before .before .loop .inv .1) (c .before .digit .ensures) (c .if1 .left) (c .before .before .before .loop .inv .2)))
-    (λ c. trim-none (digits-here (c .before .before .before .args .s .now) (c .before .before .before .args .at)) (c .before .before .before .args .point) (c .before .loop .end) (c .before .loop .inv .0) (omega arith) (c .before .loop .inv .1) (c .before .loop .inv .2)))
+    (λ c. let a = c .before .before .before .before .before .args in let l = c .before .before .before .loop in (omega arith, omega arith, trim-one (digits-here (a .s .now) (a .at)) (a .point) (l .end) (c .before .digit .result) (ten-here (a .s .now) (a .at)) (omega arith) (l .inv .1) (c .before .digit .ensures) (c .if1 .left) (l .inv .2)))
+    (λ c. let a = c .before .before .before .args in trim-none (digits-here (a .s .now) (a .at)) (a .point) (c .before .loop .end) (c .before .loop .inv .0) (omega arith) (c .before .loop .inv .1) (c .before .loop .inv .2)))

@@ -18,6 +18,6 @@ plain-spec =
     (λ c. search needs)
     (λ c. search needs)
     (λ c κs. search needs)
-    (λ c. shaped-plain (c .before .before .before .args .s .now) (c .before .before .before .args .at) (c .before .before .before .args .first) _ 0 _ (c .before .before .before .pre .2) (c .before .before .before .pre .0) (c .before .before .before .pre .1) refl (omega arith) (plain-none (digits-here (c .before .before .before .args .s .now) (c .before .before .before .args .at)) _ (c .if1 .taken)) (c .before .last .ensures))
+    (λ c. let a = c .before .before .before .args in shaped-plain (a .s .now) (a .at) (a .first) _ 0 _ (c .before .before .before .pre .2) (c .before .before .before .pre .0) (c .before .before .before .pre .1) refl (omega arith) (plain-none (digits-here (a .s .now) (a .at)) _ (c .if1 .taken)) (c .before .last .ensures))
     (λ c κs. search needs)
-    (λ c. shaped-plain (c .before .before .before .before .args .s .now) (c .before .before .before .before .args .at) (c .before .before .before .before .args .first) _ (c .skipped .result) _ (c .before .before .before .before .pre .2) (c .before .before .before .before .pre .0) (c .before .before .before .before .pre .1) refl (omega (arith, zeros-most (getD (digits-here (c .before .before .before .before .args .s .now) (c .before .before .before .before .args .at)) 0 48) (c .skipped .result) (c .skipped .ensures))) (plain-some (digits-here (c .before .before .before .before .args .s .now) (c .before .before .before .before .args .at)) (2 * (c .before .before .before .before .args .first - 63)) (c .skipped .result) (ten-here (c .before .before .before .before .args .s .now) (c .before .before .before .before .args .at)) (omega arith) (omega arith) (c .skipped .ensures)) (c .before .before .last .ensures)))
+    (λ c. let a = c .before .before .before .before .args in shaped-plain (a .s .now) (a .at) (a .first) _ (c .skipped .result) _ (c .before .before .before .before .pre .2) (c .before .before .before .before .pre .0) (c .before .before .before .before .pre .1) refl (omega (arith, zeros-most (getD (digits-here (a .s .now) (a .at)) 0 48) (c .skipped .result) (c .skipped .ensures))) (plain-some (digits-here (a .s .now) (a .at)) (2 * (a .first - 63)) (c .skipped .result) (ten-here (a .s .now) (a .at)) (omega arith) (omega arith) (c .skipped .ensures)) (c .before .before .last .ensures)))

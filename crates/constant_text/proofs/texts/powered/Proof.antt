@@ -1,4 +1,3 @@
--- `powered` meets its contract.
 use borrow.Author.Needs.{needs}
 use native.Mathlib.Omega.{arith}
 use mathlib.Core.Path.{refl}
@@ -18,4 +17,4 @@ powered-spec =
     (λ c. search needs)
     (λ c. search needs)
     (λ c. search needs)
-    (λ c. shaped-powered (c .before .before .before .args .s .now) (c .before .before .before .args .at) (c .before .before .before .args .first) (c .before .skipped .result) (c .last .result) _ (c .before .before .before .pre .2) (c .before .before .before .pre .0) (c .before .before .before .pre .1) (omega arith) (c .before .skipped .ensures) refl (c .last .ensures)))
+    (λ c. let a = c .before .before .before .args in shaped-powered (a .s .now) (a .at) (a .first) (c .before .skipped .result) (c .last .result) _ (c .before .before .before .pre .2) (c .before .before .before .pre .0) (c .before .before .before .pre .1) (omega arith) (c .before .skipped .ensures) refl (c .last .ensures)))

@@ -11,7 +11,7 @@ pub write-fraction-spec : {M : Type 1} → statement M
 write-fraction-spec =
     tie.close
     (tie.spec
-    (λ c. wrote-none (digits-here (c .before .before .before .args .s .now) (c .before .before .before .args .at)) (c .before .before .before .args .out .now) (c .before .before .before .args .n) (c .before .before .before .args .x .point) (c .before .before .before .args .x .end) (c .if1 .taken))
+    (λ c. let a = c .before .before .before .args in wrote-none (digits-here (a .s .now) (a .at)) (a .out .now) (a .n) (a .x .point) (a .x .end) (c .if1 .taken))
     (λ c κs. search needs)
     (λ c. search needs)
     (λ c κs. search needs)
@@ -19,4 +19,4 @@ write-fraction-spec =
     (λ c. search needs)
     (λ c. search needs)
     (λ c. search needs)
-    (λ c. wrote-fraction (digits-here (c .before .before .before .before .before .before .before .before .before .before .before .args .s .now) (c .before .before .before .before .before .before .before .before .before .before .before .args .at)) (c .before .before .before .before .before .before .before .before .before .before .before .args .out .now) (c .before .before .before .before .before .before .put .last .0) (c .before .before .write-digits .last .1 .1 .1 .1 .0) (c .before .before .before .before .before .before .before .before .before .before .before .args .n) (c .before .before .before .before .before .before .before .before .before .before .before .args .x .point) (c .before .before .before .before .before .before .before .before .before .before .before .args .x .end) (c .before .before .before .before .before .before .before .before .if1 .left) (omega (arith, (ten-here (c .before .before .before .before .before .before .before .before .before .before .before .args .s .now) (c .before .before .before .before .before .before .before .before .before .before .before .args .at)), c .before .before .before .before .before .before .before .before .before .before .before .pre .0 .ten)) (c .before .before .before .before .before .before .put .ensures) (c .before .before .write-digits .ensures)))
+    (λ c. let a = c .before .before .before .before .before .before .before .before .before .before .before .args in wrote-fraction (digits-here (a .s .now) (a .at)) (a .out .now) (c .before .before .before .before .before .before .put .last .0) (c .before .before .write-digits .last .1 .1 .1 .1 .0) (a .n) (a .x .point) (a .x .end) (c .before .before .before .before .before .before .before .before .if1 .left) (omega (arith, (ten-here (a .s .now) (a .at)), c .before .before .before .before .before .before .before .before .before .before .before .pre .0 .ten)) (c .before .before .before .before .before .before .put .ensures) (c .before .before .write-digits .ensures)))
