@@ -3,7 +3,7 @@ use Prim.Native.Nat.{ℕ, zero, suc, pred, _+_, _*_, _-_, _≤_, _<_}
 use native.Mathlib.Numerals.{add-one}
 use native.Mathlib.Omega.{arith}
 use mathlib.Core.Path.{_≡_, refl, sym, ap, ap₂, _∙_, subst}
-use mathlib.Core.Bool.{Bool, true, false, _&&_}
+use mathlib.Core.Bool.{Bool, true, false, _&&_, and-false}
 use mathlib.Core.List.{List, [], _∷_, _++_}
 use lib.Dec.{T, leb, ltb, eqb, leb→le, eqb→eq, leb·zero}
 use lib.ListN.{length, take, drop, getD, length-take, length-drop, length-append}
@@ -12,13 +12,9 @@ use borrow.Author.Tests.{le-leb, lt-leb, le-ltb, lt-ltb, eq-eqb, ne-eqb, leb-fal
 use Rattle.paper.specs.Bytes.{pick, every, joined}
 use Rattle.paper.specs.Line.{line-number, lawful-number?}
 use Rattle.paper.specs.Store.{lines-from, lines-in, whole-line?, rising-above, rising, sound-lines, room, sound-store, lines-below}
-use Rattle.laws.specs.Tests.{and-left, and-right, as-T, is-true}
+use Rattle.laws.specs.Tests.{and-left, and-right, and-both, as-T, is-true}
 use Rattle.laws.specs.Lines.{lines-next}
 use Rattle.store.specs.Walks.{passes?, passing-size, passed, walked, rising-from, sound-lines-from, sound-from}
-
-and-false : (a : Bool) → (a && false) ≡ false
-and-false true = refl
-and-false false = refl
 
 -- ---- the first line of some bytes
 
@@ -327,11 +323,7 @@ passed-below k n (l ∷ ls) t =
     let low : leb k (line-number l) ≡ true = is-true (leb k (line-number l)) (and-left (leb k (line-number l)) _ b) in
     let e : T (every whole-line? ls) = and-right (whole-line? l) _ a in
     let r : T (rising-from (suc (line-number l)) ls) = subst T (from-above (line-number l) ls) (and-right (leb k (line-number l)) _ b) in
-    rw (w, low, passed-below (suc (line-number l)) n ls (both (every whole-line? ls) (rising-from (suc (line-number l)) ls) e r))
-  where
-    both : (a b : Bool) → T a → T b → T (a && b)
-    both true b s t = t
-    both false b s t = s
+    rw (w, low, passed-below (suc (line-number l)) n ls (and-both (every whole-line? ls) (rising-from (suc (line-number l)) ls) e r))
 
 -- in sound lines the walk goes to the first that is not below the number
 pub walked-sound : (n : ℕ) (s : List ℕ) → T (sound-from 0 s) → walked 0 n s ≡ length (joined (lines-below n (lines-in s)))

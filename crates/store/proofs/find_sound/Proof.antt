@@ -1,4 +1,3 @@
--- `lines::find_sound` meets its contract.
 use mathlib.Core.Path.{sym}
 use lib.Seq.{length-take-le}
 use Rattle.laws.specs.Lines.{used-of}
@@ -7,20 +6,12 @@ use borrow.Author.Needs.{needs}
 use Rattle.store.proofs.find_sound.Statement.{statement}
 use Rattle.store.proofs.find_sound.Tie as tie
 
-slice-aggregate-lines : tie.Need-slice-aggregate-lines
-slice-aggregate-lines c =
-    let args = c .before .before .args in
-    sym (length-take-le (args .used) (args .store .now) (used-of (args .store .now) (args .used) (c .before .before .pre) .lent))
-
-first-not-below-requires : tie.Need-first-not-below-requires
-first-not-below-requires c κs = search needs
-
-place-at-requires : tie.Need-place-at-requires
-place-at-requires c κs = (lines-sound (c .before .before .before .args .store .now) (c .before .before .before .args .used) (c .before .before .before .pre), c .first-not-below .ensures)
-
-returns : tie.Need-returns
-returns c = search needs
-
 pub find-sound-spec : {M : Type 1} → statement M
 find-sound-spec =
-    tie.close (tie.spec slice-aggregate-lines first-not-below-requires place-at-requires returns)
+    tie.close
+    (tie.spec
+    (λ c. let args = c .before .before .args in
+    sym (length-take-le (args .used) (args .store .now) (used-of (args .store .now) (args .used) (c .before .before .pre) .lent)))
+    (λ c κs. search needs)
+    (λ c κs. (lines-sound (c .before .before .before .args .store .now) (c .before .before .before .args .used) (c .before .before .before .pre), c .first-not-below .ensures))
+    (λ c. search needs))

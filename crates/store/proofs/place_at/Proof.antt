@@ -1,4 +1,3 @@
--- `lines::place_at` meets its contract.
 use mathlib.Core.Path.{refl, sym, ap, _∙_}
 use mathlib.Core.List.{List}
 use Prim.Native.Nat.{ℕ}
@@ -11,41 +10,18 @@ use borrow.Author.Needs.{needs}
 use Rattle.store.proofs.place_at.Statement.{statement}
 use Rattle.store.proofs.place_at.Tie as tie
 
-sub-rest : tie.Need-sub-rest
-sub-rest c = omega (arith, c .before .pre .1, walked-within 0 (c .before .args .number) (c .before .args .lines .now))
-
-part-rest-start : tie.Need-part-rest-start
-part-rest-start c = omega (arith, c .before .pre .1, walked-within 0 (c .before .args .number) (c .before .args .lines .now))
-
-part-rest-end : tie.Need-part-rest-end
-part-rest-end c = search needs
-
-number-requires : tie.Need-number-requires
-number-requires c κs = search needs
-
-size-requires : tie.Need-size-requires
-size-requires c κs = search needs
-
-returns : tie.Need-returns
-returns c =
-    let args = c .before .before .before .before .before .args in
-    let rest = past (args .lines .now) (args .at) (args .at) refl in
-    place-same (args .number) (args .lines .now) (args .at) (c .before .before .before .before .before .pre .0) (c .before .before .before .before .before .pre .1) (c .size .result) (sym (ap line-number rest) ∙ sym (c .before .before .number .ensures) ∙ c .before .if1 .taken) (c .size .ensures ∙ ap (λ (s : List ℕ). getD s 2 0) rest)
-
-returns-2 : tie.Need-returns-2
-returns-2 c =
-    let args = c .before .before .before .before .args in
-    let rest = past (args .lines .now) (args .at) (args .at) refl in
-    place-other (args .number) (args .lines .now) (args .at) (c .before .before .before .before .pre .0) (c .before .before .before .before .pre .1) (λ e. c .if1 .left (c .before .number .ensures ∙ ap line-number rest ∙ e))
-
 pub place-at-spec : {M : Type 1} → statement M
 place-at-spec =
     tie.close
     (tie.spec
-    sub-rest
-    part-rest-start
-    part-rest-end
-    number-requires
-    size-requires
-    returns
-    returns-2)
+    (λ c. omega (arith, c .before .pre .1, walked-within 0 (c .before .args .number) (c .before .args .lines .now)))
+    (λ c. omega (arith, c .before .pre .1, walked-within 0 (c .before .args .number) (c .before .args .lines .now)))
+    (λ c. search needs)
+    (λ c κs. search needs)
+    (λ c κs. search needs)
+    (λ c. let args = c .before .before .before .before .before .args in
+    let rest = past (args .lines .now) (args .at) (args .at) refl in
+    place-same (args .number) (args .lines .now) (args .at) (c .before .before .before .before .before .pre .0) (c .before .before .before .before .before .pre .1) (c .size .result) (sym (ap line-number rest) ∙ sym (c .before .before .number .ensures) ∙ c .before .if1 .taken) (c .size .ensures ∙ ap (λ (s : List ℕ). getD s 2 0) rest))
+    (λ c. let args = c .before .before .before .before .args in
+    let rest = past (args .lines .now) (args .at) (args .at) refl in
+    place-other (args .number) (args .lines .now) (args .at) (c .before .before .before .before .pre .0) (c .before .before .before .before .pre .1) (λ e. c .if1 .left (c .before .number .ensures ∙ ap line-number rest ∙ e))))

@@ -1,4 +1,4 @@
--- `lines::gap::move_down` meets its contract. The invariant: the first `i` bytes are moved.
+-- `store::gap::move_down` meets its contract. The invariant: the first `i` bytes are moved.
 use mathlib.Core.Path.{_≡_, ap, _∙_}
 use Prim.Native.Nat.{_-_, _≤_}
 use native.Mathlib.Omega.{arith}
@@ -14,68 +14,32 @@ Inv-loop s₀ at from n i₀ s i = (i ≤ n) × (s ≡ paste s₀ at (drop from 
 abbrev μ-loop : tie.MeasureT-loop
 μ-loop s₀ at from n i₀ s i = n - i
 
-loop-holds : tie.Need-loop-holds Inv-loop μ-loop
-loop-holds c =
-    let args = c .args in
-    (omega arith, paste-zero (args .s .now) (args .at) (drop (args .from) (args .s .now)))
-
-add-s : tie.Need-add-s Inv-loop μ-loop
-add-s c = omega arith
-
-slice-read-s : tie.Need-slice-read-s Inv-loop μ-loop
-slice-read-s c =
-    let turn = c .before .before .loop in
-    let args = c .before .before .before .args in
-    omega (arith, moved-length (turn .s) (args .s .now) (args .at) (args .from) (turn .i) (omega arith) (omega arith) (turn .inv .1))
-
-add-s-2 : tie.Need-add-s-2 Inv-loop μ-loop
-add-s-2 c = omega arith
-
-slice-write-s : tie.Need-slice-write-s Inv-loop μ-loop
-slice-write-s c =
-    let turn = c .before .before .loop in
-    let args = c .before .before .before .args in
-    omega (arith, moved-length (turn .s) (args .s .now) (args .at) (args .from) (turn .i) (omega arith) (omega arith) (turn .inv .1))
-
-add-i : tie.Need-add-i Inv-loop μ-loop
-add-i c = omega arith
-
-loop-less : tie.Need-loop-less Inv-loop μ-loop
-loop-less c = omega arith
-
-loop-again : tie.Need-loop-again Inv-loop μ-loop
-loop-again c =
-    let turn = c .before .before .loop in
-    let args = c .before .before .before .args in
-    let given = c .before .before .before .pre in
-    (omega arith, turn-down (turn .s) (args .s .now) (args .at) (args .from) (turn .i) (given .0) (omega arith) (turn .inv .1))
-
-same-length : tie.Need-same-length Inv-loop μ-loop
-same-length c =
-    let turn = c .before .loop in
-    let args = c .before .before .args in
-    moved-length (turn .s) (args .s .now) (args .at) (args .from) (turn .i) (omega arith) (omega arith) (turn .inv .1)
-
-returns : tie.Need-returns Inv-loop μ-loop
-returns c =
-    let turn = c .before .loop in
-    let args = c .before .before .args in
-    let e : turn .i ≡ args .n = omega arith in
-    turn .inv .1 ∙ ap (paste (args .s .now) (args .at) (drop (args .from) (args .s .now))) e
-
 pub move-down-spec : {M : Type 1} → statement M
 move-down-spec =
     tie.close
     (tie.spec
     Inv-loop
     μ-loop
-    loop-holds
-    add-s
-    slice-read-s
-    add-s-2
-    slice-write-s
-    add-i
-    loop-less
-    loop-again
-    same-length
-    returns)
+    (λ c. let args = c .args in
+    (omega arith, paste-zero (args .s .now) (args .at) (drop (args .from) (args .s .now))))
+    (λ c. omega arith)
+    (λ c. let turn = c .before .before .loop in
+    let args = c .before .before .before .args in
+    omega (arith, moved-length (turn .s) (args .s .now) (args .at) (args .from) (turn .i) (omega arith) (omega arith) (turn .inv .1)))
+    (λ c. omega arith)
+    (λ c. let turn = c .before .before .loop in
+    let args = c .before .before .before .args in
+    omega (arith, moved-length (turn .s) (args .s .now) (args .at) (args .from) (turn .i) (omega arith) (omega arith) (turn .inv .1)))
+    (λ c. omega arith)
+    (λ c. omega arith)
+    (λ c. let turn = c .before .before .loop in
+    let args = c .before .before .before .args in
+    let given = c .before .before .before .pre in
+    (omega arith, turn-down (turn .s) (args .s .now) (args .at) (args .from) (turn .i) (given .0) (omega arith) (turn .inv .1)))
+    (λ c. let turn = c .before .loop in
+    let args = c .before .before .args in
+    moved-length (turn .s) (args .s .now) (args .at) (args .from) (turn .i) (omega arith) (omega arith) (turn .inv .1))
+    (λ c. let turn = c .before .loop in
+    let args = c .before .before .args in
+    let e : turn .i ≡ args .n = omega arith in
+    turn .inv .1 ∙ ap (paste (args .s .now) (args .at) (drop (args .from) (args .s .now))) e))

@@ -1,4 +1,4 @@
--- `lines::gap::move_up` meets its contract. The invariant: all but the first `i` bytes are moved.
+-- `store::gap::move_up` meets its contract. The invariant: all but the first `i` bytes are moved.
 use mathlib.Core.Path.{_≡_}
 use Prim.Native.Nat.{_+_, _-_, _≤_}
 use native.Mathlib.Omega.{arith}
@@ -14,67 +14,31 @@ Inv-loop s₀ at from n i₀ s i = (i ≤ n) × (s ≡ paste s₀ (at + i) (drop
 abbrev μ-loop : tie.MeasureT-loop
 μ-loop s₀ at from n i₀ s i = i
 
-loop-holds : tie.Need-loop-holds Inv-loop μ-loop
-loop-holds c =
-    let args = c .args in
-    (omega arith, up-start (args .s .now) (args .at) (args .from) (args .n))
-
-sub-i : tie.Need-sub-i Inv-loop μ-loop
-sub-i c = omega arith
-
-add-s : tie.Need-add-s Inv-loop μ-loop
-add-s c = omega arith
-
-slice-read-s : tie.Need-slice-read-s Inv-loop μ-loop
-slice-read-s c =
-    let turn = c .before .before .loop in
-    let args = c .before .before .before .args in
-    omega (arith, moved-length (turn .s) (args .s .now) (args .at + turn .i) (args .from + turn .i) (args .n - turn .i) (omega arith) (omega arith) (turn .inv .1))
-
-add-s-2 : tie.Need-add-s-2 Inv-loop μ-loop
-add-s-2 c = omega arith
-
-slice-write-s : tie.Need-slice-write-s Inv-loop μ-loop
-slice-write-s c =
-    let turn = c .before .before .loop in
-    let args = c .before .before .before .args in
-    omega (arith, moved-length (turn .s) (args .s .now) (args .at + turn .i) (args .from + turn .i) (args .n - turn .i) (omega arith) (omega arith) (turn .inv .1))
-
-loop-less : tie.Need-loop-less Inv-loop μ-loop
-loop-less c = omega arith
-
-loop-again : tie.Need-loop-again Inv-loop μ-loop
-loop-again c =
-    let turn = c .before .before .loop in
-    let args = c .before .before .before .args in
-    let given = c .before .before .before .pre in
-    (omega arith, turn-up (turn .s) (args .s .now) (args .at) (args .from) (args .n) (turn .i) (given .0) (given .1) (omega arith) (turn .inv .0) (turn .inv .1))
-
-same-length : tie.Need-same-length Inv-loop μ-loop
-same-length c =
-    let turn = c .before .loop in
-    let args = c .before .before .args in
-    moved-length (turn .s) (args .s .now) (args .at + turn .i) (args .from + turn .i) (args .n - turn .i) (omega arith) (omega arith) (turn .inv .1)
-
-returns : tie.Need-returns Inv-loop μ-loop
-returns c =
-    let turn = c .before .loop in
-    let args = c .before .before .args in
-    up-end (turn .s) (args .s .now) (args .at) (args .from) (args .n) (turn .i) (omega arith) (turn .inv .1)
-
 pub move-up-spec : {M : Type 1} → statement M
 move-up-spec =
     tie.close
     (tie.spec
     Inv-loop
     μ-loop
-    loop-holds
-    sub-i
-    add-s
-    slice-read-s
-    add-s-2
-    slice-write-s
-    loop-less
-    loop-again
-    same-length
-    returns)
+    (λ c. let args = c .args in
+    (omega arith, up-start (args .s .now) (args .at) (args .from) (args .n)))
+    (λ c. omega arith)
+    (λ c. omega arith)
+    (λ c. let turn = c .before .before .loop in
+    let args = c .before .before .before .args in
+    omega (arith, moved-length (turn .s) (args .s .now) (args .at + turn .i) (args .from + turn .i) (args .n - turn .i) (omega arith) (omega arith) (turn .inv .1)))
+    (λ c. omega arith)
+    (λ c. let turn = c .before .before .loop in
+    let args = c .before .before .before .args in
+    omega (arith, moved-length (turn .s) (args .s .now) (args .at + turn .i) (args .from + turn .i) (args .n - turn .i) (omega arith) (omega arith) (turn .inv .1)))
+    (λ c. omega arith)
+    (λ c. let turn = c .before .before .loop in
+    let args = c .before .before .before .args in
+    let given = c .before .before .before .pre in
+    (omega arith, turn-up (turn .s) (args .s .now) (args .at) (args .from) (args .n) (turn .i) (given .0) (given .1) (omega arith) (turn .inv .0) (turn .inv .1)))
+    (λ c. let turn = c .before .loop in
+    let args = c .before .before .args in
+    moved-length (turn .s) (args .s .now) (args .at + turn .i) (args .from + turn .i) (args .n - turn .i) (omega arith) (omega arith) (turn .inv .1))
+    (λ c. let turn = c .before .loop in
+    let args = c .before .before .args in
+    up-end (turn .s) (args .s .now) (args .at) (args .from) (args .n) (turn .i) (omega arith) (turn .inv .1)))
