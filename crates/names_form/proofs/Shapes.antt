@@ -2,7 +2,7 @@
 use Prim.Native.Nat.{ℕ, zero, suc, _+_, _≤_, _<_}
 use native.Mathlib.Omega.{arith}
 use mathlib.Core.Path.{_≡_, refl, sym, ap, _∙_}
-use mathlib.Core.Bool.{Bool, true, false, _&&_, _||_}
+use mathlib.Core.Bool.{Bool, true, false, _&&_, _||_, and-false, or-true}
 use mathlib.Core.List.{List, [], _∷_, _++_}
 use lib.Dec.{leb, ltb, eqb}
 use lib.ListN.{length, take, drop, getD, set, length-append}
@@ -64,11 +64,7 @@ no-run front last {e} h k =
     let inside : run letter-or-digit? front < length front = omega arith in
     let end : name-end? (drop (run letter-or-digit? (front ++ last ∷ [])) (front ++ last ∷ [])) ≡ false =
     ap (λ (j : ℕ). name-end? (drop j (front ++ last ∷ []))) (run-inside letter-or-digit? front (last ∷ []) inside) ∙ long-end (run letter-or-digit? front) front last inside in
-    sym (rw (end) (either (letter? (getD (front ++ last ∷ []) 0 0))))
-  where
-    either : (t : Bool) → t && false ≡ false
-    either true = refl
-    either false = refl
+    sym (rw (end) (and-false (letter? (getD (front ++ last ∷ []) 0 0))))
 
 pub full-run : (front : List ℕ) (last : ℕ) {b e : ℕ} {r : Bool} → b ≡ getD (front ++ last ∷ []) 0 0 → r ≡ letter? b → r ≡ true
     → e ≡ run letter-or-digit? front → length front ≤ e → letter-or-digit? last || (eqb last 36 || eqb last 40) ≡ name? (front ++ last ∷ [])
@@ -147,11 +143,7 @@ first-front [] last h = absurd (h refl)
 first-front (x ∷ xs) last h = refl
 
 pub ends-dollar : (b : ℕ) → b ≡ 36 → true ≡ letter-or-digit? b || (eqb b 36 || eqb b 40)
-ends-dollar b h = rw (eq-eqb b 36 h) (sym (either (letter-or-digit? b)))
-  where
-    either : (t : Bool) → t || true ≡ true
-    either true = refl
-    either false = refl
+ends-dollar b h = rw (eq-eqb b 36 h) (sym (or-true (letter-or-digit? b)))
 
 pub ends-open : (b : ℕ) → b ≡ 40 → true ≡ letter-or-digit? b || (eqb b 36 || eqb b 40)
 ends-open b h = rw (eq-eqb b 40 h) (sym (either (letter-or-digit? b) (eqb b 36)))

@@ -6,21 +6,12 @@ use mathlib.Core.Path.{_∙_, ap, sym}
 use Rattle.names_form.proofs.shape.ends_name.Statement.{statement}
 use Rattle.names_form.proofs.shape.ends_name.Tie as tie
 
-is-letter-or-digit-requires : tie.Need-is-letter-or-digit-requires
-is-letter-or-digit-requires c κs = search needs
-
-returns : tie.Need-returns
-returns c = let start = c .before .before in ap (λ (t : Bool). t || (eqb (start .args .b) 36 || eqb (start .args .b) 40)) (sym (c .if1 .taken) ∙ c .before .is-letter-or-digit .ensures)
-
-returns-2 : tie.Need-returns-2
-returns-2 c = ends-dollar _ (c .match .keys1)
-
-returns-3 : tie.Need-returns-3
-returns-3 c = ends-open _ (c .match .keys2)
-
-returns-4 : tie.Need-returns-4
-returns-4 c = ends-none _ (sym (c .before .before .is-letter-or-digit .ensures) ∙ c .before .if1 .left) (c .match .rest .0 .1) (c .match .rest .1)
-
 pub ends-name-spec : {M : Type 1} → statement M
 ends-name-spec =
-    tie.close (tie.spec is-letter-or-digit-requires returns returns-2 returns-3 returns-4)
+    tie.close
+    (tie.spec
+    (λ c κs. search needs)
+    (λ c. let start = c .before .before in ap (λ (t : Bool). t || (eqb (start .args .b) 36 || eqb (start .args .b) 40)) (sym (c .if1 .taken) ∙ c .before .is-letter-or-digit .ensures))
+    (λ c. ends-dollar _ (c .match .keys1))
+    (λ c. ends-open _ (c .match .keys2))
+    (λ c. ends-none _ (sym (c .before .before .is-letter-or-digit .ensures) ∙ c .before .if1 .left) (c .match .rest .0 .1) (c .match .rest .1)))

@@ -7,35 +7,14 @@ use native.Mathlib.Omega.{arith}
 use Rattle.names_form.proofs.shape.is_reserved.Statement.{statement}
 use Rattle.names_form.proofs.shape.is_reserved.Tie as tie
 
-slice-aggregate-write-bare : tie.Need-slice-aggregate-write-bare
-slice-aggregate-write-bare c = search needs
-
-write-bare-requires : tie.Need-write-bare-requires
-write-bare-requires c κs = search needs
-
-returns : tie.Need-returns
-returns c = long-reserved _ (omega (arith, c .before .before .write-bare .ensures .size))
-
-array-share-prefix-word : tie.Need-array-share-prefix-word
-array-share-prefix-word c = search needs
-
-slice-aggregate-reserves : tie.Need-slice-aggregate-reserves
-slice-aggregate-reserves c = sym (length-take-le (c .before .before .before .write-bare .result) (c .before .before .before .write-bare .last .1 .1 .0) (omega (arith, c .before .before .before .write-bare .kept .1 .1 .0)))
-
-reserves-requires : tie.Need-reserves-requires
-reserves-requires c κs = search needs
-
-returns-2 : tie.Need-returns-2
-returns-2 c = c .reserves .ensures ∙ ap reserved? (c .before .before .before .before .write-bare .ensures .bytes (omega (arith, c .before .before .before .before .write-bare .kept .1 .1 .0)))
-
 pub is-reserved-spec : {M : Type 1} → statement M
 is-reserved-spec =
     tie.close
     (tie.spec
-    slice-aggregate-write-bare
-    write-bare-requires
-    returns
-    array-share-prefix-word
-    slice-aggregate-reserves
-    reserves-requires
-    returns-2)
+    (λ c. search needs)
+    (λ c κs. search needs)
+    (λ c. long-reserved _ (omega (arith, c .before .before .write-bare .ensures .size)))
+    (λ c. search needs)
+    (λ c. sym (length-take-le (c .before .before .before .write-bare .result) (c .before .before .before .write-bare .last .1 .1 .0) (omega (arith, c .before .before .before .write-bare .kept .1 .1 .0))))
+    (λ c κs. search needs)
+    (λ c. c .reserves .ensures ∙ ap reserved? (c .before .before .before .before .write-bare .ensures .bytes (omega (arith, c .before .before .before .before .write-bare .kept .1 .1 .0)))))
