@@ -2,7 +2,7 @@
 use Prim.Native.Nat.{ℕ, zero, suc, _+_, _-_, _*_, _≤_, _<_}
 use native.Mathlib.Omega.{arith}
 use mathlib.Core.Path.{_≡_, refl, subst, sym, ap, _∙_}
-use mathlib.Core.Bool.{Bool, true, false, not, _&&_, _||_}
+use mathlib.Core.Bool.{Bool, true, false, not, _&&_, _||_, and-true, and-false}
 use mathlib.Core.List.{List, [], _∷_, _++_}
 use lib.Dec.{leb, ltb, eqb, eqb·zero-suc, eqb·suc-zero, eqb·suc-suc}
 use lib.ListN.{length, take, drop, getD, set}
@@ -16,10 +16,6 @@ use Rattle.names_form.specs.Places.{name-bounds, name-parts, name-here, none-le
 use Rattle.names_sound.specs.Lawful.{lawful, sound-after}
 use Rattle.names_sound.specs.Marks.{places, place-of, Marks}
 use Rattle.names_sound.proofs.Marking.{marks-more}
-
-nay : (b : Bool) → b && false ≡ false
-nay true = refl
-nay false = refl
 
 -- ---- the last byte
 
@@ -97,7 +93,7 @@ module _ {t : List ℕ} {count : ℕ} {marks : List ℕ} {at left : ℕ} (p : Pa
     unfolding sound-after
     one-unlawful {r} l n =
         let bad : lawful (take (end - 1 - at) (drop at t) ++ b ∷ []) (names-in (take at t)) ≡ false = sym l ∙ n in
-        sym (p .rest ∙ ap (λ (ns : List (List ℕ)). sound-after (names-in (take at t)) ns left) here ∙ rw (bad) (nay (ltb 0 left)))
+        sym (p .rest ∙ ap (λ (ns : List (List ℕ)). sound-after (names-in (take at t)) ns left) here ∙ rw (bad) (and-false (ltb 0 left)))
 
     pub one-passed : {r : Bool} {place : ℕ} → (left ≡ 0 → ⊥) → place ≡ place-of (take (end - 1 - at) (drop at t) ++ b ∷ [])
         → r ≡ lawful (take (end - 1 - at) (drop at t) ++ b ∷ []) (names-in (take at t)) → r ≡ true → Passed t count (set marks place 1) end (left - 1)
@@ -183,13 +179,13 @@ apart-snoc ms m (n ∷ ns) =
   where
     swapped : (a b c d : Bool) → not (a || b) && (c && not d) ≡ (not a && c) && not (b || d)
     swapped true b c d = refl
-    swapped false true c d = sym (nay c)
+    swapped false true c d = sym (and-false c)
     swapped false false c d = refl
 
 shuffled : (n r k e a p q d s : Bool) → (n && (r && k)) && (e && (a && (((p && q) && d) && s))) ≡ e && ((n && a) && (((k && p) && (q && d)) && (r && s)))
-shuffled false r k e a p q d s = sym (nay e)
-shuffled true false k e a p q d s = sym (rw (nay ((k && p) && (q && d)), nay a, nay e))
-shuffled true true false e a p q d s = sym (rw (nay a, nay e))
+shuffled false r k e a p q d s = sym (and-false e)
+shuffled true false k e a p q d s = sym (rw (and-false ((k && p) && (q && d)), and-false a, and-false e))
+shuffled true true false e a p q d s = sym (rw (and-false a, and-false e))
 shuffled true true true e a true q d s = refl
 shuffled true true true e a false q d s = refl
 
@@ -231,10 +227,10 @@ module _ (table : List ℕ) (size count room : ℕ) where
       let ns = names-in (take size table) in
       let none : eqb (length ns) count && (leb (length ns) 128 && (every name? ns && (all-different ns && every no-word? ns))) ≡ false =
       beyond (length ns) count (every name? ns && (all-different ns && every no-word? ns)) h in
-      sym (rw (none, nay (same (name-bytes ns) (take size table)), nay (leb size (length table))))
+      sym (rw (none, and-false (same (name-bytes ns) (take size table)), and-false (leb size (length table))))
 
   pub no-room : room < 8 * count → false ≡ sound-table table size count && leb (8 * count) room
-  no-room h = sym (rw (lt-leb (8 * count) room h) (nay (sound-table table size count)))
+  no-room h = sym (rw (lt-leb (8 * count) room h) (and-false (sound-table table size count)))
 
   whole : size ≤ length table → count ≤ 128 → sound-table table size count ≡ closed? (take size table) && sound-after [] (names-in (take size table)) count
   unfolding sound-table sound-names no-word?
@@ -249,8 +245,4 @@ module _ (table : List ℕ) (size count room : ℕ) where
       → s ≡ sound-table table size count && leb (8 * count) room
   all-sound {r} {s} h k l e f g =
       let z : closed? (take size table) ≡ true = sym e ∙ f in
-      g ∙ sym (rw (whole h k, z, le-leb (8 * count) room l) (aye (sound-after [] (names-in (take size table)) count)))
-    where
-      aye : (b : Bool) → b && true ≡ b
-      aye true = refl
-      aye false = refl
+      g ∙ sym (rw (whole h k, z, le-leb (8 * count) room l) (and-true (sound-after [] (names-in (take size table)) count)))

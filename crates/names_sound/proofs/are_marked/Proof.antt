@@ -18,93 +18,30 @@ Inv-loop bytes count marks₀ at₀ left₀ marks at left = Passed bytes count m
 abbrev μ-loop : tie.MeasureT-loop
 μ-loop bytes count marks₀ at₀ left₀ marks at left = length bytes - at
 
-loop-holds : tie.Need-loop-holds Inv-loop μ-loop
-loop-holds c = none-passed _ _ _ (c .before .before .pre .0) (c .before .before .pre .1)
-
-same-length : tie.Need-same-length Inv-loop μ-loop
-same-length c = c .before .before .loop .inv .marked .whole ∙ sym (c .before .before .before .before .before .pre .1)
-
-returns : tie.Need-returns Inv-loop μ-loop
-returns c = none-wanted (c .before .before .loop .inv) (c .before .loop-test .taken) (c .if1 .taken)
-
-name-end-requires : tie.Need-name-end-requires Inv-loop μ-loop
-name-end-requires c κs = search needs
-
-sub-last-at : tie.Need-sub-last-at Inv-loop μ-loop
-sub-last-at c = omega (arith, name-bounds _ _ _ (c .before .before .loop-test .taken) (c .name-end .ensures))
-
-sub-front : tie.Need-sub-front Inv-loop μ-loop
-sub-front c = omega (arith, name-bounds _ _ _ (c .before .before .loop-test .taken) (c .name-end .ensures))
-
-part-front-start : tie.Need-part-front-start Inv-loop μ-loop
-part-front-start c = omega (arith, name-bounds _ _ _ (c .before .before .loop-test .taken) (c .name-end .ensures))
-
-part-front-end : tie.Need-part-front-end Inv-loop μ-loop
-part-front-end c = omega (arith, name-bounds _ _ _ (c .before .before .loop-test .taken) (c .name-end .ensures))
-
-shared-slice-read-clear : tie.Need-shared-slice-read-clear Inv-loop μ-loop
-shared-slice-read-clear c = omega (arith, name-bounds _ _ _ (c .before .before .before .before .loop-test .taken) (c .before .before .name-end .ensures))
-
-clear-requires : tie.Need-clear-requires Inv-loop μ-loop
-clear-requires c κs = search needs
-
-place-requires : tie.Need-place-requires Inv-loop μ-loop
-place-requires c κs = search needs
-
-slice-aggregate-is-lawful : tie.Need-slice-aggregate-is-lawful Inv-loop μ-loop
-slice-aggregate-is-lawful c = sym (length-take-le _ _ (c .before .before .before .before .before .before .before .before .loop .inv .within))
-
-is-lawful-requires : tie.Need-is-lawful-requires Inv-loop μ-loop
-is-lawful-requires c κs = (c .before .before .before .before .before .before .before .before .before .loop .inv .marked, c .before .before .place .ensures)
-
-same-length-2 : tie.Need-same-length-2 Inv-loop μ-loop
-same-length-2 c = c .before .before .before .before .before .before .before .before .before .before .before .loop .inv .marked .whole ∙ sym (c .before .before .before .before .before .before .before .before .before .before .before .before .before .before .pre .1)
-
-returns-2 : tie.Need-returns-2 Inv-loop μ-loop
-returns-2 c = one-unlawful (c .before .before .before .before .before .before .before .before .before .before .before .loop .inv) (c .before .before .before .before .before .before .before .before .before .before .loop-test .taken) (c .before .before .before .before .before .before .before .before .name-end .ensures) (c .before .before .before .before .before .clear .ensures) (c .before .is-lawful .ensures) (not-true _ (c .if2 .taken))
-
-slice-write-marks : tie.Need-slice-write-marks Inv-loop μ-loop
-slice-write-marks c = place-inside _ (c .before .before .before .before .before .before .before .before .before .before .before .loop .inv .marked) (c .before .before .before .before .place .ensures)
-
-sub-left : tie.Need-sub-left Inv-loop μ-loop
-sub-left c = search needs
-
-loop-less : tie.Need-loop-less Inv-loop μ-loop
-loop-less c = omega (arith, name-bounds _ _ _ (c .before .before .before .before .before .before .before .before .before .before .loop-test .taken) (c .before .before .before .before .before .before .before .before .name-end .ensures))
-
-loop-again : tie.Need-loop-again Inv-loop μ-loop
-loop-again c = one-passed (c .before .before .before .before .before .before .before .before .before .before .before .loop .inv) (c .before .before .before .before .before .before .before .before .before .before .loop-test .taken) (c .before .before .before .before .before .before .before .before .name-end .ensures) (c .before .before .before .before .before .clear .ensures) (c .before .before .before .before .before .before .before .before .before .if1 .left) (c .before .before .before .before .place .ensures) (c .before .is-lawful .ensures) (not-false _ (c .if2 .left))
-
-same-length-3 : tie.Need-same-length-3 Inv-loop μ-loop
-same-length-3 c = c .before .loop .inv .marked .whole ∙ sym (c .before .before .before .before .pre .1)
-
-returns-3 : tie.Need-returns-3 Inv-loop μ-loop
-returns-3 c = all-wanted (c .before .loop .inv) (c .loop-test .left)
-
 pub are-marked-spec : {M : Type 1} → statement M
 are-marked-spec =
     tie.close
     (tie.spec
     Inv-loop
     μ-loop
-    loop-holds
-    same-length
-    returns
-    name-end-requires
-    sub-last-at
-    sub-front
-    part-front-start
-    part-front-end
-    shared-slice-read-clear
-    clear-requires
-    place-requires
-    slice-aggregate-is-lawful
-    is-lawful-requires
-    same-length-2
-    returns-2
-    slice-write-marks
-    sub-left
-    loop-less
-    loop-again
-    same-length-3
-    returns-3)
+    (λ c. none-passed _ _ _ (c .before .before .pre .0) (c .before .before .pre .1))
+    (λ c. c .before .before .loop .inv .marked .whole ∙ sym (c .before .before .before .before .before .pre .1))
+    (λ c. none-wanted (c .before .before .loop .inv) (c .before .loop-test .taken) (c .if1 .taken))
+    (λ c κs. search needs)
+    (λ c. omega (arith, name-bounds _ _ _ (c .before .before .loop-test .taken) (c .name-end .ensures)))
+    (λ c. omega (arith, name-bounds _ _ _ (c .before .before .loop-test .taken) (c .name-end .ensures)))
+    (λ c. omega (arith, name-bounds _ _ _ (c .before .before .loop-test .taken) (c .name-end .ensures)))
+    (λ c. omega (arith, name-bounds _ _ _ (c .before .before .loop-test .taken) (c .name-end .ensures)))
+    (λ c. omega (arith, name-bounds _ _ _ (c .before .before .before .before .loop-test .taken) (c .before .before .name-end .ensures)))
+    (λ c κs. search needs)
+    (λ c κs. search needs)
+    (λ c. sym (length-take-le _ _ (c .before .before .before .before .before .before .before .before .loop .inv .within)))
+    (λ c κs. (c .before .before .before .before .before .before .before .before .before .loop .inv .marked, c .before .before .place .ensures))
+    (λ c. c .before .before .before .before .before .before .before .before .before .before .before .loop .inv .marked .whole ∙ sym (c .before .before .before .before .before .before .before .before .before .before .before .before .before .before .pre .1))
+    (λ c. one-unlawful (c .before .before .before .before .before .before .before .before .before .before .before .loop .inv) (c .before .before .before .before .before .before .before .before .before .before .loop-test .taken) (c .before .before .before .before .before .before .before .before .name-end .ensures) (c .before .before .before .before .before .clear .ensures) (c .before .is-lawful .ensures) (not-true _ (c .if2 .taken)))
+    (λ c. place-inside _ (c .before .before .before .before .before .before .before .before .before .before .before .loop .inv .marked) (c .before .before .before .before .place .ensures))
+    (λ c. search needs)
+    (λ c. omega (arith, name-bounds _ _ _ (c .before .before .before .before .before .before .before .before .before .before .loop-test .taken) (c .before .before .before .before .before .before .before .before .name-end .ensures)))
+    (λ c. one-passed (c .before .before .before .before .before .before .before .before .before .before .before .loop .inv) (c .before .before .before .before .before .before .before .before .before .before .loop-test .taken) (c .before .before .before .before .before .before .before .before .name-end .ensures) (c .before .before .before .before .before .clear .ensures) (c .before .before .before .before .before .before .before .before .before .if1 .left) (c .before .before .before .before .place .ensures) (c .before .is-lawful .ensures) (not-false _ (c .if2 .left)))
+    (λ c. c .before .loop .inv .marked .whole ∙ sym (c .before .before .before .before .pre .1))
+    (λ c. all-wanted (c .before .loop .inv) (c .loop-test .left)))

@@ -16,42 +16,18 @@ Inv-loop front last at₀ i₀ at i = (at < places) × (place-of (front ++ last 
 abbrev μ-loop : tie.MeasureT-loop
 μ-loop front last at₀ i₀ at i = length front - i
 
-loop-holds : tie.Need-loop-holds Inv-loop μ-loop
-unfolding place-of
-loop-holds c = (omega arith, refl)
-
-shared-slice-read-mix : tie.Need-shared-slice-read-mix Inv-loop μ-loop
-shared-slice-read-mix c = search needs
-
-mix-requires : tie.Need-mix-requires Inv-loop μ-loop
-mix-requires c κs = search needs
-
-add-i : tie.Need-add-i Inv-loop μ-loop
-add-i c = search needs
-
-loop-less : tie.Need-loop-less Inv-loop μ-loop
-loop-less c = search needs
-
-loop-again : tie.Need-loop-again Inv-loop μ-loop
-loop-again c = (omega (arith, c .mix .ensures), place-more _ _ _ _ (c .before .before .before .loop .inv .1) (c .before .before .loop-test .taken) (c .mix .ensures))
-
-mix-requires-2 : tie.Need-mix-requires-2 Inv-loop μ-loop
-mix-requires-2 c κs = search needs
-
-returns : tie.Need-returns Inv-loop μ-loop
-returns c = place-last _ _ _ _ (c .before .before .loop .inv .1) (c .before .loop-test .left) (c .mix2 .ensures)
-
 pub place-spec : {M : Type 1} → statement M
+unfolding place-of
 place-spec =
     tie.close
     (tie.spec
     Inv-loop
     μ-loop
-    loop-holds
-    shared-slice-read-mix
-    mix-requires
-    add-i
-    loop-less
-    loop-again
-    mix-requires-2
-    returns)
+    (λ c. (omega arith, refl))
+    (λ c. search needs)
+    (λ c κs. search needs)
+    (λ c. search needs)
+    (λ c. search needs)
+    (λ c. (omega (arith, c .mix .ensures), place-more _ _ _ _ (c .before .before .before .loop .inv .1) (c .before .before .loop-test .taken) (c .mix .ensures)))
+    (λ c κs. search needs)
+    (λ c. place-last _ _ _ _ (c .before .before .loop .inv .1) (c .before .loop-test .left) (c .mix2 .ensures)))
