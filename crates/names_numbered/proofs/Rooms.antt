@@ -2,7 +2,7 @@
 use Prim.Native.Nat.{ℕ, _+_, _*_, _≤_, _<_}
 use native.Mathlib.Omega.{arith}
 use mathlib.Core.Path.{_≡_, refl, sym}
-use mathlib.Core.Bool.{Bool, true, false, _||_}
+use mathlib.Core.Bool.{Bool, true, false, _||_, or-true}
 use mathlib.Core.List.{List, [], _∷_}
 use lib.Dec.{ltb}
 use lib.ListN.{length}
@@ -11,10 +11,6 @@ use Rattle.paper.specs.Names.{names-in, name-bytes}
 use Rattle.laws.specs.Names.{names-some}
 use Rattle.names_numbered.specs.Answers.{lacks}
 use Rattle.names_numbered.specs.Uses.{length-bytes}
-
-aye : (b : Bool) → b || true ≡ true
-aye true = refl
-aye false = refl
 
 module _ (name-room size value-room count : ℕ) (fresh : List ℕ) where
   some : (length fresh ≡ 0 → ⊥) → ltb 0 (length (names-in fresh)) ≡ true
@@ -40,7 +36,7 @@ module _ (name-room size value-room count : ℕ) (fresh : List ℕ) where
   unfolding lacks
   lacks-names h k =
       let less : ltb name-room (size + length (name-bytes (names-in fresh))) ≡ true = lt-ltb name-room (size + length (name-bytes (names-in fresh))) (omega (arith, length-bytes fresh)) in
-      sym (rw (some h, less) (aye (ltb 128 (count + length (names-in fresh)))))
+      sym (rw (some h, less) (or-true (ltb 128 (count + length (names-in fresh)))))
 
   pub lacks-values : (length fresh ≡ 0 → ⊥) → count + length (names-in fresh) ≤ 128 → size + length fresh ≤ name-room
       → ltb value-room (8 * (count + length (names-in fresh))) ≡ lacks name-room size value-room count (names-in fresh)

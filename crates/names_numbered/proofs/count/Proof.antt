@@ -16,25 +16,15 @@ Inv-loop bytes at₀ number₀ at number = (at ≤ length bytes) × (number ≤ 
 abbrev μ-loop : tie.MeasureT-loop
 μ-loop bytes at₀ number₀ at number = length bytes - at
 
-loop-holds : tie.Need-loop-holds Inv-loop μ-loop
-loop-holds c = omega arith
-
-name-end-requires : tie.Need-name-end-requires Inv-loop μ-loop
-name-end-requires c κs = search needs
-
-add-number : tie.Need-add-number Inv-loop μ-loop
-add-number c = search needs
-
-loop-less : tie.Need-loop-less Inv-loop μ-loop
-loop-less c = omega (arith, name-bounds _ _ _ (c .before .loop-test .taken) (c .name-end .ensures))
-
-loop-again : tie.Need-loop-again Inv-loop μ-loop
-loop-again c = (omega (arith, name-bounds _ _ _ (c .before .loop-test .taken) (c .name-end .ensures)), omega (arith, name-bounds _ _ _ (c .before .loop-test .taken) (c .name-end .ensures)), count-more _ _ _ _ (c .before .loop-test .taken) (c .name-end .ensures) (c .before .before .loop .inv .2))
-
-returns : tie.Need-returns Inv-loop μ-loop
-returns c = count-end _ _ _ (c .loop-test .left) (c .before .loop .inv .2)
-
 pub count-spec : {M : Type 1} → statement M
 count-spec =
     tie.close
-    (tie.spec Inv-loop μ-loop loop-holds name-end-requires add-number loop-less loop-again returns)
+    (tie.spec
+    Inv-loop
+    μ-loop
+    (λ c. omega arith)
+    (λ c κs. search needs)
+    (λ c. search needs)
+    (λ c. omega (arith, name-bounds _ _ _ (c .before .loop-test .taken) (c .name-end .ensures)))
+    (λ c. (omega (arith, name-bounds _ _ _ (c .before .loop-test .taken) (c .name-end .ensures)), omega (arith, name-bounds _ _ _ (c .before .loop-test .taken) (c .name-end .ensures)), count-more _ _ _ _ (c .before .loop-test .taken) (c .name-end .ensures) (c .before .before .loop .inv .2)))
+    (λ c. count-end _ _ _ (c .loop-test .left) (c .before .loop .inv .2)))

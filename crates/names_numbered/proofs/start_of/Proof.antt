@@ -17,37 +17,16 @@ Inv-loop names number at₀ left₀ at left = (at ≤ length names) × (length (
 abbrev μ-loop : tie.MeasureT-loop
 μ-loop names number at₀ left₀ at left = length names - at
 
-loop-holds : tie.Need-loop-holds Inv-loop μ-loop
-loop-holds c = omega arith
-
-returns : tie.Need-returns Inv-loop μ-loop
-returns c = start-here _ _ _ (c .if1 .taken) (c .before .before .loop .inv .1)
-
-name-end-requires : tie.Need-name-end-requires Inv-loop μ-loop
-name-end-requires c κs = search needs
-
-sub-left : tie.Need-sub-left Inv-loop μ-loop
-sub-left c = search needs
-
-loop-less : tie.Need-loop-less Inv-loop μ-loop
-loop-less c = omega (arith, name-bounds _ _ _ (c .before .before .loop-test .taken) (c .name-end .ensures))
-
-loop-again : tie.Need-loop-again Inv-loop μ-loop
-loop-again c = (omega (arith, name-bounds _ _ _ (c .before .before .loop-test .taken) (c .name-end .ensures)), start-more _ _ _ _ (c .before .before .loop-test .taken) (c .name-end .ensures) (c .before .if1 .left) (c .before .before .before .loop .inv .1))
-
-returns-2 : tie.Need-returns-2 Inv-loop μ-loop
-returns-2 c = start-end (c .before .before .before .args .names .now) _ (c .before .loop .left) (c .loop-test .left) (c .before .loop .inv .1)
-
 pub start-of-spec : {M : Type 1} → statement M
 start-of-spec =
     tie.close
     (tie.spec
     Inv-loop
     μ-loop
-    loop-holds
-    returns
-    name-end-requires
-    sub-left
-    loop-less
-    loop-again
-    returns-2)
+    (λ c. omega arith)
+    (λ c. start-here _ _ _ (c .if1 .taken) (c .before .before .loop .inv .1))
+    (λ c κs. search needs)
+    (λ c. search needs)
+    (λ c. omega (arith, name-bounds _ _ _ (c .before .before .loop-test .taken) (c .name-end .ensures)))
+    (λ c. (omega (arith, name-bounds _ _ _ (c .before .before .loop-test .taken) (c .name-end .ensures)), start-more _ _ _ _ (c .before .before .loop-test .taken) (c .name-end .ensures) (c .before .if1 .left) (c .before .before .before .loop .inv .1)))
+    (λ c. start-end (c .before .before .before .args .names .now) _ (c .before .loop .left) (c .loop-test .left) (c .before .loop .inv .1)))
