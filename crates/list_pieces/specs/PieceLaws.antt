@@ -16,6 +16,7 @@ use Rattle.paper.specs.Items.{raw-byte?}
 use Rattle.paper.specs.Line.{own-bytes, begins?, variable-bytes, raw-statement?}
 use Rattle.paper.specs.WellFormed.{right-token?}
 use Rattle.laws.specs.Tests.{and-left, and-right, and-both, as-T}
+use Rattle.buffers.specs.Runs.{run-within}
 use Rattle.list_pieces.specs.declared.Piece.{Piece}
 use Rattle.list_pieces.specs.declared.Piece.the-variants.{Word, Text, Target, Variable, Constant, Quoted, Operator}
 use Rattle.list_pieces.specs.Pieces.{piece-at, size-of, end-after, Holds}
@@ -57,15 +58,6 @@ piece-is p end s =
     (within-is p end s (leb 0x80 (getD s 0 0)) (eqb (getD s 0 0) 0x0e) (eqb (getD s 0 0) 0x0f) refl refl refl)
 
 -- ---- runs
-
-run-within-go : (x : Bool) (r l : ℕ) → r ≤ l → pick x (suc r) 0 ≤ suc l
-run-within-go true r l h = omega arith
-run-within-go false r l h = omega arith
-
-pub run-within : (q : ℕ → Bool) (s : List ℕ) → run q s ≤ length s
-unfolding run
-run-within q [] = omega arith
-run-within q (x ∷ s) = run-within-go (q x) (run q s) (length s) (run-within q s)
 
 run-ends-go : (q : ℕ → Bool) (x : ℕ) (s : List ℕ) (b : Bool) → q x ≡ b → (run q s < length s → q (getD s (run q s) 0) ≡ false) → pick b (suc (run q s)) 0 < suc (length s) → q (getD (x ∷ s) (pick b (suc (run q s)) 0) 0) ≡ false
 run-ends-go q x s true e ih h = ih (omega arith)

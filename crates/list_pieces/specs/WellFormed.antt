@@ -6,7 +6,6 @@ use mathlib.Core.Bool.{Bool, true, false}
 use mathlib.Core.List.{List, [], _∷_, _++_}
 use lib.Dec.{T, eqb}
 use lib.ListN.{length, take, drop, getD, length-drop}
-use borrow.Author.Tests.{eq-eqb, eqb-true}
 use Rattle.paper.specs.Bytes.{pick, same, every}
 use Rattle.paper.specs.Tokens.{Token, statement, assigned, operator, variable, constant, string, raw, class, as-read, read-as}
 use Rattle.paper.specs.Items.{Item, item}
@@ -14,7 +13,8 @@ use Rattle.paper.specs.Machine.{Step, took, over, refused, step-act, step, Take
 use Rattle.paper.specs.Grammar.{Gives, given, look, look-item, start}
 use Rattle.paper.specs.Line.{begins?, raw-statement?, to-next, token-bytes, line-bytes, line-number, lawful-number?, tokens-from, line-tokens}
 use Rattle.paper.specs.WellFormed.{tokens-of, right-token?, items-of, gives-back?, well-formed?}
-use Rattle.laws.specs.Tests.{and-left, and-right, and-both}
+use Rattle.laws.specs.Names.{same-self, same-eq}
+use Rattle.laws.specs.Tests.{and-left, and-right, and-both, is-true, as-T}
 use Rattle.list_pieces.specs.declared.Piece.{Piece}
 use Rattle.list_pieces.specs.declared.Piece.the-variants.{Word, Text, Target, Variable, Constant, Quoted, Operator}
 use Rattle.list_pieces.specs.Pieces.{piece-at, tokens-of-piece, size-of, end-after}
@@ -207,22 +207,6 @@ runs (t ∷ ts) (f ∷ fs) a = runs-go (f ∷ fs) t ts (step look (f ∷ fs) (cl
 
 -- ---- a whole line
 
-pub same-refl : (l : List ℕ) → T (same l l)
-unfolding same
-same-refl [] = tt
-same-refl (x ∷ l) = rw (eq-eqb x x refl) (same-refl l)
-
-same-go : (x y : ℕ) (b : Bool) (xs ys : List ℕ) → eqb x y ≡ b → (T (same xs ys) → xs ≡ ys) → T (pick b (same xs ys) false) → x ∷ xs ≡ y ∷ ys
-same-go x y true xs ys e ih t = ap₂ (λ (a : ℕ) (l : List ℕ). a ∷ l) (eqb-true x y e) (ih t)
-same-go x y false xs ys e ih t = absurd t
-
-pub same-is : (xs ys : List ℕ) → T (same xs ys) → xs ≡ ys
-unfolding same
-same-is [] [] t = refl
-same-is [] (y ∷ ys) t = absurd t
-same-is (x ∷ xs) [] t = absurd t
-same-is (x ∷ xs) (y ∷ ys) t = same-go x y (eqb x y) xs ys refl (λ r. same-is xs ys r) t
-
 begins-first : (ns : List (List ℕ)) (fs : List ℕ) (t : Token) (ts : List Token) (tk : List (Taken Gives Item)) → Plain t → as-read t ≡ t → begins? t ≡ true → read look-item fs (items-of (t ∷ ts)) ≡ left tk [] → to-next ns (tokens-of tk) ≡ 0
 unfolding to-next
 begins-first ns fs t ts tk a r b h =
@@ -274,7 +258,7 @@ module _ (ns : List (List ℕ)) (l : List ℕ) where
   back-go : (r : Run Gives Item) → read look-item start (items-of (line-tokens ns l)) ≡ r → T (gives-back? ns l r) → (getD l 2 0 ≡ length l) × Rest ns start 3 3 (drop 3 l)
   unfolding gives-back?
   back-go (left tk []) e t =
-      line-go tk e (same-is (line-bytes ns (line-number l) (tokens-of tk)) l (and-left (same (line-bytes ns (line-number l) (tokens-of tk)) l) _ t)) (and-right (same (line-bytes ns (line-number l) (tokens-of tk)) l) _ t)
+      line-go tk e (same-eq (line-bytes ns (line-number l) (tokens-of tk)) l (is-true _ (and-left (same (line-bytes ns (line-number l) (tokens-of tk)) l) _ t))) (and-right (same (line-bytes ns (line-number l) (tokens-of tk)) l) _ t)
   back-go (left tk (f ∷ fs)) e t = absurd t
   back-go (done tk r) e t = absurd t
   back-go (bad n tk r) e t = absurd t
@@ -294,5 +278,5 @@ module _ (ns : List (List ℕ)) (l : List ℕ) where
       and-both (lawful-number? (line-number l)) _ (w .lawful)
       (subst (λ (z : Run Gives Item). T (gives-back? ns l z)) (sym (r .reads))
       (and-both (same (line-bytes ns (line-number l) (tokens-of (r .taken))) l) _
-      (subst (λ (ts : List Token). T (same (line-bytes ns (line-number l) ts) l)) (sym (r .gives)) (subst (λ (z : List ℕ). T (same z l)) (sym (bytes-back ns l h w)) (same-refl l)))
+      (subst (λ (ts : List Token). T (same (line-bytes ns (line-number l) ts) l)) (sym (r .gives)) (subst (λ (z : List ℕ). T (same z l)) (sym (bytes-back ns l h w)) (as-T _ (same-self l))))
       (subst (λ (ts : List Token). T (every (right-token? ns) ts)) (sym (r .gives)) (w .body .written .right))))
