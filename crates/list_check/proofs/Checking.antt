@@ -9,7 +9,7 @@ use lib.ListN.{length, take, drop, length-take, length-drop}
 use lib.Seq.{drop-drop}
 use Rattle.paper.specs.Bytes.{pick, run, every}
 use Rattle.paper.specs.Classes.{raw-text, raw-end}
-use Rattle.paper.specs.Words.{word-of, statements, operators}
+use Rattle.paper.specs.Words.{word-of, statements}
 use Rattle.paper.specs.Tokens.{Token, statement, operator, raw, class, operator-class, as-read, read-as}
 use Rattle.paper.specs.Constants.{right-constant?}
 use Rattle.paper.specs.Items.{string-byte?}

@@ -10,49 +10,18 @@ use borrow.Author.Needs.{needs}
 use Rattle.list_check.proofs.check_constant.Statement.{statement}
 use Rattle.list_check.proofs.check_constant.Tie as tie
 
-add-is-right : tie.Need-add-is-right
-add-is-right c = search needs
-
-is-right-requires : tie.Need-is-right-requires
-is-right-requires c κs = search needs
-
-returns : tie.Need-returns
-returns c = λ ns nd end e. fail-wrong (record { numbered = nd; inside = c .before .before .before .before .pre .0; stands = e }) (c .before .is-right .ensures) (c .if1 .taken)
-
-take-item-requires : tie.Need-take-item-requires
-take-item-requires c κs = search needs
-
-enum-known-d : tie.Need-enum-known-d
-enum-known-d c = search needs
-
-enum-told : tie.Need-enum-told
-enum-told c = search needs
-
-same-length : tie.Need-same-length
-same-length c = search needs
-
-returns-2 : tie.Need-returns-2
-unfolding tokens-of-piece size-of class as-read
-returns-2 c = λ ns nd end e. pass-one (record { numbered = nd; inside = c .before .before .before .before .before .before .before .before .before .before .before .pre .0; stands = e }) (constant (take 6 (drop 1 (drop (c .before .before .before .before .before .before .before .before .before .before .before .args .at) (c .before .before .before .before .before .before .before .before .before .before .before .args .line .now))))) (a-constant-plain _) refl refl (refl) (c .before .before .before .before .before .take-item .ensures) _ _ (c .before .d .given .1) (right-holds ns (c .before .before .before .before .before .before .before .before .before .before .before .args .line .now) (c .before .before .before .before .before .before .before .before .before .before .before .args .at) _ (c .before .before .before .before .before .before .before .before .is-right .ensures) (c .before .before .before .before .before .before .before .if1 .left)) (right-long (c .before .before .before .before .before .before .before .before .before .before .before .args .line .now) (c .before .before .before .before .before .before .before .before .before .before .before .args .at) _ (c .before .before .before .before .before .before .before .before .is-right .ensures) (c .before .before .before .before .before .before .before .if1 .left)) (omega arith)
-
-same-length-2 : tie.Need-same-length-2
-same-length-2 c = search needs
-
-returns-3 : tie.Need-returns-3
-unfolding tokens-of-piece size-of class as-read
-returns-3 c = λ ns nd end e. fail-one (record { numbered = nd; inside = c .before .before .before .before .before .before .before .before .before .before .pre .0; stands = e }) (constant (take 6 (drop 1 (drop (c .before .before .before .before .before .before .before .before .before .before .args .at) (c .before .before .before .before .before .before .before .before .before .before .args .line .now))))) (a-constant-plain _) refl refl (refl) (c .before .before .before .before .take-item .ensures) (c .enum-told .given .1)
-
 pub check-constant-spec : {M : Type 1} → statement M
+unfolding tokens-of-piece size-of class as-read
 check-constant-spec =
     tie.close
     (tie.spec
-    add-is-right
-    is-right-requires
-    returns
-    take-item-requires
-    enum-known-d
-    enum-told
-    same-length
-    returns-2
-    same-length-2
-    returns-3)
+    (λ c. search needs)
+    (λ c κs. search needs)
+    (λ c. λ ns nd end e. fail-wrong (record { numbered = nd; inside = c .before .before .before .before .pre .0; stands = e }) (c .before .is-right .ensures) (c .if1 .taken))
+    (λ c κs. search needs)
+    (λ c. search needs)
+    (λ c. search needs)
+    (λ c. search needs)
+    (λ c. let a = c .before .before .before .before .before .before .before .before .before .before .before .args in λ ns nd end e. pass-one (record { numbered = nd; inside = c .before .before .before .before .before .before .before .before .before .before .before .pre .0; stands = e }) (constant (take 6 (drop 1 (drop (a .at) (a .line .now))))) (a-constant-plain _) refl refl (refl) (c .before .before .before .before .before .take-item .ensures) _ _ (c .before .d .given .1) (right-holds ns (a .line .now) (a .at) _ (c .before .before .before .before .before .before .before .before .is-right .ensures) (c .before .before .before .before .before .before .before .if1 .left)) (right-long (a .line .now) (a .at) _ (c .before .before .before .before .before .before .before .before .is-right .ensures) (c .before .before .before .before .before .before .before .if1 .left)) (omega arith))
+    (λ c. search needs)
+    (λ c. λ ns nd end e. fail-one (record { numbered = nd; inside = c .before .before .before .before .before .before .before .before .before .before .pre .0; stands = e }) (constant (take 6 (drop 1 (drop (c .before .before .before .before .before .before .before .before .before .before .args .at) (c .before .before .before .before .before .before .before .before .before .before .args .line .now))))) (a-constant-plain _) refl refl (refl) (c .before .before .before .before .take-item .ensures) (c .enum-told .given .1)))

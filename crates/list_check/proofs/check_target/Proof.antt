@@ -19,74 +19,24 @@ use borrow.Author.Needs.{needs}
 use Rattle.list_check.proofs.check_target.Statement.{statement}
 use Rattle.list_check.proofs.check_target.Tie as tie
 
-sub-if1 : tie.Need-sub-if1
-sub-if1 c = search needs
-
-returns : tie.Need-returns
-unfolding size-of
-returns c = λ end e. fail-short (record { numbered = (sound-numbered (c .before .before .before .before .args .names .now) (c .before .before .before .before .args .size) (c .before .before .before .before .pre .2)); inside = c .before .before .before .before .pre .0; stands = e }) (c .if1 .taken)
-
-returns-2 : tie.Need-returns-2
-returns-2 c = λ end e. fail-holds (record { numbered = (sound-numbered (c .before .before .before .before .before .args .names .now) (c .before .before .before .before .before .args .size) (c .before .before .before .before .before .pre .2)); inside = c .before .before .before .before .before .pre .0; stands = e }) (λ q. omega (arith, c .if2 .taken, q .1))
-
-cast-number : tie.Need-cast-number
-cast-number c = search needs
-
-name-at-requires : tie.Need-name-at-requires
-name-at-requires c κs = search needs
-
-returns-3 : tie.Need-returns-3
-returns-3 c = λ end e. fail-holds (record { numbered = (sound-numbered (c .before .before .before .before .before .before .before .before .args .names .now) (c .before .before .before .before .before .before .before .before .args .size) (c .before .before .before .before .before .before .before .before .pre .2)); inside = c .before .before .before .before .before .before .before .before .pre .0; stands = e }) (λ q. not-there (c .before .before .before .before .before .before .before .before .args .names .now) (c .before .before .before .before .before .before .before .before .args .size) (c .before .before .before .before .before .before .before .before .pre .2) (c .before .before .name-at .ensures) (c .if3 .taken) (q .2))
-
-is-statement-word-requires : tie.Need-is-statement-word-requires
-is-statement-word-requires c κs = search needs
-
-returns-4 : tie.Need-returns-4
-returns-4 c = λ end e. fail-holds (record { numbered = (sound-numbered (c .before .before .before .before .before .before .before .before .before .before .args .names .now) (c .before .before .before .before .before .before .before .before .before .before .args .size) (c .before .before .before .before .before .before .before .before .before .before .pre .2)); inside = c .before .before .before .before .before .before .before .before .before .before .pre .0; stands = e }) (λ q. T-not (statement-word? (less-open (getD (names-in (take (c .before .before .before .before .before .before .before .before .before .before .args .size) (c .before .before .before .before .before .before .before .before .before .before .args .names .now))) (c .before .before .before .before .before .before .before .before .before .before .args .token - 0x80) []))) (q .3) (as-T (statement-word? (less-open (getD (names-in (take (c .before .before .before .before .before .before .before .before .before .before .args .size) (c .before .before .before .before .before .before .before .before .before .before .args .names .now))) (c .before .before .before .before .before .before .before .before .before .before .args .token - 0x80) []))) (sym (c .before .is-statement-word .ensures) ∙ c .if4 .taken)))
-
-first-class-requires : tie.Need-first-class-requires
-first-class-requires c κs = omega (arith, c .before .before .before .before .before .name-at .ensures .class, variable-low (getD (names-in (take (c .before .before .before .before .before .before .before .before .before .before .before .args .size) (c .before .before .before .before .before .before .before .before .before .before .before .args .names .now))) (c .before .before .before .before .before .before .before .before .before .before .before .args .token - 0x80) []))
-
-take-item-requires : tie.Need-take-item-requires
-take-item-requires c κs = (omega arith, omega (arith, c .first-class .ensures, c .before .before .before .before .before .before .name-at .ensures .class, variable-low (getD (names-in (take (c .before .before .before .before .before .before .before .before .before .before .before .before .args .size) (c .before .before .before .before .before .before .before .before .before .before .before .before .args .names .now))) (c .before .before .before .before .before .before .before .before .before .before .before .before .args .token - 0x80) [])))
-
-enum-known-d : tie.Need-enum-known-d
-enum-known-d c = search needs
-
-enum-told : tie.Need-enum-told
-enum-told c = search needs
-
-same-length : tie.Need-same-length
-same-length c = search needs
-
-returns-5 : tie.Need-returns-5
-unfolding tokens-of-piece size-of as-read
-returns-5 c = λ end e. pass-one (record { numbered = (sound-numbered (c .before .before .before .before .before .before .before .before .before .before .before .before .before .before .before .before .before .before .args .names .now) (c .before .before .before .before .before .before .before .before .before .before .before .before .before .before .before .before .before .before .args .size) (c .before .before .before .before .before .before .before .before .before .before .before .before .before .before .before .before .before .before .pre .2)); inside = c .before .before .before .before .before .before .before .before .before .before .before .before .before .before .before .before .before .before .pre .0; stands = e }) (assigned (getD (names-in (take (c .before .before .before .before .before .before .before .before .before .before .before .before .before .before .before .before .before .before .args .size) (c .before .before .before .before .before .before .before .before .before .before .before .before .before .before .before .before .before .before .args .names .now))) (c .before .before .before .before .before .before .before .before .before .before .before .before .before .before .before .before .before .before .args .token - 0x80) [])) (an-assigned-plain _) refl refl (c .before .before .before .before .before .before .first-class .ensures ∙ ap (λ k. k + 3) (c .before .before .before .before .before .before .before .before .before .before .before .before .name-at .ensures .class) ∙ sym (first-class (getD (names-in (take (c .before .before .before .before .before .before .before .before .before .before .before .before .before .before .before .before .before .before .args .size) (c .before .before .before .before .before .before .before .before .before .before .before .before .before .before .before .before .before .before .args .names .now))) (c .before .before .before .before .before .before .before .before .before .before .before .before .before .before .before .before .before .before .args .token - 0x80) []))) (c .before .before .before .before .before .take-item .ensures) _ _ (c .before .d .given .1) ((omega (arith, length-drop (c .before .before .before .before .before .before .before .before .before .before .before .before .before .before .before .before .before .before .args .at) (c .before .before .before .before .before .before .before .before .before .before .before .before .before .before .before .before .before .before .args .line .now), c .before .before .before .before .before .before .before .before .before .before .before .before .before .before .if1 .left), c .before .before .before .before .before .before .before .before .before .before .before .before .before .if2 .left, there (c .before .before .before .before .before .before .before .before .before .before .before .before .before .before .before .before .before .before .args .names .now) (c .before .before .before .before .before .before .before .before .before .before .before .before .before .before .before .before .before .before .args .size) (c .before .before .before .before .before .before .before .before .before .before .before .before .before .before .before .before .before .before .pre .2) (c .before .before .before .before .before .before .before .before .before .before .before .before .name-at .ensures) (c .before .before .before .before .before .before .before .before .before .before .if3 .left), not-T (statement-word? (less-open (getD (names-in (take (c .before .before .before .before .before .before .before .before .before .before .before .before .before .before .before .before .before .before .args .size) (c .before .before .before .before .before .before .before .before .before .before .before .before .before .before .before .before .before .before .args .names .now))) (c .before .before .before .before .before .before .before .before .before .before .before .before .before .before .before .before .before .before .args .token - 0x80) []))) (sym (c .before .before .before .before .before .before .before .before .before .is-statement-word .ensures) ∙ c .before .before .before .before .before .before .before .before .if4 .left))) (c .before .before .before .before .before .before .before .before .before .before .before .before .before .before .if1 .left) (omega arith)
-
-same-length-2 : tie.Need-same-length-2
-same-length-2 c = search needs
-
-returns-6 : tie.Need-returns-6
-unfolding tokens-of-piece size-of as-read
-returns-6 c = λ end e. fail-one (record { numbered = (sound-numbered (c .before .before .before .before .before .before .before .before .before .before .before .before .before .before .before .before .before .args .names .now) (c .before .before .before .before .before .before .before .before .before .before .before .before .before .before .before .before .before .args .size) (c .before .before .before .before .before .before .before .before .before .before .before .before .before .before .before .before .before .pre .2)); inside = c .before .before .before .before .before .before .before .before .before .before .before .before .before .before .before .before .before .pre .0; stands = e }) (assigned (getD (names-in (take (c .before .before .before .before .before .before .before .before .before .before .before .before .before .before .before .before .before .args .size) (c .before .before .before .before .before .before .before .before .before .before .before .before .before .before .before .before .before .args .names .now))) (c .before .before .before .before .before .before .before .before .before .before .before .before .before .before .before .before .before .args .token - 0x80) [])) (an-assigned-plain _) refl refl (c .before .before .before .before .before .first-class .ensures ∙ ap (λ k. k + 3) (c .before .before .before .before .before .before .before .before .before .before .before .name-at .ensures .class) ∙ sym (first-class (getD (names-in (take (c .before .before .before .before .before .before .before .before .before .before .before .before .before .before .before .before .before .args .size) (c .before .before .before .before .before .before .before .before .before .before .before .before .before .before .before .before .before .args .names .now))) (c .before .before .before .before .before .before .before .before .before .before .before .before .before .before .before .before .before .args .token - 0x80) []))) (c .before .before .before .before .take-item .ensures) (c .enum-told .given .1)
-
 pub check-target-spec : {M : Type 1} → statement M
+unfolding size-of tokens-of-piece as-read
 check-target-spec =
     tie.close
     (tie.spec
-    sub-if1
-    returns
-    returns-2
-    cast-number
-    name-at-requires
-    returns-3
-    is-statement-word-requires
-    returns-4
-    first-class-requires
-    take-item-requires
-    enum-known-d
-    enum-told
-    same-length
-    returns-5
-    same-length-2
-    returns-6)
+    (λ c. search needs)
+    (λ c. λ end e. fail-short (record { numbered = (sound-numbered (c .before .before .before .before .args .names .now) (c .before .before .before .before .args .size) (c .before .before .before .before .pre .2)); inside = c .before .before .before .before .pre .0; stands = e }) (c .if1 .taken))
+    (λ c. λ end e. fail-holds (record { numbered = (sound-numbered (c .before .before .before .before .before .args .names .now) (c .before .before .before .before .before .args .size) (c .before .before .before .before .before .pre .2)); inside = c .before .before .before .before .before .pre .0; stands = e }) (λ q. omega (arith, c .if2 .taken, q .1)))
+    (λ c. search needs)
+    (λ c κs. search needs)
+    (λ c. let a = c .before .before .before .before .before .before .before .before .args in λ end e. fail-holds (record { numbered = (sound-numbered (a .names .now) (a .size) (c .before .before .before .before .before .before .before .before .pre .2)); inside = c .before .before .before .before .before .before .before .before .pre .0; stands = e }) (λ q. not-there (a .names .now) (a .size) (c .before .before .before .before .before .before .before .before .pre .2) (c .before .before .name-at .ensures) (c .if3 .taken) (q .2)))
+    (λ c κs. search needs)
+    (λ c. let a = c .before .before .before .before .before .before .before .before .before .before .args in λ end e. fail-holds (record { numbered = (sound-numbered (a .names .now) (a .size) (c .before .before .before .before .before .before .before .before .before .before .pre .2)); inside = c .before .before .before .before .before .before .before .before .before .before .pre .0; stands = e }) (λ q. T-not (statement-word? (less-open (getD (names-in (take (a .size) (a .names .now))) (a .token - 0x80) []))) (q .3) (as-T (statement-word? (less-open (getD (names-in (take (a .size) (a .names .now))) (a .token - 0x80) []))) (sym (c .before .is-statement-word .ensures) ∙ c .if4 .taken))))
+    (λ c κs. let a = c .before .before .before .before .before .before .before .before .before .before .before .args in omega (arith, c .before .before .before .before .before .name-at .ensures .class, variable-low (getD (names-in (take (a .size) (a .names .now))) (a .token - 0x80) [])))
+    (λ c κs. let a = c .before .before .before .before .before .before .before .before .before .before .before .before .args in (omega arith, omega (arith, c .first-class .ensures, c .before .before .before .before .before .before .name-at .ensures .class, variable-low (getD (names-in (take (a .size) (a .names .now))) (a .token - 0x80) []))))
+    (λ c. search needs)
+    (λ c. search needs)
+    (λ c. search needs)
+    (λ c. let a = c .before .before .before .before .before .before .before .before .before .before .before .before .before .before .before .before .before .before .args in λ end e. pass-one (record { numbered = (sound-numbered (a .names .now) (a .size) (c .before .before .before .before .before .before .before .before .before .before .before .before .before .before .before .before .before .before .pre .2)); inside = c .before .before .before .before .before .before .before .before .before .before .before .before .before .before .before .before .before .before .pre .0; stands = e }) (assigned (getD (names-in (take (a .size) (a .names .now))) (a .token - 0x80) [])) (an-assigned-plain _) refl refl (c .before .before .before .before .before .before .first-class .ensures ∙ ap (λ k. k + 3) (c .before .before .before .before .before .before .before .before .before .before .before .before .name-at .ensures .class) ∙ sym (first-class (getD (names-in (take (a .size) (a .names .now))) (a .token - 0x80) []))) (c .before .before .before .before .before .take-item .ensures) _ _ (c .before .d .given .1) ((omega (arith, length-drop (a .at) (a .line .now), c .before .before .before .before .before .before .before .before .before .before .before .before .before .before .if1 .left), c .before .before .before .before .before .before .before .before .before .before .before .before .before .if2 .left, there (a .names .now) (a .size) (c .before .before .before .before .before .before .before .before .before .before .before .before .before .before .before .before .before .before .pre .2) (c .before .before .before .before .before .before .before .before .before .before .before .before .name-at .ensures) (c .before .before .before .before .before .before .before .before .before .before .if3 .left), not-T (statement-word? (less-open (getD (names-in (take (a .size) (a .names .now))) (a .token - 0x80) []))) (sym (c .before .before .before .before .before .before .before .before .before .is-statement-word .ensures) ∙ c .before .before .before .before .before .before .before .before .if4 .left))) (c .before .before .before .before .before .before .before .before .before .before .before .before .before .before .if1 .left) (omega arith))
+    (λ c. search needs)
+    (λ c. let a = c .before .before .before .before .before .before .before .before .before .before .before .before .before .before .before .before .before .args in λ end e. fail-one (record { numbered = (sound-numbered (a .names .now) (a .size) (c .before .before .before .before .before .before .before .before .before .before .before .before .before .before .before .before .before .pre .2)); inside = c .before .before .before .before .before .before .before .before .before .before .before .before .before .before .before .before .before .pre .0; stands = e }) (assigned (getD (names-in (take (a .size) (a .names .now))) (a .token - 0x80) [])) (an-assigned-plain _) refl refl (c .before .before .before .before .before .first-class .ensures ∙ ap (λ k. k + 3) (c .before .before .before .before .before .before .before .before .before .before .before .name-at .ensures .class) ∙ sym (first-class (getD (names-in (take (a .size) (a .names .now))) (a .token - 0x80) []))) (c .before .before .before .before .take-item .ensures) (c .enum-told .given .1)))
