@@ -33,7 +33,8 @@ use Rattle.list_pieces.specs.declared.Piece.the-variants as Piece′
 use Rattle.list_pieces.specs.Pieces.{tokens-of-piece}
 use Rattle.list_text.specs.Texts.{piece-text, Writes}
 use Rattle.laws.specs.Classes.{word-passes}
-use Rattle.list_pieces.specs.WellFormed.{same-is}
+use Rattle.laws.specs.Names.{same-eq}
+use Rattle.laws.specs.Tests.{is-true}
 
 -- ---- bytes with their top bits cleared
 
@@ -74,11 +75,11 @@ clear-operators = tt
 
 pub statement-text : (names : List ℕ) (t : ℕ) → all-cleared (bytes-at fixed-words names (statement-part t)) ≡ (word-of statements t) .spelling
 unfolding clear-word?
-statement-text names t = ap all-cleared (statement-spelling names t) ∙ same-is _ _ (word-passes clear-word? statements t clear-statements (clear-unknown t))
+statement-text names t = ap all-cleared (statement-spelling names t) ∙ same-eq _ _ (is-true _ (word-passes clear-word? statements t clear-statements (clear-unknown t)))
 
 pub operator-word : (names : List ℕ) (t : ℕ) → all-cleared (bytes-at fixed-words names (operator-part t)) ≡ (word-of operators t) .spelling
 unfolding clear-word?
-operator-word names t = ap all-cleared (operator-spelling names t) ∙ same-is _ _ (word-passes clear-word? operators t clear-operators (clear-unknown t))
+operator-word names t = ap all-cleared (operator-spelling names t) ∙ same-eq _ _ (is-true _ (word-passes clear-word? operators t clear-operators (clear-unknown t)))
 
 -- ---- one text after another
 
