@@ -6,39 +6,15 @@ use borrow.Author.Needs.{needs}
 use Rattle.list_line.proofs.list.Statement.{statement}
 use Rattle.list_line.proofs.list.Tie as tie
 
-measure-line-requires : tie.Need-measure-line-requires
-measure-line-requires c κs = (c .before .before .before .pre, omega (arith, c .before .before .before .good))
-
-enum-told : tie.Need-enum-told
-enum-told c = search needs
-
-enum-known-n : tie.Need-enum-known-n
-enum-known-n c = search needs
-
-returns : tie.Need-returns
-returns c = lists-long (names-in (take (c .before .before .before .before .before .before .before .before .args .size) (c .before .before .before .before .before .before .before .before .args .names .now))) (c .before .before .before .before .before .before .before .before .args .line .now) (c .before .before .before .before .before .before .before .before .args .out .now) _ (says-length (c .before .before .before .before .measure-line .ensures) (c .before .before .n .given .1)) (c .if1 .taken)
-
-write-line-requires : tie.Need-write-line-requires
-write-line-requires c κs = ((says-length (c .before .before .before .before .before .measure-line .ensures) (c .before .before .before .n .given .1)) .formed, lists-fits (names-in (take (c .before .before .before .before .before .before .before .before .before .args .size) (c .before .before .before .before .before .before .before .before .before .args .names .now))) (c .before .before .before .before .before .before .before .before .before .args .line .now) _ _ (says-length (c .before .before .before .before .before .measure-line .ensures) (c .before .before .before .n .given .1)) (c .before .if1 .left) .1)
-
-returns-2 : tie.Need-returns-2
-returns-2 c = lists-not (names-in (take (c .before .before .before .before .before .before .args .size) (c .before .before .before .before .before .before .args .names .now))) (c .before .before .before .before .before .before .args .line .now) (c .before .before .before .before .before .before .args .out .now) _ (c .before .before .measure-line .ensures) (c .enum-told .given .1)
-
-same-length : tie.Need-same-length
-same-length c = search needs
-
-returns-3 : tie.Need-returns-3
-returns-3 c = lists-written (names-in (take (c .before .before .before .before .before .before .before .before .before .before .before .before .args .size) (c .before .before .before .before .before .before .before .before .before .before .before .before .args .names .now))) (c .before .before .before .before .before .before .before .before .before .before .before .before .args .line .now) (c .before .before .before .before .before .before .before .before .before .before .before .before .args .out .now) _ _ (says-length (c .before .before .before .before .before .before .before .before .measure-line .ensures) (c .before .before .before .before .before .before .n .given .1)) (c .before .before .before .before .if1 .left) (c .before .before .write-line .ensures)
-
 pub list-spec : {M : Type 1} → statement M
 list-spec =
     tie.close
     (tie.spec
-    measure-line-requires
-    enum-told
-    enum-known-n
-    returns
-    write-line-requires
-    returns-2
-    same-length
-    returns-3)
+    (λ c κs. (c .before .before .before .pre, omega (arith, c .before .before .before .good)))
+    (λ c. search needs)
+    (λ c. search needs)
+    (λ c. let a = c .before .before .before .before .before .before .before .before .args in lists-long (names-in (take (a .size) (a .names .now))) (a .line .now) (a .out .now) _ (says-length (c .before .before .before .before .measure-line .ensures) (c .before .before .n .given .1)) (c .if1 .taken))
+    (λ c κs. let a = c .before .before .before .before .before .before .before .before .before .args in ((says-length (c .before .before .before .before .before .measure-line .ensures) (c .before .before .before .n .given .1)) .formed, lists-fits (names-in (take (a .size) (a .names .now))) (a .line .now) _ _ (says-length (c .before .before .before .before .before .measure-line .ensures) (c .before .before .before .n .given .1)) (c .before .if1 .left) .1))
+    (λ c. let a = c .before .before .before .before .before .before .args in lists-not (names-in (take (a .size) (a .names .now))) (a .line .now) (a .out .now) _ (c .before .before .measure-line .ensures) (c .enum-told .given .1))
+    (λ c. search needs)
+    (λ c. let a = c .before .before .before .before .before .before .before .before .before .before .before .before .args in lists-written (names-in (take (a .size) (a .names .now))) (a .line .now) (a .out .now) _ _ (says-length (c .before .before .before .before .before .before .before .before .measure-line .ensures) (c .before .before .before .before .before .before .n .given .1)) (c .before .before .before .before .if1 .left) (c .before .before .write-line .ensures)))
