@@ -1,14 +1,17 @@
 // Standard input, a line at a time, and the numbers in it.
+use buffers::Run;
+use buffers::TOO_GREAT;
 use buffers::byte_at;
+use buffers::decimal;
 use buffers::front;
-use buffers::is_digit;
 use buffers::put;
+use buffers::run_end;
 use libc::STDIN_FILENO;
 ghost use mathlib.Core.Path.{_≡_};
-ghost use Prim.Native.Nat.{_+_, _-_, _≤_};
+ghost use Prim.Native.Nat.{_+_, _≤_};
 ghost use lib.ListN.{drop, length as list-length};
 ghost use Rattle.paper.specs.Bytes.{run};
-ghost use Rattle.console.specs.Numbers.{number-of, With-digit};
+ghost use Rattle.console.specs.Numbers.{number-of};
 ghost use Rattle.console.specs.Fields.{unmarked, all-or-none};
 
 // Standard input between two lines: the bytes of a buffer from `at` to `end` are read and not yet taken.
@@ -145,25 +148,7 @@ pub fn field_end(line: &[u8], at: usize, mark: u8) -> usize
 }
 
 // Stands for no number: numbers are below it.
-pub const NO_NUMBER: usize = 0x8000000000000000;
-
-// A digit's worth.
-fn worth(b: u8) -> usize
-    ensures { λ r. ⌜ (r ≡ b - 48) × (r ≤ 255) ⌝ }
-{
-    if 48 <= b { (b - 48) as usize } else { 0 }
-}
-
-// A number with one digit more, or NO_NUMBER where the number is too great for one.
-fn with_digit(n: usize, b: u8) -> usize
-    ensures { λ r. ⌜ With-digit n b r ⌝ }
-{
-    if n <= NO_NUMBER / 10 {
-        n * 10 + worth(b)
-    } else {
-        NO_NUMBER
-    }
-}
+pub const NO_NUMBER: usize = TOO_GREAT;
 
 // The number that decimal digits write, or NO_NUMBER where there is none, where another byte stands, or where the number is not below it.
 pub fn number_in(digits: &[u8]) -> usize
@@ -172,16 +157,8 @@ pub fn number_in(digits: &[u8]) -> usize
     if digits.len() == 0 {
         return NO_NUMBER;
     }
-    let mut n: usize = 0;
-    let mut i: usize = 0;
-    while i < digits.len() {
-        let b = digits[i];
-        if is_digit(b) {
-            n = with_digit(n, b);
-            i += 1;
-        } else {
-            return NO_NUMBER;
-        }
+    if run_end(digits, 0, Run::Digits) < digits.len() {
+        return NO_NUMBER;
     }
-    if n < NO_NUMBER { n } else { NO_NUMBER }
+    decimal(digits)
 }

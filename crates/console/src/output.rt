@@ -1,5 +1,6 @@
 // Standard output: bytes as they are, numbers in decimal, bytes in lowercase hexadecimal.
 use buffers::front;
+use buffers::lesser;
 use buffers::put;
 use libc::STDOUT_FILENO;
 ghost use Prim.Native.Nat.{_≤_};
@@ -46,18 +47,11 @@ fn print_some(bytes: &[u8])
     print(front(&out, 2 * bytes.len()));
 }
 
-// The smaller of two numbers.
-fn least(a: usize, b: usize) -> usize
-    ensures { λ r. ⌜ (r ≤ a) × (r ≤ b) ⌝ }
-{
-    if a < b { a } else { b }
-}
-
 // Prints two digits for each byte.
 pub fn print_hex(bytes: &[u8]) {
     let mut at: usize = 0;
     while at < bytes.len() {
-        let n = least(bytes.len() - at, AT_ONCE);
+        let n = lesser(bytes.len() - at, AT_ONCE);
         let end = at + n;
         print_some(&bytes[at..end]);
         if n == 0 {

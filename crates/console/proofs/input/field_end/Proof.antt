@@ -16,37 +16,16 @@ Inv-loop line at mark i₀ i = (at ≤ i) × (i ≤ length line) × (i + run (un
 abbrev μ-loop : tie.MeasureT-loop
 μ-loop line at mark i₀ i = length line - i
 
-loop-holds : tie.Need-loop-holds Inv-loop μ-loop
-loop-holds c = (omega arith, omega (arith, c .pre), refl)
-
-shared-slice-read-if1 : tie.Need-shared-slice-read-if1 Inv-loop μ-loop
-shared-slice-read-if1 c = search needs
-
-returns : tie.Need-returns Inv-loop μ-loop
-returns c = (omega (arith, c .before .before .before .loop .inv .2, run-off (unmarked (c .before .before .before .before .args .mark)) (c .before .before .before .before .args .line .now) (c .before .before .before .loop .i) (c .before .before .loop-test .taken) (at-mark (c .before .before .before .before .args .mark) _ (c .if1 .taken))), c .before .before .before .loop .inv .0, c .before .before .before .loop .inv .1)
-
-add-i : tie.Need-add-i Inv-loop μ-loop
-add-i c = search needs
-
-loop-less : tie.Need-loop-less Inv-loop μ-loop
-loop-less c = search needs
-
-loop-again : tie.Need-loop-again Inv-loop μ-loop
-loop-again c = (omega arith, omega arith, omega (arith, c .before .before .before .loop .inv .2, run-on (unmarked (c .before .before .before .before .args .mark)) (c .before .before .before .before .args .line .now) (c .before .before .before .loop .i) (c .before .before .loop-test .taken) (off-mark (c .before .before .before .before .args .mark) _ (c .if1 .left))))
-
-returns-2 : tie.Need-returns-2 Inv-loop μ-loop
-returns-2 c = (omega (arith, c .before .loop .inv .2, run-past (unmarked (c .before .before .args .mark)) (c .before .before .args .line .now) (c .before .loop .i) (c .loop-test .left)), c .before .loop .inv .0, c .before .loop .inv .1)
-
 pub field-end-spec : {M : Type 1} → statement M
 field-end-spec =
     tie.close
     (tie.spec
     Inv-loop
     μ-loop
-    loop-holds
-    shared-slice-read-if1
-    returns
-    add-i
-    loop-less
-    loop-again
-    returns-2)
+    (λ c. (omega arith, omega (arith, c .pre), refl))
+    (λ c. search needs)
+    (λ c. let l = c .before .before .before .loop in let a = c .before .before .before .before .args in (omega (arith, l .inv .2, run-off (unmarked (a .mark)) (a .line .now) (l .i) (c .before .before .loop-test .taken) (at-mark (a .mark) _ (c .if1 .taken))), l .inv .0, l .inv .1))
+    (λ c. search needs)
+    (λ c. search needs)
+    (λ c. let a = c .before .before .before .before .args in (omega arith, omega arith, omega (arith, c .before .before .before .loop .inv .2, run-on (unmarked (a .mark)) (a .line .now) (c .before .before .before .loop .i) (c .before .before .loop-test .taken) (off-mark (a .mark) _ (c .if1 .left)))))
+    (λ c. (omega (arith, c .before .loop .inv .2, run-past (unmarked (c .before .before .args .mark)) (c .before .before .args .line .now) (c .before .loop .i) (c .loop-test .left)), c .before .loop .inv .0, c .before .loop .inv .1)))
