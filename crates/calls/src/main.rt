@@ -2,6 +2,7 @@
 mod fields;
 
 use buffers::front;
+use buffers::lesser;
 use console::next_line;
 use console::print;
 use console::whole;
@@ -87,11 +88,11 @@ fn read_tables(
     }
 }
 
-// The smaller of a number and a buffer's length.
+// The lesser of a number and a buffer's length.
 fn within(n: usize, buffer: &[u8]) -> usize
     ensures { λ r. ⌜ Counts r (now (buffer .entry)) ⌝ }
 {
-    if n < buffer.len() { n } else { buffer.len() }
+    lesser(n, buffer.len())
 }
 
 // Enters a text over the first bytes of buffers, as many as the fields had.
