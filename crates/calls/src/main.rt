@@ -10,6 +10,7 @@ use editor_edit::Editor;
 use fields::bytes_field;
 use fields::ends;
 use fields::number_field;
+ghost use Rattle.io.specs.Counts.{Counts};
 
 // The longest line that is kept: more than any call has, unless its numbers begin with thousands of zeros.
 const LONGEST: usize = 300000;
@@ -87,6 +88,13 @@ fn read_tables(
     }
 }
 
+// The lesser of a number and a buffer's length.
+fn within(n: usize, buffer: &[u8]) -> usize
+    ensures { λ r. ⌜ Counts r (now (buffer .entry)) ⌝ }
+{
+    lesser(n, buffer.len())
+}
+
 // Enters a text over the first bytes of buffers, as many as the fields had.
 fn enter_within(
     text: &[u8],
@@ -95,9 +103,9 @@ fn enter_within(
     store: &mut [u8],
     tables: Tables,
 ) {
-    let a = lesser(tables.names, names.len());
-    let b = lesser(tables.values, values.len());
-    let c = lesser(tables.store, store.len());
+    let a = within(tables.names, names);
+    let b = within(tables.values, values);
+    let c = within(tables.store, store);
     let record = tables.record;
     enter(
         text,
@@ -139,7 +147,7 @@ fn answer_list(
     if !ends(line, room.next) {
         return false;
     }
-    let n = lesser(room.n, out.len());
+    let n = within(room.n, out);
     let record = tables.record;
     list(
         number.n,

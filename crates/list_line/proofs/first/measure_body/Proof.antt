@@ -22,7 +22,7 @@ measure-body-spec =
     μ-loop
     (λ c κs. omega (arith, c .before .before .before .before .before .pre .0 .long))
     (λ c κs. (c .before .before .before .before .before .before .before .before .pre .2, omega arith))
-    (λ c. let a = c .before .before .before .before .before .before .before .before .before .args in (refl, refl, measuring-first (names-in (take (a .size) (a .names .now))) (a .line .now) (a .room) (a .frames .now) (c .before .before .before .write-head .result) (c .longer .result) (c .before .before .before .before .before .before .before .before .before .pre .0) (omega (arith, c .before .before .before .before .before .before .before .before .shared-slice-known .given 0)) (c .before .before .before .before .before .before .before .before .before .pre .4) (c .before .before .before .write-head .ensures) (c .longer .ensures)))
+    (λ c. (refl, refl, measuring-first (names-in (take (c .before .before .before .before .before .before .before .before .before .args .size) (c .before .before .before .before .before .before .before .before .before .args .names .now))) (c .before .before .before .before .before .before .before .before .before .args .line .now) (c .before .before .before .before .before .before .before .before .before .args .room) (c .before .before .before .before .before .before .before .before .before .args .frames .now) (c .before .before .before .write-head .result) (c .longer .result) (c .before .before .before .before .before .before .before .before .before .pre .0) (omega (arith, c .before .before .before .before .before .before .before .before .shared-slice-known .given 0)) (c .before .before .before .before .before .before .before .before .before .pre .4) (c .before .before .before .write-head .ensures) (c .longer .ensures)))
     (λ c κs. c .loop-test .taken)
     (λ c κs. (c .before .before .loop-test .taken, omega (arith, (c .before .before .before .loop .inv .2) .shallow, c .before .before .before .loop .inv .0, c .before .before .before .before .before .before .before .before .before .before .before .before .before .pre .3, c .before .before .before .before .before .before .before .before .before .before .before .before .before .pre .0 .sized, c .before .before .before .before .before .before .before .before .before .before .before .before .shared-slice-known .given 2, c .before .before .loop-test .taken), c .before .before .before .before .before .before .before .before .before .before .before .before .before .pre .1))
     (λ c. search needs)
@@ -32,7 +32,7 @@ measure-body-spec =
     (λ c κs. omega (arith, ((c .before .before .before .before .before .before .before .before .before .before .before .check-piece .ensures (c .before .before .before .before .before .before .before .before .before .before .before .before .before .before .before .loop .end) (sym (c .before .before .before .before .before .before .before .before .before .before .before .before .before .piece-at .ensures))) .fits _ (c .before .before .before .before .before .before .before .d .given .1)) .within, c .before .before .before .before .before .before .before .before .before .before .before .before .before .before .before .before .before .before .before .before .before .before .before .before .before .pre .0 .sized, c .before .before .before .before .before .before .before .before .before .before .before .before .before .before .before .before .before .before .before .before .before .before .before .before .shared-slice-known .given 2))
     (λ c. omega (arith, c .size-of .ensures, ((c .before .before .before .before .before .before .before .before .before .before .before .before .check-piece .ensures (c .before .before .before .before .before .before .before .before .before .before .before .before .before .before .before .before .loop .end) (sym (c .before .before .before .before .before .before .before .before .before .before .before .before .before .before .piece-at .ensures))) .fits _ (c .before .before .before .before .before .before .before .before .d .given .1)) .within, c .before .before .before .before .before .before .before .before .before .before .before .before .before .before .before .before .before .before .before .before .before .before .before .before .before .before .pre .0 .sized, c .before .before .before .before .before .before .before .before .before .before .before .before .before .before .before .before .before .before .before .before .before .before .before .before .before .shared-slice-known .given 2))
     (λ c. omega (arith, c .size-of .ensures, size-some (c .before .before .before .before .before .before .before .before .before .before .before .before .before .before .piece-at .result), ((c .before .before .before .before .before .before .before .before .before .before .before .before .check-piece .ensures (c .before .before .before .before .before .before .before .before .before .before .before .before .before .before .before .before .loop .end) (sym (c .before .before .before .before .before .before .before .before .before .before .before .before .before .before .piece-at .ensures))) .fits _ (c .before .before .before .before .before .before .before .before .d .given .1)) .within, c .before .before .before .before .before .before .before .before .before .before .before .before .before .before .before .loop-test .taken))
-    (λ c. let l = c .before .before .before .before .before .before .before .before .before .before .before .before .before .before .before .before .loop in (c .before .before .before .before .before .before .before .before .before .before .before .before .check-piece .kept .1 .1 .1 .1 .1 .0 ∙ l .inv .0, c .before .before .before .before .before .write-piece .kept .1 .1 .1 .1 .1 .0 ∙ l .inv .1, measuring-next (l .inv .2) (c .before .before .before .before .before .before .before .before .before .before .before .before .before .before .before .loop-test .taken) (sym (c .before .before .before .before .before .before .before .before .before .before .before .before .before .before .piece-at .ensures)) ((c .before .before .before .before .before .before .before .before .before .before .before .before .check-piece .ensures (l .end) (sym (c .before .before .before .before .before .before .before .before .before .before .before .before .before .before .piece-at .ensures))) .fits _ (c .before .before .before .before .before .before .before .before .d .given .1)) (c .before .before .before .before .before .write-piece .ensures) (c .before .before .longer2 .ensures) (c .before .end-after .ensures) (c .size-of .ensures)))
+    (λ c. (c .before .before .before .before .before .before .before .before .before .before .before .before .check-piece .kept .1 .1 .1 .1 .1 .0 ∙ c .before .before .before .before .before .before .before .before .before .before .before .before .before .before .before .before .loop .inv .0, c .before .before .before .before .before .write-piece .kept .1 .1 .1 .1 .1 .0 ∙ c .before .before .before .before .before .before .before .before .before .before .before .before .before .before .before .before .loop .inv .1, measuring-next (c .before .before .before .before .before .before .before .before .before .before .before .before .before .before .before .before .loop .inv .2) (c .before .before .before .before .before .before .before .before .before .before .before .before .before .before .before .loop-test .taken) (sym (c .before .before .before .before .before .before .before .before .before .before .before .before .before .before .piece-at .ensures)) ((c .before .before .before .before .before .before .before .before .before .before .before .before .check-piece .ensures (c .before .before .before .before .before .before .before .before .before .before .before .before .before .before .before .before .loop .end) (sym (c .before .before .before .before .before .before .before .before .before .before .before .before .before .before .piece-at .ensures))) .fits _ (c .before .before .before .before .before .before .before .before .d .given .1)) (c .before .before .before .before .before .write-piece .ensures) (c .before .before .longer2 .ensures) (c .before .end-after .ensures) (c .size-of .ensures)))
     (λ c. search needs)
     (λ c. c .before .before .before .before .check-piece .kept .1 .1 .1 .1 .1 .0 ∙ c .before .before .before .before .before .before .before .before .loop .inv .0)
     (λ c. c .before .before .before .before .before .before .before .before .loop .inv .1 ∙ c .before .before .before .before .before .before .before .before .before .before .before .before .write-head .kept .1 .0)
