@@ -1,11 +1,18 @@
 // The desk program: enters each line of standard input and prints what each call answered, and then the listing of every stored line.
 use buffers::byte_at;
 use buffers::front;
+use console::Input;
 use console::next_line;
 use console::print;
 use console::print_number;
 use editor_edit::Editor;
-ghost use Prim.Native.Nat.{_≤_};
+use editor_edit::empty;
+use editor_lent::Answer;
+use editor_lent::enter_lent;
+ghost use Prim.Native.Nat.{_≤_, _<_};
+ghost use mathlib.Core.Path.{_≡_};
+ghost use mathlib.Core.Bool.{true};
+ghost use lib.ListN.{length};
 
 // The longest text that is kept: one byte more than may be entered, so that any longer line is refused as such.
 const KEPT: usize = 121;
@@ -16,29 +23,63 @@ fn print_field(n: usize) {
     print_number(n);
 }
 
-// Enters the line of input with a number and prints the answer: that number, the answer's, the place, the names added and the bytes used. The
-// editor's record afterwards.
-fn enter(
-    line: usize,
-    text: &[u8],
-    names: &mut [u8],
-    values: &mut [u8],
-    store: &mut [u8],
-    record: Editor,
-) -> Editor {
-    let r = editor_lent::enter_lending(text, names, values, store, record);
-    let after = r.editor;
-    print(b"E");
-    print_field(line);
-    print_field(r.number as usize);
-    print_field(r.place);
-    print_field(r.added);
-    print_field(after.used);
-    print(b"\n");
-    after
+// A line of input to enter: whether there is one, its number among the lines, how many of its bytes are kept, and the input after it.
+struct Turn {
+    there: bool,
+    count: usize,
+    length: usize,
+    input: Input,
 }
 
-// Enters every line of the input over empty tables and an empty store, and returns the editor's record afterwards.
+// The turn before the first line.
+fn first() -> Turn {
+    Turn {
+        there: true,
+        count: 0,
+        length: 0,
+        input: console::start(),
+    }
+}
+
+// The next line of input, its kept bytes at the front of a buffer.
+fn next(turn: Turn, buffer: &mut [u8], text: &mut [u8]) -> Turn
+    ensures { λ r. ⌜ (r .length ≤ length (now (text .entry))) × (r .there ≡ true → turn .count < r .count) ⌝ }
+{
+    let line = next_line(turn.input, buffer, text);
+    let count = turn.count;
+    let length = least(line.length, text.len());
+    let input = line.input;
+    if line.there {
+        if count < usize::MAX {
+            return Turn {
+                there: true,
+                count: count + 1,
+                length,
+                input,
+            };
+        }
+    }
+    Turn {
+        there: false,
+        count,
+        length,
+        input,
+    }
+}
+
+// Prints what entering a line answered: the line's number in the input, the answer's, the place, the names added and the bytes used.
+fn print_entered(turn: Turn, answer: Answer, record: Editor) {
+    print(b"E");
+    print_field(turn.count);
+    print_field(answer.number as usize);
+    print_field(answer.place);
+    print_field(answer.added);
+    print_field(record.used);
+    print(b"\n");
+}
+
+// Enters every line of the input over empty tables and an empty store. The desk's one record is made here and lent to each call, and is
+// returned at the end.
 fn enter_all(
     buffer: &mut [u8],
     text: &mut [u8],
@@ -46,30 +87,17 @@ fn enter_all(
     values: &mut [u8],
     store: &mut [u8],
 ) -> Editor {
-    let mut record = Editor {
-        used: 0,
-        name_count: 0,
-        name_bytes: 0,
-    };
-    let mut input = console::start();
-    let mut count: usize = 0;
-    while count < usize::MAX {
-        let line = next_line(input, buffer, text);
-        if !line.there {
+    let mut record = empty();
+    let mut turn = first();
+    loop {
+        turn = next(turn, buffer, text);
+        if turn.there {
+            let answer = enter_lent(&text[..turn.length], names, values, store, &mut record);
+            print_entered(turn, answer, record);
+        } else {
             return record;
         }
-        input = line.input;
-        count += 1;
-        record = enter(
-            count,
-            front(text, line.length),
-            names,
-            values,
-            store,
-            record,
-        );
     }
-    record
 }
 
 // The smaller of two numbers.
