@@ -11,7 +11,7 @@ use lib.Seq.{sets, length-take-le}
 use Rattle.paper.specs.Bytes.{pick}
 use Rattle.paper.specs.Classes.{raw-end, raw-text, unfit, remark}
 use Rattle.paper.specs.Tokens.{Token, statement, assigned, operator, raw, unreadable, class}
-use Rattle.paper.specs.Names.{number-of, add-name, add-names}
+use Rattle.paper.specs.Names.{add-name, add-names}
 use Rattle.paper.specs.Items.{Item, item, opens, raw-at, variable-at}
 use Rattle.paper.specs.Machine.{refuse, refused, step-act, left, bad, and-taken, step, go-on, read}
 use Rattle.paper.specs.Machine.{take as takes-item}
@@ -27,7 +27,7 @@ use Rattle.enter_scan.specs.declared.Item.{Item as Found}
 use Rattle.enter_scan.specs.declared.RawText.{RawText}
 use Rattle.names_numbered.specs.Answers.{Numbers}
 use Rattle.names_numbered.specs.declared.Numbered.{Numbered}
-use Rattle.enter_item.specs.Draft.{low, lows, written, after, draft}
+use Rattle.enter_item.specs.Draft.{lows, written, after, draft}
 use Rattle.enter_item.specs.DraftLaws.{still-more, still-none}
 use Rattle.enter_item.specs.ClassLaws.{own-of, statement-by-class}
 use Rattle.enter_item.specs.Says.{Env, env, Mem, mem, spot, known, items-at, taken, item-of, Asks, Next, Wrote, VariableWritten}
