@@ -4,7 +4,7 @@ use mathlib.Core.Path.{_≡_}
 use mathlib.Core.Bool.{false}
 use mathlib.Core.List.{List}
 use lib.Dec.{eqb}
-use lib.ListN.{length}
+use lib.ListN.{length, drop}
 use lib.Seq.{sets}
 use Rattle.paper.specs.Bytes.{pick, blank?, run}
 use Rattle.paper.specs.Tokens.{Token}
@@ -13,8 +13,16 @@ use Rattle.paper.specs.Line.{line-bytes}
 use Rattle.paper.specs.Calls.{Translated, tokens, refused-at, translate, Head, numbered, too-great, no-digit, head-of}
 use Rattle.laws.specs.Names.{names-added}
 use Rattle.enter_item.specs.Draft.{written-line}
+use Rattle.enter_line.specs.declared.Head.{Head as Found}
+use Rattle.enter_line.specs.declared.Head.the-variants.{Numbered, TooGreat, NoDigit}
 use Rattle.enter_line.specs.declared.Reading.{Reading}
 use Rattle.enter_line.specs.declared.Reading.the-variants.{Read, Delete, Refused}
+
+-- what the reader of a line's number answers, as the definitions have it
+abbrev pub as-head : List ℕ → Found → Head
+as-head text (Numbered n p) = numbered n p (drop p text)
+as-head text TooGreat = too-great
+as-head text NoDigit = no-digit
 
 -- a translation over the names ks, of the line with number n
 unfoldable pub of-translated : List (List ℕ) → ℕ → Translated → Reading

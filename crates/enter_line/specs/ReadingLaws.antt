@@ -7,7 +7,7 @@ use mathlib.Core.List.{List, [], _∷_, _++_, append-nil}
 use lib.Dec.{eqb, leb}
 use borrow.Author.Tests.{eq-eqb, ne-eqb, le-leb, lt-leb, leb-true, leb-false}
 use native.Mathlib.Nat.{mod-eq-of-lt, div-add-mod}
-use lib.ListN.{length, take, drop, getD, set}
+use lib.ListN.{length, take, drop, getD, set, length-drop}
 use lib.Seq.{sets, drop-drop, drop-cons, drop-append-seam}
 use Rattle.paper.specs.Bytes.{pick, digit?, blank?, run}
 use Rattle.paper.specs.Tokens.{Token}
@@ -20,6 +20,7 @@ use Rattle.paper.specs.Line.{line-bytes, lawful-number?}
 use Rattle.paper.specs.WellFormed.{tokens-of}
 use Rattle.paper.specs.Calls.{tokens, refused-at, place-of, outcome, translate, numbered, too-great, no-digit, head-of}
 use Rattle.laws.specs.Names.{names-added, closed?}
+use Rattle.buffers.specs.Runs.{run-within}
 use Rattle.buffers.specs.Sets.{front}
 use Rattle.enter_item.specs.Draft.{low, with-offsets, written-line}
 use Rattle.enter_item.specs.DraftLaws.{line-size}
@@ -28,7 +29,9 @@ use Rattle.enter_item.specs.declared.Spot.{Spot}
 use Rattle.enter_statement.specs.Ends.{Halts}
 use Rattle.enter_line.specs.Lines.{Finishes}
 use Rattle.enter_line.specs.LineLaws.{sets-set}
-use Rattle.enter_line.specs.Reading.{of-translated, of-head, reading, Accepted, Told, Capped}
+use Rattle.enter_line.specs.Reading.{as-head, of-translated, of-head, reading, Accepted, Told, Capped}
+use Rattle.enter_line.specs.declared.Head.{Head as Found}
+use Rattle.enter_line.specs.declared.Head.the-variants.{Numbered}
 use Rattle.enter_line.specs.declared.Reading.the-variants.{Read, Delete, Refused}
 
 -- ---- the number
@@ -92,13 +95,42 @@ module _ (text : List ℕ) (b e : ℕ) (blanks : b ≡ run blank? text) (digits 
       ∙ ap (λ (l : List ℕ). numbered n (b + run digit? (drop b text)) l) (drop-drop (run digit? (drop b text)) b text)
       ∙ ap (λ (x : ℕ). numbered n x (drop x text)) (sym digits))
 
--- ---- the answer
-
 no-number : {A : Type 0} {n p : ℕ} {rest : List ℕ} → no-digit ≡ numbered n p rest → A
 no-number e = let z : _≡_ {A = ℕ} 0 1 = cc in absurd (omega arith)
 
 no-great : {A : Type 0} {n p : ℕ} {rest : List ℕ} → too-great ≡ numbered n p rest → A
 no-great e = let z : _≡_ {A = ℕ} 0 1 = cc in absurd (omega arith)
+
+-- a line's number is lawful, and its digits end within the text
+pub numbered-within : {n p : ℕ} {rest : List ℕ} (text : List ℕ) → head-of text ≡ numbered n p rest → (n ≤ 32767) × (p ≤ length text)
+unfolding head-of lawful-number?
+numbered-within {n} {p} {rest} text h =
+    let t = drop (run blank? text) text in
+    let d = run digit? t in
+    let v = value 0 (take d t) in
+    go t (run blank? text) d v (eqb d 0) (leb v 32767) (run-within digit? t) (omega (arith, run-within blank? text, length-drop (run blank? text) text)) refl h
+  where
+    go : (t : List ℕ) (b d v : ℕ) (none small : Bool) → d ≤ length t → b + length t ≤ length text → leb v 32767 ≡ small
+        → pick none no-digit (pick small (numbered v (b + d) (drop d t)) too-great) ≡ numbered n p rest → (n ≤ 32767) × (p ≤ length text)
+    go t b d v true small k l e y = no-number y
+    go t b d v false false k l e y = no-great y
+    go t b d v false true k l e y =
+        let i : v ≡ n = cc in
+        let j : b + d ≡ p = cc in
+        (omega (arith, leb-true v 32767 e), omega arith)
+
+-- what the reader of the number tells of a numbered text
+pub head-numbered : {r : Found} {n p : ℕ} (text : List ℕ) → head-of text ≡ as-head text r → r ≡ Numbered n p → head-of text ≡ numbered n p (drop p text)
+head-numbered text h e = h ∙ ap (as-head text) e
+
+-- blanks alone stand after the number; more stands there
+pub blank-rest : {p e : ℕ} (text : List ℕ) → p ≤ length text → e ≡ p + run blank? (drop p text) → e ≡ length text → run blank? (drop p text) ≡ length (drop p text)
+blank-rest {p} text h a b = omega (arith, length-drop p text)
+
+pub more-rest : {p e : ℕ} (text : List ℕ) → p ≤ length text → e ≡ p + run blank? (drop p text) → (e ≡ length text → ⊥) → run blank? (drop p text) ≡ length (drop p text) → ⊥
+more-rest {p} text h a b z = b (omega (arith, length-drop p text))
+
+-- ---- the answer
 
 pub told-none : {ks : List (List ℕ)} {text line fresh line′ fresh′ : List ℕ} → head-of text ≡ no-digit → Told ks text line fresh line′ fresh′ (Refused 3 0)
 unfolding reading of-head

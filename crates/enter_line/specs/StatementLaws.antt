@@ -7,17 +7,17 @@ use mathlib.Core.List.{List, [], _∷_, append-nil}
 use lib.Dec.{eqb}
 use borrow.Author.Tests.{ne-eqb, eq-eqb, eqb-true, eqb-false}
 use lib.ListN.{length, take, drop, getD, set, length-drop}
-use lib.Seq.{sets, take-all, length-take-le}
+use lib.Seq.{sets, length-take-le}
 use Rattle.paper.specs.Bytes.{pick}
 use Rattle.paper.specs.Classes.{raw-end, raw-text, unfit, remark}
 use Rattle.paper.specs.Tokens.{Token, statement, assigned, operator, raw, unreadable, class}
-use Rattle.paper.specs.Names.{number-of, add-name, add-names}
+use Rattle.paper.specs.Names.{add-name, add-names}
 use Rattle.paper.specs.Items.{Item, item, opens, raw-at, variable-at}
 use Rattle.paper.specs.Machine.{refuse, refused, step-act, left, bad, and-taken, step, go-on, read}
 use Rattle.paper.specs.Machine.{take as takes-item}
 use Rattle.paper.specs.Frames.{want-statement, want-raw-text, want-raw-end}
 use Rattle.paper.specs.Grammar.{Gives, itself, given, look, look-in-range}
-use Rattle.paper.specs.Line.{begins?}
+use Rattle.paper.specs.Line.{variable-bytes, begins?}
 use Rattle.paper.specs.WellFormed.{tokens-of}
 use Rattle.paper.specs.Open.{all-Bytes, all-Words, all-Tokens}
 use Rattle.enter_scan.specs.Sees.{Sees, token-at}
@@ -27,10 +27,10 @@ use Rattle.enter_scan.specs.declared.Item.{Item as Found}
 use Rattle.enter_scan.specs.declared.RawText.{RawText}
 use Rattle.names_numbered.specs.Answers.{Numbers}
 use Rattle.names_numbered.specs.declared.Numbered.{Numbered}
-use Rattle.enter_item.specs.Draft.{low, written, after, draft}
+use Rattle.enter_item.specs.Draft.{lows, written, after, draft}
 use Rattle.enter_item.specs.DraftLaws.{still-more, still-none}
 use Rattle.enter_item.specs.ClassLaws.{own-of, statement-by-class}
-use Rattle.enter_item.specs.Says.{Env, env, Mem, mem, spot, known, items-at, taken, item-of, Asks, Next, Wrote}
+use Rattle.enter_item.specs.Says.{Env, env, Mem, mem, spot, known, items-at, taken, item-of, Asks, Next, Wrote, VariableWritten}
 use Rattle.enter_item.specs.Laws.{wrote-then, row-take, row-refuse}
 use Rattle.enter_item.specs.TookLaws.{wrote-bytes, asks-after, one-byte, no-name, no-start}
 use Rattle.enter_item.specs.SeesLaws.{next-of}
@@ -192,33 +192,36 @@ unfolding begins?
 name-begins t n e = ap begins? e
 
 -- a variable: LET without the word
-pub began-name : {s names : List ℕ} {o : ℕ} {q : Spot} {m : Mem} {it : Found} {r : Numbered} {b : ℕ} {l₁ l₂ new fresh : List ℕ} → Asks (env s o names) q m → Sees s (q .at) true it → 8 ≤ class (token-at s true it)
-    → class (token-at s true it) ≤ 10 → Numbers (known (env s o names) q m) (spelling s it) (m .fresh) (q .named) r fresh → b ≡ low (0x80 + r .number)
-    → l₁ ≡ set (m .line) (q .written) 0 → l₂ ≡ set l₁ (q .written + 1) 0x36 → new ≡ set l₂ (q .written + 2) b
-    → Began (env s o names) q m (token-at s true it) (it .end) (spot (it .end) (q .written + 3) (r .size)) (mem new fresh)
+pub began-name : {s names : List ℕ} {o k : ℕ} {q : Spot} {m : Mem} {it : Found} {r : Numbered} {l₁ l₂ new fresh : List ℕ} → Asks (env s o names) q m → Sees s (q .at) true it → 8 ≤ class (token-at s true it)
+    → class (token-at s true it) ≤ 10 → Numbers (known (env s o names) q m) (spelling s it) (m .fresh) (q .named) r fresh
+    → l₁ ≡ set (m .line) (q .written) 0 → l₂ ≡ set l₁ (q .written + 1) 0x36 → VariableWritten (r .number) l₂ (q .written + 2) new k
+    → Began (env s o names) q m (token-at s true it) (it .end) (spot (it .end) (q .written + 2 + k) (r .size)) (mem new fresh)
 unfolding variable-at
-began-name {s} {names} {o} {q} {m} {it} {r} {b} {l₁} {l₂} {new} {fresh} g v lo hi d e p₁ p₂ p₃ =
+began-name {s} {names} {o} {k} {q} {m} {it} {r} {l₁} {l₂} {new} {fresh} g v lo hi d p₁ p₂ w =
     let E = env s o names in
     let n = spelling s it in
     let x = name-facts (record { at = q .at; first = true; sees = v; least = omega arith; most = hi }) in
     let ks = known E q m in
-    let u : b ≡ low (0x80 + number-of ks n) = e ∙ ap (λ (k : ℕ). low (0x80 + k)) (d .number) in
+    let token = lows (variable-bytes ks n) in
+    let bs : List ℕ = 0 ∷ 0x36 ∷ token in
+    let size : q .written + 2 + k ≡ q .written + length bs = omega (arith, w .size ks n (d .number)) in
     let t : token-at s true it ≡ assigned n = x .token in
-    let dr : draft ks (token-at s true it ∷ []) ≡ 0 ∷ 0x36 ∷ b ∷ [] = ap (λ (z : Token). draft ks (z ∷ [])) t ∙ assigned-draft ks n b u in
+    let dr : draft ks (token-at s true it ∷ []) ≡ bs = ap (λ (z : Token). draft ks (z ∷ [])) t ∙ assigned-draft ks n in
     let af : after ks (token-at s true it) ≡ add-name ks n = ap (after ks) t ∙ assigned-after ks n in
     let sz : length n ≤ 2 * it .end - 2 * q .at = omega (arith, x .short, x .some, v .after, v .spans) in
-    let fw : length (0 ∷ 0x36 ∷ b ∷ []) ≤ 7 * it .end - 7 * q .at = omega (arith, x .some, v .after, v .spans) in
+    let fw : length bs ≤ 7 * it .end - 7 * q .at = omega (arith, x .some, v .after, v .spans, w .size ks n (d .number), w .few) in
     let lt : q .at ≤ it .end = omega (arith, v .after, v .spans) in
     let w1 : q .written + 1 ≡ suc (q .written) = omega arith in
     let w2 : q .written + 2 ≡ suc (suc (q .written)) = omega arith in
-    let w : new ≡ sets (m .line) (q .written) (0 ∷ 0x36 ∷ b ∷ []) =
-    p₃ ∙ ap (λ (y : List ℕ). set y (q .written + 2) b) (p₂ ∙ ap (λ (y : List ℕ). set y (q .written + 1) 0x36) p₁)
-    ∙ ap (λ (k : ℕ). set (set (set (m .line) (q .written) 0) (q .written + 1) 0x36) k b) w2
-    ∙ ap (λ (k : ℕ). set (set (set (m .line) (q .written) 0) k 0x36) (suc (suc (q .written))) b) w1 in
+    let wrote : new ≡ sets (m .line) (q .written) bs =
+    w .line ks n (d .number) ∙ ap (λ (y : List ℕ). sets y (q .written + 2) token) (p₂ ∙ ap (λ (y : List ℕ). set y (q .written + 1) 0x36) p₁)
+    ∙ ap (λ (i : ℕ). sets (set (set (m .line) (q .written) 0) (q .written + 1) 0x36) i token) w2
+    ∙ ap (λ (i : ℕ). sets (set (set (m .line) (q .written) 0) i 0x36) (suc (suc (q .written))) token) w1 in
+    subst (λ (z : ℕ). Began E q m (token-at s true it) (it .end) (spot (it .end) z (r .size)) (mem new fresh)) (sym size)
     record {
-      wrote = wrote-name (token-at s true it) n (0 ∷ 0x36 ∷ b ∷ []) (it .end) g (x .plain) sz lt (v .within) af dr fw d w;
+      wrote = wrote-name (token-at s true it) n bs (it .end) g (x .plain) sz lt (v .within) af dr fw d wrote;
       begins = name-begins (token-at s true it) n t;
-      asks = asks-name (token-at s true it) n (0 ∷ 0x36 ∷ b ∷ []) (it .end) g (x .plain) sz lt (v .within) af dr fw d w;
+      asks = asks-name (token-at s true it) n bs (it .end) g (x .plain) sz lt (v .within) af dr fw d wrote;
       stands = refl;
     }
 

@@ -14,7 +14,8 @@ ghost use Prim.Native.Nat.{_-_, _≤_, _<_};
 ghost use lib.ListN.{length, take, drop};
 ghost use Rattle.paper.specs.Constants.{value};
 ghost use Rattle.paper.specs.Names.{names-in};
-ghost use Rattle.enter_line.specs.Reading.{Told, Capped};
+ghost use Rattle.paper.specs.Calls.{head-of};
+ghost use Rattle.enter_line.specs.Reading.{Told, Capped, as-head};
 
 // A line that was read: its number, how many bytes it has, and how many bytes the names new in it have.
 pub struct Line {
@@ -57,40 +58,60 @@ fn number_between(text: &[u8], from: usize, end: usize) -> usize
     number
 }
 
+// How a text begins: its number and the place past its digits; digits worth too much for a line; no digit.
+enum Head {
+    Numbered(usize, usize),
+    TooGreat,
+    NoDigit,
+}
+
+// The number is the digit run after blanks.
+fn head_of(text: &[u8]) -> Head
+    ensures { λ r. ⌜ head-of (now (text .entry)) ≡ as-head (now (text .entry)) r ⌝ }
+{
+    let from = run_end(text, 0, Run::Blanks);
+    let end = run_end(text, from, Run::Digits);
+    if end == from {
+        return Head::NoDigit;
+    }
+    let number = number_between(text, from, end);
+    if GREATEST_NUMBER < number {
+        return Head::TooGreat;
+    }
+    Head::Numbered(number, end)
+}
+
 // Reads a text of at most 120 bytes over the first `size` bytes of a name table. An accepted line is written to the front of `line`, and the
 // names that are new in it to the front of `fresh`; what they hold after any other answer is scratch.
 pub fn read(text: &[u8], names: &[u8], size: usize, line: &mut [u8], fresh: &mut [u8]) -> Reading
     requires { ⌜ (length (now text) ≤ 120) × (size ≤ length (now names)) × (240 ≤ length (now fresh)) ⌝ }
     ensures { λ r. ⌜ Told (names-in (take size (now (names .entry)))) (now (text .entry)) (now (line .entry)) (now (fresh .entry)) (now (line .exit)) (now (fresh .exit)) r ⌝ }
 {
-    let from = run_end(text, 0, Run::Blanks);
-    let end = run_end(text, from, Run::Digits);
-    if end == from {
-        return Reading::Refused(3, 0);
-    }
-    let number = number_between(text, from, end);
-    if GREATEST_NUMBER < number {
-        return Reading::Refused(3, 0);
-    }
-    if run_end(text, end, Run::Blanks) == text.len() {
-        return Reading::Delete(number);
-    }
-    put(line, 0, low_byte(number));
-    put(line, 1, low_byte(number / 256));
-    let start = Spot {
-        at: end,
-        written: 3,
-        named: 0,
-    };
-    match statements(text, start, line, &names[..size], fresh) {
-        Step::Done(p) => {
-            put(line, 2, low_byte(p.written));
-            Reading::Read(Line {
-                number,
-                size: p.written,
-                named: p.named,
-            })
+    match head_of(text) {
+        Head::Numbered(number, end) => {
+            if run_end(text, end, Run::Blanks) == text.len() {
+                return Reading::Delete(number);
+            }
+            put(line, 0, low_byte(number));
+            put(line, 1, low_byte(number / 256));
+            let start = Spot {
+                at: end,
+                written: 3,
+                named: 0,
+            };
+            match statements(text, start, line, &names[..size], fresh) {
+                Step::Done(p) => {
+                    put(line, 2, low_byte(p.written));
+                    Reading::Read(Line {
+                        number,
+                        size: p.written,
+                        named: p.named,
+                    })
+                }
+                Step::Refused(k, p) => Reading::Refused(k, p),
+            }
         }
-        Step::Refused(k, p) => Reading::Refused(k, p),
+        Head::TooGreat => Reading::Refused(3, 0),
+        Head::NoDigit => Reading::Refused(3, 0),
     }
 }

@@ -3,7 +3,7 @@ use enter_item::Spot;
 use enter_item::Step;
 use enter_item::name_number;
 use enter_item::see;
-use enter_item::variable_token;
+use enter_item::write_variable;
 use enter_scan::Item;
 use enter_statement::DEEPEST;
 use enter_statement::Ended;
@@ -108,10 +108,10 @@ fn begin(
     if found < class::REMARK {
         let number = name_number(text, it, names, fresh, q.named);
         buffers::put(line, written + 1, StatementToken::LET_WITHOUT_WORD.0);
-        buffers::put(line, written + 2, variable_token(number.number));
+        let size = write_variable(line, written + 2, number.number);
         Spot {
             at: end,
-            written: written + 3,
+            written: written + 2 + size,
             named: number.size,
         }
     } else {
