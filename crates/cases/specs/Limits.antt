@@ -378,24 +378,7 @@ of-the-greatest-store =
     ∷ refuses (bytes "300") (over [] 0 0 (nearly-full ++ hex "01 01 07 07 00 58 9B") 65536) 1 0
     ∷ []
 
--- ---- the definitions give the answers
-
-pub limits : failing 0 (of-texts ++ of-rooms ++ of-pairs) ≡ []
-unfolding everything refuses lists-not over storing roomy ten-end remark padded ones one-tokens of-texts of-rooms unsound not-well-formed of-pairs same-state meets failing
+-- the definitions give the answer of each of them
+pub limits : failing 0 (of-texts ++ of-rooms ++ of-pairs ++ of-names ++ of-stores ++ of-lines ++ of-many-names ++ of-the-greatest-store) ≡ []
+unfolding everything refuses lists-not over storing roomy naming ten-end remark padded ones one-tokens two-byte-names long-lines of-texts of-rooms unsound not-well-formed of-pairs of-names of-stores line-lists line-not of-lines of-many-names nearly-full of-the-greatest-store same-state meets failing
 limits = refl
-
-pub tables : failing 0 (of-names ++ of-stores) ≡ []
-unfolding everything refuses lists-not over storing naming ten-end of-names of-stores same-state meets failing
-tables = refl
-
-pub lines : failing 0 of-lines ≡ []
-unfolding everything lists-not over line-lists line-not of-lines same-state meets failing
-lines = refl
-
-pub many-names : failing 0 of-many-names ≡ []
-unfolding everything refuses over two-byte-names of-many-names same-state meets failing
-many-names = refl
-
-pub the-greatest-store : failing 0 of-the-greatest-store ≡ []
-unfolding everything refuses over long-lines nearly-full of-the-greatest-store same-state meets failing
-the-greatest-store = refl
