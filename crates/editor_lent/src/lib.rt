@@ -1,13 +1,12 @@
-// The calls with the editor's record lent: a text entered, where the record is updated, and a stored line listed. Beside each a function that
-// lends a copy of its own, so that its callers need no lent record.
+// The calls with the editor's record lent: a text entered, where the record is updated, and a stored line listed. Beside the second a function
+// that lends a copy of its own, so that its callers need no lent record.
 use editor::enter;
 use editor::list;
 use editor_edit::Editor;
-use editor_edit::Entered;
 use editor_list::Listed;
 ghost use mathlib.Core.Path.{_≡_};
 ghost use Rattle.paper.specs.Calls.{enter as enter-call, list as list-call};
-ghost use Rattle.editor_edit.specs.States.{state, entered};
+ghost use Rattle.editor_edit.specs.States.{state};
 ghost use Rattle.editor_list.specs.Answers.{listed};
 ghost use Rattle.editor_lent.specs.Answers.{answered};
 
@@ -34,26 +33,6 @@ pub fn enter_lent(
         number: r.number,
         place: r.place,
         added: r.added,
-    }
-}
-
-// Enters a text over a copy of a record, lent to `enter_lent`: the answer, with the record afterwards.
-pub fn enter_lending(
-    text: &[u8],
-    names: &mut [u8],
-    values: &mut [u8],
-    store: &mut [u8],
-    e: Editor,
-) -> Entered
-    ensures { λ r. ⌜ entered r (now (names .exit)) (now (values .exit)) (now (store .exit)) ≡ enter-call (now (text .entry)) (state (now (names .entry)) (now (values .entry)) (now (store .entry)) e) ⌝ }
-{
-    let mut record = e;
-    let a = enter_lent(text, names, values, store, &mut record);
-    Entered {
-        number: a.number,
-        place: a.place,
-        added: a.added,
-        editor: record,
     }
 }
 
