@@ -2,7 +2,8 @@
 --     Held             a slice at some bytes, with the token of its lifetime
 --     lends, back      it is lent for a lifetime of its own, and comes back with what the call left
 --     shares, unshares its first k bytes are lent as a `&[u8]`, and it comes back as it was
---     lends-record, record-back    a record in its cell is lent, and comes back
+--     lends-record, record-back    a record in its cell is lent, and comes back with what the call left
+--     shares-record, unshares-record    it is lent as a `&`, and comes back as it was
 -- All take `Given`.
 use mathlib.Core.Path.{_≡_, refl, sym, ap}
 use Prim.Native.Nat.{ℕ, _≤_}
@@ -17,15 +18,15 @@ use base.Logic.{SProp, ent, sep, ex, guard}
 use base.Fml.{Lft, GName, Share, Fml, fsep, flft, flent, fres, fat}
 use prog.Wp.{Heap}
 use ghost.Atoms.{Atoms, sem}
-use types.Kit.{Given, ‵, raw, _⊛_, some, later, given, _$_, _∵_, !, qed, move, use1, use2, use3, split, pick, learn, check, fsplit, fjoin, fpick, fpack, feqI, frame, await, updating, now as at-once, show, done}
-use types.Tokens.{lft-new, lft-end}
+use types.Kit.{Given, ‵, raw, _⊛_, some, later, given, _$_, _∵_, !, qed, move, keep, use1, use2, use3, split, pick, learn, check, fsplit, fjoin, fpick, fpack, feqI, frame, await, updating, now as at-once, show, done}
+use types.Tokens.{lft-new, lft-end, lent-back}
 use types.SemTy.{Body}
 use denote.Laws.{Is, shows}
 use denote.Memory.{mem, cellAt, partAt, partOf}
 use denote.Builtin.{u8}
-use denote.Ref.{RefT, MutRef}
+use denote.Ref.{RefT, MutRef, ShrRef}
 use denote.Slice.{sliceVal, MutSlice, ShrSlice, finally}
-use denote.Lend.{lends-ref, ref-back}
+use denote.Lend.{lends-ref, ref-back, lends-shr}
 use denote.Steps.{owned}
 use denote.Struct.Steps.{spelt}
 use denote.Struct.Laws as LL
@@ -109,3 +110,22 @@ module _ {M : Type 1} (𝓤 : URA M) (H : Heap 𝓤) (A : Atoms 𝓤) (W : Given
       use3 W (later (‵ (partAt T.the-row fullShare h l 0))) (ref-back 𝓤 H A W T.the-row (α ∷ []) δ h l 0) $ await ! tt $ at-once ! $ fpick ! (λ vs. fsplit ! $
       spelt ! T.the-row (Is T.the-row) (shows 𝓤 H A T.the-row) (LL.vals T.the-type T′.the-laws) (LL.tells T.the-type T′.the-laws) fullShare h vs l 0 $
       use1 W (‵ (fat fullShare T′.mir l 0 (T′.lowered h))) (W .laws .raw-at fullShare T′.mir l 0 (T′.lowered h)) $ frame ! $ done !)
+
+  abbrev pub SharedRecord : Lifetime → Editor → ℕ → GName → SProp 𝓤
+  SharedRecord ℓ h α δ = sep 𝓤 (A .lft (α ∷ []) fullShare) (sep 𝓤 (sem 𝓤 H A (ShrRef ℓ (α ∷ []) T.the-row .own (ref l δ h) (vptr l 0 ∷ []))) (A .lent (α ∷ []) (partAt T.the-row fullShare h l 0)))
+
+  pub shares-record : (ℓ : Lifetime) (h : Editor) → Is T.the-row h (T′.lowered h ∷ []) → ent 𝓤 (H .at fullShare T′.mir l 0 (T′.lowered h)) (H .⇛ (ex 𝓤 (λ (α : ℕ). ex 𝓤 (λ (δ : GName). SharedRecord ℓ h α δ))))
+  unfolding partOf
+  shares-record ℓ h is =
+      qed W (‵ (fat fullShare T′.mir l 0 (T′.lowered h)) ∷ []) ∵ updating ! $ owned ! T.the-row (Is T.the-row) ((LL.makes T.the-type T′.the-plain) 𝓤 H A) h _ is $ move ! (1 ∷ 0 ∷ []) $
+      use1 W (‵ (cellAt fullShare (T.the-row .mir) (T′.lowered h ∷ []) l 0)) (W .laws .at-raw fullShare T′.mir l 0 (T′.lowered h)) $ fjoin ! $
+      fpack ! (List Val) (λ vs. fsep (cellAt fullShare (T.the-row .mir) vs l 0) (T.the-row .own h vs)) (T′.lowered h ∷ []) $ lft-new ! tt (λ α. move ! (1 ∷ []) $
+      use1 W (later (some (λ (δ : GName). ‵ (ShrRef ℓ (α ∷ []) T.the-row .own (ref l δ h) (vptr l 0 ∷ [])) ⊛ ‵ (flent (α ∷ []) (partAt T.the-row fullShare h l 0))))) (lends-shr 𝓤 H A W T.the-row ℓ (α ∷ []) fullShare h l 0) $ await ! tt $ pick ! (λ δ. split ! $
+      move ! (2 ∷ 0 ∷ 1 ∷ []) $ at-once ! $ show ! (λ (α′ : ℕ). ex 𝓤 (λ (δ′ : GName). SharedRecord ℓ h α′ δ′)) α $ show ! (λ (δ′ : GName). SharedRecord ℓ h α δ′) δ $ done !))
+
+  pub unshares-record : (α : ℕ) (h : Editor) → ent 𝓤 (sep 𝓤 (A .lft (α ∷ []) fullShare) (A .lent (α ∷ []) (partAt T.the-row fullShare h l 0))) (H .⇛ (H .at fullShare T′.mir l 0 (T′.lowered h)))
+  unfolding partOf
+  unshares-record α h =
+      qed W (‵ (flft (α ∷ []) fullShare) ∷ ‵ (flent (α ∷ []) (partAt T.the-row fullShare h l 0)) ∷ []) ∵ updating ! $ lft-end ! tt $ lent-back ! tt $ at-once ! $ fpick ! (λ vs. fsplit ! $
+      spelt ! T.the-row (Is T.the-row) (shows 𝓤 H A T.the-row) (LL.vals T.the-type T′.the-laws) (LL.tells T.the-type T′.the-laws) fullShare h vs l 0 $
+      use1 W (‵ (fat fullShare T′.mir l 0 (T′.lowered h))) (W .laws .raw-at fullShare T′.mir l 0 (T′.lowered h)) $ keep ! (0 ∷ []) $ done !)
