@@ -1,5 +1,4 @@
-// The calls with the editor's record lent: a text entered, where the record is updated, and a stored line listed. Beside the second a function
-// that lends a copy of its own, so that its callers need no lent record.
+// The calls with the editor's record lent: a text entered, where the record is updated, and a stored line listed.
 use editor::enter;
 use editor::list;
 use editor_edit::Editor;
@@ -48,18 +47,4 @@ pub fn list_lent(
     ensures { λ r. ⌜ listed r (now (out .exit)) ≡ list-call line (state (now (names .entry)) (now (values .entry)) (now (store .entry)) (now (e .entry))) (now (out .entry)) ⌝ }
 {
     list(line, names, values, store, *e, out)
-}
-
-// Lists the line with a number over a copy of a record, lent to `list_lent`.
-pub fn list_lending(
-    line: usize,
-    names: &[u8],
-    values: &[u8],
-    store: &[u8],
-    e: Editor,
-    out: &mut [u8],
-) -> Listed
-    ensures { λ r. ⌜ listed r (now (out .exit)) ≡ list-call line (state (now (names .entry)) (now (values .entry)) (now (store .entry)) e) (now (out .entry)) ⌝ }
-{
-    list_lent(line, names, values, store, &e, out)
 }

@@ -4,9 +4,9 @@
 --     At         the loop's invariant at such a state.        turns      a turn from it.        walk      the way to the loop
 -- Assumes nothing.
 use mathlib.Core.Path.{_≡_, refl, sym, ap, subst, _∙_}
-use Prim.Native.Nat.{ℕ, _-_, _≤_, _<_, _^_}
+use Prim.Native.Nat.{ℕ, _≤_, _<_}
 use native.Mathlib.Omega.{arith}
-use mathlib.Core.Bool.{Bool, true, false}
+use mathlib.Core.Bool.{true}
 use mathlib.Core.List.{[], _∷_, List}
 use mathlib.Core.WellFounded.{WellFounded, InvImage·wf}
 use lib.Dec.{T}
@@ -56,7 +56,7 @@ use Rattle.editor_edit.specs.declared.Editor.{Editor}
 use Rattle.editor_list.specs.Answers.{listed}
 use Rattle.editor_list.specs.declared.Listed.{Listed}
 use Rattle.desk.specs.declared.Stored.{Stored}
-use Rattle.desk.proofs.Held.{Slice, slice, Held, lends, back, shares, unshares, leaves, ref, shares-record, unshares-record}
+use Rattle.desk.proofs.Held.{Slice, slice, val, pointer, pointer-slice, reading, reading-slice, left, nearer, is-true, Held, lends, back, shares, unshares, leaves, ref, shares-record, unshares-record}
 use Rattle.editor_edit.proofs.Editor as T
 use Rattle.editor_edit.proofs.Editor.Laws as T′
 use Rattle.editor_list.proofs.Listed as R
@@ -100,30 +100,15 @@ stayed = (
   ),
 )
 
--- the types of the locals that are borrowed: the slices as they came, what is lent of them, and the record
+-- the types of locals that are borrowed: the slices as they came, and the record
 abbrev parameter : ℕ → Ty
 parameter k = sliceTy (tyRef (named k) mut (tyInt w8))
 
 abbrev reading-parameter : ℕ → Ty
 reading-parameter k = sliceTy (tyRef (named k) imm (tyInt w8))
 
-abbrev pointer : Ty
-pointer = tyRef erased mut (tyInt w8)
-
-abbrev pointer-slice : Ty
-pointer-slice = sliceTy pointer
-
-abbrev reading : Ty
-reading = tyRef erased imm (tyInt w8)
-
-abbrev reading-slice : Ty
-reading-slice = sliceTy reading
-
 abbrev record-pointer : Ty
 record-pointer = tyRef erased imm (pointee (T.the-row .written))
-
-abbrev val : Slice → Val
-val x = sliceVal (x .ptr) (length (x .now))
 
 pub record State (o : Slice) : Type 0 where
   pub line : Stored
@@ -136,16 +121,6 @@ kept-line r {vs} is = LL.owes L.the-type L′.the-laws r (LL.owed L.the-type L�
 
 whole-length : {m n : ℕ} → n ≡ m → m ≤ n
 whole-length e = omega (arith, e)
-
-is-true : (x : Bool) → T x → x ≡ true
-is-true true h = refl
-is-true false h = absurd h
-
-abbrev left : ℕ → ℕ
-left n = 18446744073709551616 - n
-
-nearer : {m n : ℕ} → m < n → n < 2 ^ 64 → left n < left m
-nearer h k = omega (arith, h, k)
 
 module _ {M : Type 1} (𝓤 : URA M) (H : Heap 𝓤) (A : Atoms 𝓤) (mem : Memory → SProp 𝓤) (run : Routine → Fun 𝓤) where
   -- the contracts that the proof cites
