@@ -9,6 +9,7 @@ use editor_edit::Editor;
 use editor_edit::empty;
 use editor_lent::Answer;
 use editor_lent::enter_lent;
+use editor_lent::list_lent;
 ghost use Prim.Native.Nat.{_≤_, _<_};
 ghost use mathlib.Core.Path.{_≡_};
 ghost use mathlib.Core.Bool.{true};
@@ -114,34 +115,75 @@ fn wide(b: u8) -> usize
     b as usize
 }
 
-// Prints the listing of the stored line with a number.
-fn list_line(number: usize, names: &[u8], values: &[u8], store: &[u8], record: Editor) {
-    let mut out = [0u8; 1024];
-    let r = editor_lent::list_lending(number, names, values, store, record, &mut out);
+// A stored line to list: whether there is one, its number, and the place after it.
+struct Stored {
+    there: bool,
+    number: usize,
+    next: usize,
+}
+
+// What stands before the first line.
+fn before() -> Stored {
+    Stored {
+        there: true,
+        number: 0,
+        next: 0,
+    }
+}
+
+// The line at a place of a store of which so many bytes are used.
+fn stored_at(at: usize, used: usize, store: &[u8]) -> Stored
+    ensures { λ r. ⌜ (r .there ≡ true → at < r .next) ⌝ }
+{
+    if at < least(used, 65535) {
+        let size = wide(byte_at(store, at + 2));
+        if 0 < size {
+            return Stored {
+                there: true,
+                number: wide(byte_at(store, at)) + 256 * wide(byte_at(store, at + 1)),
+                next: at + size,
+            };
+        }
+    }
+    Stored {
+        there: false,
+        number: 0,
+        next: at,
+    }
+}
+
+// Prints the listing of a line, so many bytes at the front of a buffer.
+fn print_listed(out: &[u8], written: usize) {
     print(b"L\t");
-    print(front(&out, r.written));
+    print(front(out, written));
     print(b"\n");
 }
 
-// Prints the listing of every stored line, in order.
-fn list_all(names: &[u8], values: &[u8], store: &[u8], record: Editor) {
-    let end = least(record.used, 65535);
-    let mut at: usize = 0;
-    while at < end {
-        let number = wide(byte_at(store, at)) + 256 * wide(byte_at(store, at + 1));
-        list_line(number, names, values, store, record);
-        let length = wide(byte_at(store, at + 2));
-        if length == 0 {
+// Prints the listing of every stored line, in order. The record is lent to each call.
+fn list_all(names: &[u8], values: &[u8], store: &[u8], out: &mut [u8], record: Editor) {
+    let mut line = before();
+    loop {
+        line = stored_at(line.next, record.used, store);
+        if line.there {
+            let listed = list_lent(line.number, names, values, store, &record, out);
+            print_listed(out, listed.written);
+        } else {
             return;
         }
-        at += length;
     }
 }
 
 // Enters all input and lists what is stored then.
-fn run(buffer: &mut [u8], text: &mut [u8], names: &mut [u8], values: &mut [u8], store: &mut [u8]) {
+fn run(
+    buffer: &mut [u8],
+    text: &mut [u8],
+    names: &mut [u8],
+    values: &mut [u8],
+    store: &mut [u8],
+    out: &mut [u8],
+) {
     let record = enter_all(buffer, text, names, values, store);
-    list_all(names, values, store, record);
+    list_all(names, values, store, out, record);
 }
 
 fn main() {
@@ -150,5 +192,13 @@ fn main() {
     let mut names = [0u8; 2048];
     let mut values = [0u8; 1024];
     let mut store = [0u8; 32768];
-    run(&mut buffer, &mut text, &mut names, &mut values, &mut store);
+    let mut out = [0u8; 1024];
+    run(
+        &mut buffer,
+        &mut text,
+        &mut names,
+        &mut values,
+        &mut store,
+        &mut out,
+    );
 }

@@ -1,13 +1,11 @@
-// The calls with the editor's record lent: a text entered, where the record is updated, and a stored line listed. Beside each a function that
-// lends a copy of its own, so that its callers need no lent record.
+// The calls with the editor's record lent: a text entered, where the record is updated, and a stored line listed.
 use editor::enter;
 use editor::list;
 use editor_edit::Editor;
-use editor_edit::Entered;
 use editor_list::Listed;
 ghost use mathlib.Core.Path.{_≡_};
 ghost use Rattle.paper.specs.Calls.{enter as enter-call, list as list-call};
-ghost use Rattle.editor_edit.specs.States.{state, entered};
+ghost use Rattle.editor_edit.specs.States.{state};
 ghost use Rattle.editor_list.specs.Answers.{listed};
 ghost use Rattle.editor_lent.specs.Answers.{answered};
 
@@ -37,26 +35,6 @@ pub fn enter_lent(
     }
 }
 
-// Enters a text over a copy of a record, lent to `enter_lent`: the answer, with the record afterwards.
-pub fn enter_lending(
-    text: &[u8],
-    names: &mut [u8],
-    values: &mut [u8],
-    store: &mut [u8],
-    e: Editor,
-) -> Entered
-    ensures { λ r. ⌜ entered r (now (names .exit)) (now (values .exit)) (now (store .exit)) ≡ enter-call (now (text .entry)) (state (now (names .entry)) (now (values .entry)) (now (store .entry)) e) ⌝ }
-{
-    let mut record = e;
-    let a = enter_lent(text, names, values, store, &mut record);
-    Entered {
-        number: a.number,
-        place: a.place,
-        added: a.added,
-        editor: record,
-    }
-}
-
 // Lists the line with a number as `list` does, over a lent record.
 pub fn list_lent(
     line: usize,
@@ -69,18 +47,4 @@ pub fn list_lent(
     ensures { λ r. ⌜ listed r (now (out .exit)) ≡ list-call line (state (now (names .entry)) (now (values .entry)) (now (store .entry)) (now (e .entry))) (now (out .entry)) ⌝ }
 {
     list(line, names, values, store, *e, out)
-}
-
-// Lists the line with a number over a copy of a record, lent to `list_lent`.
-pub fn list_lending(
-    line: usize,
-    names: &[u8],
-    values: &[u8],
-    store: &[u8],
-    e: Editor,
-    out: &mut [u8],
-) -> Listed
-    ensures { λ r. ⌜ listed r (now (out .exit)) ≡ list-call line (state (now (names .entry)) (now (values .entry)) (now (store .entry)) e) (now (out .entry)) ⌝ }
-{
-    list_lent(line, names, values, store, &e, out)
 }
