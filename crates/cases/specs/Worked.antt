@@ -143,6 +143,11 @@ worked =
     ∷ refuses "10 A=1..2" 4 7
     ∷ refuses "10 A=B< =C" 4 8
     ∷ refuses "10 A=." 4 5
+    ∷ refuses "10 A=1E" 4 6
+    ∷ refuses "10 A=1E+" 4 6
+    ∷ refuses "10 A=1E 5" 4 6
+    ∷ stores "10 A=1E5+B" "0A 00 11 11 36 80 2D 0E 42 10 00 00 00 00 25 81 16" "C1 C2" "10 A=100000+B"
+    ∷ stores "10 A=1E-5" "0A 00 0F 0F 36 80 2D 0E 3D 10 00 00 00 00 16" "C1" "10 A=1E-05"
     ∷ refuses "10 A=1E5E5" 4 8
     ∷ refuses "10 A=1E005" 4 9
     ∷ refuses "10:" 4 2
