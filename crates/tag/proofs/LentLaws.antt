@@ -12,9 +12,9 @@ use Rattle.paper.specs.Calls.{Entered as Outcome, Listed as Written-out}
 use Rattle.editor_edit.specs.declared.Editor.{Editor}
 use Rattle.editor_edit.specs.declared.Entered.{Entered}
 use Rattle.editor_list.specs.declared.Listed.{Listed}
-use Rattle.editor_edit.specs.States.{state, entered}
-use Rattle.editor_list.specs.Answers.{listed}
-use Rattle.tag.specs.Lent.{editor-of, counts, entered-numbers, listed-numbers, enter-lent, list-lent, Leaves, Lists}
+use Rattle.editor_edit.specs.States.{state, entered, refusing}
+use Rattle.editor_list.specs.Answers.{unlisted, listed}
+use Rattle.tag.specs.Lent.{editor-of, counts, entered-numbers, listed-numbers, enter-by-counts, list-by-counts, Leaves, Lists}
 
 -- numbers put at the front, one by one
 pub two-put : (s s₁ s₂ : List ℕ) (a b : ℕ) → s₁ ≡ set s 0 a → s₂ ≡ set s₁ 1 b → s₂ ≡ sets s 0 (a ∷ b ∷ [])
@@ -33,14 +33,15 @@ read-so r u n b p q t = rw (p, q, t)
 
 module _ (text names values store r : List ℕ) (e : Editor) (so : e ≡ editor-of r) where
   -- a record that lacks a count
-  pub enter-lacking : length r < 3 → entered (record { number = 1; place = 0; added = 0; editor = e }) names values store ≡ enter-lent text names values store r
+  pub enter-lacking : (x : Entered) → x ≡ refusing 1 0 e → length r < 3 → entered x names values store ≡ enter-by-counts text names values store r
   unfolding refusal
-  enter-lacking h =
-      ap (λ (x : Editor). refusal 1 0 (state names values store x)) so
+  enter-lacking x given h =
+      ap (λ (y : Entered). entered y names values store) given
+      ∙ ap (λ (y : Editor). refusal 1 0 (state names values store y)) so
       ∙ ap (λ (t : Bool). pick t (refusal 1 0 (state names values store (editor-of r))) (enter text (state names values store (editor-of r)))) (sym (lt-ltb (length r) 3 h))
 
   -- a record that has them all
-  pub enter-counted : (o : Outcome) → 3 ≤ length r → o ≡ enter text (state names values store e) → o ≡ enter-lent text names values store r
+  pub enter-counted : (o : Outcome) → 3 ≤ length r → o ≡ enter text (state names values store e) → o ≡ enter-by-counts text names values store r
   enter-counted o h given =
       given
       ∙ ap (λ (x : Editor). enter text (state names values store x)) so
@@ -48,14 +49,15 @@ module _ (text names values store r : List ℕ) (e : Editor) (so : e ≡ editor-
 
 module _ (line : ℕ) (names values store r output : List ℕ) where
   -- a record that lacks a count
-  pub list-lacking : length r < 3 → listed (record { number = 1; written = 0 }) output ≡ list-lent line names values store r output
+  pub list-lacking : (x : Listed) → x ≡ unlisted 1 → length r < 3 → listed x output ≡ list-by-counts line names values store r output
   unfolding not-listed
-  list-lacking h =
-      ap (λ (t : Bool). pick t (not-listed 1 output) (list line (state names values store (editor-of r)) output)) (sym (lt-ltb (length r) 3 h))
+  list-lacking x given h =
+      ap (λ (y : Listed). listed y output) given
+      ∙ ap (λ (t : Bool). pick t (not-listed 1 output) (list line (state names values store (editor-of r)) output)) (sym (lt-ltb (length r) 3 h))
 
   -- a record that has them all
   pub list-counted : (e : Editor) → e ≡ editor-of r → (o : Written-out) → 3 ≤ length r → o ≡ list line (state names values store e) output
-      → o ≡ list-lent line names values store r output
+      → o ≡ list-by-counts line names values store r output
   list-counted e so o h given =
       given
       ∙ ap (λ (x : Editor). list line (state names values store x) output) so

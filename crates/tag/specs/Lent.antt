@@ -28,14 +28,14 @@ abbrev pub listed-numbers : Written-out → List ℕ
 listed-numbers o = o .number ∷ o .written ∷ []
 
 -- a text entered: a record that lacks a count is refused with 1
-abbrev pub enter-lent : List ℕ → List ℕ → List ℕ → List ℕ → List ℕ → Outcome
-enter-lent text names values store r =
+abbrev pub enter-by-counts : List ℕ → List ℕ → List ℕ → List ℕ → List ℕ → Outcome
+enter-by-counts text names values store r =
     let s = state names values store (editor-of r) in
     pick (ltb (length r) 3) (refusal 1 0 s) (enter text s)
 
 -- a line listed: a record that lacks a count is refused with 1
-abbrev pub list-lent : ℕ → List ℕ → List ℕ → List ℕ → List ℕ → List ℕ → Written-out
-list-lent line names values store r output =
+abbrev pub list-by-counts : ℕ → List ℕ → List ℕ → List ℕ → List ℕ → List ℕ → Written-out
+list-by-counts line names values store r output =
     pick (ltb (length r) 3) (not-listed 1 output) (list line (state names values store (editor-of r)) output)
 
 -- Entering left names, values, store, record and answer so: as the outcome says. The record's counts and the answer's numbers stand at the front,

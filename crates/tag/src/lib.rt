@@ -1,14 +1,16 @@
 // The two calls for programs in C, over numbers and lent slices, as include/virgontey.h declares them.
 use editor_edit::Editor;
 use editor_edit::Entered;
+use editor_edit::refused;
 use editor_list::Listed;
+use editor_list::not_listed;
 ghost use mathlib.Core.Path.{_≡_};
 ghost use mathlib.Core.List.{[], _∷_};
 ghost use lib.ListN.{getD, set};
 ghost use lib.Seq.{sets};
 ghost use Rattle.editor_edit.specs.States.{entered};
 ghost use Rattle.editor_list.specs.Answers.{listed};
-ghost use Rattle.tag.specs.Lent.{editor-of, enter-lent, list-lent, Leaves, Lists};
+ghost use Rattle.tag.specs.Lent.{editor-of, enter-by-counts, list-by-counts, Leaves, Lists};
 
 // How many counts a record has.
 const COUNTS: usize = 3;
@@ -69,29 +71,24 @@ fn write_listed(answer: &mut [usize], r: Listed)
 }
 
 // Enters a text, or refuses it with 1 where the record lacks a count.
-fn enter_lent(
+fn enter_by_counts(
     text: &[u8],
     names: &mut [u8],
     values: &mut [u8],
     store: &mut [u8],
     record: &[usize],
 ) -> Entered
-    ensures { λ r. ⌜ entered r (now (names .exit)) (now (values .exit)) (now (store .exit)) ≡ enter-lent (now (text .entry)) (now (names .entry)) (now (values .entry)) (now (store .entry)) (now («record» .entry)) ⌝ }
+    ensures { λ r. ⌜ entered r (now (names .exit)) (now (values .exit)) (now (store .exit)) ≡ enter-by-counts (now (text .entry)) (now (names .entry)) (now (values .entry)) (now (store .entry)) (now («record» .entry)) ⌝ }
 {
     let e = read_record(record);
     if record.len() < COUNTS {
-        return Entered {
-            number: 1,
-            place: 0,
-            added: 0,
-            editor: e,
-        };
+        return refused(1, 0, e);
     }
     editor::enter(text, names, values, store, e)
 }
 
 // Lists a line, or refuses with 1 where the record lacks a count.
-fn list_lent(
+fn list_by_counts(
     line: usize,
     names: &[u8],
     values: &[u8],
@@ -99,13 +96,10 @@ fn list_lent(
     record: &[usize],
     out: &mut [u8],
 ) -> Listed
-    ensures { λ r. ⌜ listed r (now (out .exit)) ≡ list-lent line (now (names .entry)) (now (values .entry)) (now (store .entry)) (now («record» .entry)) (now (out .entry)) ⌝ }
+    ensures { λ r. ⌜ listed r (now (out .exit)) ≡ list-by-counts line (now (names .entry)) (now (values .entry)) (now (store .entry)) (now («record» .entry)) (now (out .entry)) ⌝ }
 {
     if record.len() < COUNTS {
-        return Listed {
-            number: 1,
-            written: 0,
-        };
+        return not_listed(1);
     }
     editor::list(line, names, values, store, read_record(record), out)
 }
@@ -120,9 +114,9 @@ pub extern "C" fn virgontey_enter(
     record: &mut [usize],
     answer: &mut [usize],
 )
-    ensures { λ _. ⌜ Leaves (enter-lent (now (text .entry)) (now (names .entry)) (now (values .entry)) (now (store .entry)) (now («record» .entry))) (now («record» .entry)) (now (answer .entry)) (now (names .exit)) (now (values .exit)) (now (store .exit)) (now («record» .exit)) (now (answer .exit)) ⌝ }
+    ensures { λ _. ⌜ Leaves (enter-by-counts (now (text .entry)) (now (names .entry)) (now (values .entry)) (now (store .entry)) (now («record» .entry))) (now («record» .entry)) (now (answer .entry)) (now (names .exit)) (now (values .exit)) (now (store .exit)) (now («record» .exit)) (now (answer .exit)) ⌝ }
 {
-    let r = enter_lent(text, names, values, store, record);
+    let r = enter_by_counts(text, names, values, store, record);
     write_record(record, r.editor);
     write_entered(answer, r);
 }
@@ -138,8 +132,8 @@ pub extern "C" fn virgontey_list(
     out: &mut [u8],
     answer: &mut [usize],
 )
-    ensures { λ _. ⌜ Lists (list-lent line (now (names .entry)) (now (values .entry)) (now (store .entry)) (now («record» .entry)) (now (out .entry))) (now (answer .entry)) (now (out .exit)) (now (answer .exit)) ⌝ }
+    ensures { λ _. ⌜ Lists (list-by-counts line (now (names .entry)) (now (values .entry)) (now (store .entry)) (now («record» .entry)) (now (out .entry))) (now (answer .entry)) (now (out .exit)) (now (answer .exit)) ⌝ }
 {
-    let r = list_lent(line, names, values, store, record, out);
+    let r = list_by_counts(line, names, values, store, record, out);
     write_listed(answer, r);
 }

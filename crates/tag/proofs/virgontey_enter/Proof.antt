@@ -4,8 +4,8 @@ use borrow.Author.Needs.{needs}
 use Rattle.tag.proofs.virgontey_enter.Statement.{statement}
 use Rattle.tag.proofs.virgontey_enter.Tie as tie
 
-enter-lent-requires : tie.Need-enter-lent-requires
-enter-lent-requires c κs = search needs
+enter-by-counts-requires : tie.Need-enter-by-counts-requires
+enter-by-counts-requires c κs = search needs
 
 write-record-requires : tie.Need-write-record-requires
 write-record-requires c κs = search needs
@@ -29,13 +29,13 @@ same-length-5 : tie.Need-same-length-5
 same-length-5 c = search needs
 
 returns : tie.Need-returns
-returns c = leaves-so _ _ _ _ _ _ _ _ _ (c .before .before .before .before .before .before .before .before .before .before .before .before .before .before .enter-lent .ensures) (c .before .before .before .before .before .before .write-record .ensures) (c .before .before .write-entered .ensures)
+returns c = leaves-so _ _ _ _ _ _ _ _ _ (c .before .before .before .before .before .before .before .before .before .before .before .before .before .before .enter-by-counts .ensures) (c .before .before .before .before .before .before .write-record .ensures) (c .before .before .write-entered .ensures)
 
 pub virgontey-enter-spec : {M : Type 1} → statement M
 virgontey-enter-spec =
     tie.close
     (tie.spec
-    enter-lent-requires
+    enter-by-counts-requires
     write-record-requires
     write-entered-requires
     same-length

@@ -4,8 +4,8 @@ use borrow.Author.Needs.{needs}
 use Rattle.tag.proofs.virgontey_list.Statement.{statement}
 use Rattle.tag.proofs.virgontey_list.Tie as tie
 
-list-lent-requires : tie.Need-list-lent-requires
-list-lent-requires c κs = search needs
+list-by-counts-requires : tie.Need-list-by-counts-requires
+list-by-counts-requires c κs = search needs
 
 write-listed-requires : tie.Need-write-listed-requires
 write-listed-requires c κs = search needs
@@ -17,8 +17,8 @@ same-length-2 : tie.Need-same-length-2
 same-length-2 c = search needs
 
 returns : tie.Need-returns
-returns c = lists-so _ _ _ _ _ (c .before .before .before .before .before .before .list-lent .ensures) (c .before .before .write-listed .ensures)
+returns c = lists-so _ _ _ _ _ (c .before .before .before .before .before .before .list-by-counts .ensures) (c .before .before .write-listed .ensures)
 
 pub virgontey-list-spec : {M : Type 1} → statement M
 virgontey-list-spec =
-    tie.close (tie.spec list-lent-requires write-listed-requires same-length same-length-2 returns)
+    tie.close (tie.spec list-by-counts-requires write-listed-requires same-length same-length-2 returns)
