@@ -1,6 +1,6 @@
 // The desk program: enters each line of standard input and prints what each call answered, and then the listing of every stored line.
-use buffers::byte_at;
 use buffers::front;
+use buffers::lesser;
 use console::Input;
 use console::next_line;
 use console::print;
@@ -10,6 +10,7 @@ use editor_edit::empty;
 use editor_lent::Answer;
 use editor_lent::enter_lent;
 use editor_lent::list_lent;
+use store::heads;
 ghost use Prim.Native.Nat.{_≤_, _<_};
 ghost use mathlib.Core.Path.{_≡_};
 ghost use mathlib.Core.Bool.{true};
@@ -48,7 +49,7 @@ fn next(turn: Turn, buffer: &mut [u8], text: &mut [u8]) -> Turn
 {
     let line = next_line(turn.input, buffer, text);
     let count = turn.count;
-    let length = least(line.length, text.len());
+    let length = lesser(line.length, text.len());
     let input = line.input;
     if line.there {
         if count < usize::MAX {
@@ -101,20 +102,6 @@ fn enter_all(
     }
 }
 
-// The smaller of two numbers.
-fn least(a: usize, b: usize) -> usize
-    ensures { λ r. ⌜ r ≤ b ⌝ }
-{
-    if a < b { a } else { b }
-}
-
-// A byte as a larger number.
-fn wide(b: u8) -> usize
-    ensures { λ r. ⌜ r ≤ 255 ⌝ }
-{
-    b as usize
-}
-
 // A stored line to list: whether there is one, its number, and the place after it.
 struct Stored {
     there: bool,
@@ -135,12 +122,13 @@ fn before() -> Stored {
 fn stored_at(at: usize, used: usize, store: &[u8]) -> Stored
     ensures { λ r. ⌜ (r .there ≡ true → at < r .next) ⌝ }
 {
-    if at < least(used, 65535) {
-        let size = wide(byte_at(store, at + 2));
+    if at < lesser(used, store.len()) {
+        let line = &store[at..];
+        let size = lesser(heads::size(line), line.len());
         if 0 < size {
             return Stored {
                 there: true,
-                number: wide(byte_at(store, at)) + 256 * wide(byte_at(store, at + 1)),
+                number: heads::number(line),
                 next: at + size,
             };
         }

@@ -13,7 +13,7 @@ pub fn number(s: &[u8]) -> usize
 }
 
 // The length byte of the line that some bytes begin with.
-pub(crate) fn size(s: &[u8]) -> usize
+pub fn size(s: &[u8]) -> usize
     ensures { λ r. ⌜ r ≡ getD (now (s .entry)) 2 0 ⌝ }
 {
     buffers::byte_at(s, 2) as usize
