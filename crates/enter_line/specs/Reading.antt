@@ -52,8 +52,3 @@ pub record Told (ks : List (List ℕ)) (text line fresh line′ fresh′ : List 
   pub answer : r ≡ reading ks text
   pub accepted : (n p : ℕ) (rest : List ℕ) (ts : List Token) → head-of text ≡ numbered n p rest → eqb (run blank? rest) (length rest) ≡ false → translate p rest ≡ tokens ts
       → Accepted ks n ts line fresh line′ fresh′
-
--- a number as far as it can be a line's: itself, or any too great
-pub record Capped (v r : ℕ) : Type 0 where
-  pub small : v ≤ 32767 → r ≡ v
-  pub great : r ≤ 32767 → r ≡ v

@@ -1,14 +1,14 @@
 -- The answer to a text, from its head and from what the reader of statements tells.
-use Prim.Native.Nat.{ℕ, suc, _+_, _*_, _-_, _/_, _%_, _≤_, _<_}
+use Prim.Native.Nat.{ℕ, suc, _+_, _-_, _/_, _%_, _≤_, _<_}
 use native.Mathlib.Omega.{arith}
 use mathlib.Core.Path.{_≡_, refl, subst, sym, ap, _∙_}
 use mathlib.Core.Bool.{Bool, true, false}
-use mathlib.Core.List.{List, [], _∷_, _++_, append-nil}
+use mathlib.Core.List.{List, _++_, append-nil}
 use lib.Dec.{eqb, leb}
-use borrow.Author.Tests.{eq-eqb, ne-eqb, le-leb, lt-leb, leb-true, leb-false}
+use borrow.Author.Tests.{eq-eqb, ne-eqb, le-leb, lt-leb, leb-true}
 use native.Mathlib.Nat.{mod-eq-of-lt, div-add-mod}
-use lib.ListN.{length, take, drop, getD, set, length-drop}
-use lib.Seq.{sets, drop-drop, drop-cons, drop-append-seam}
+use lib.ListN.{length, take, drop, set, length-drop}
+use lib.Seq.{sets, drop-drop, drop-append-seam}
 use Rattle.paper.specs.Bytes.{pick, digit?, blank?, run}
 use Rattle.paper.specs.Tokens.{Token}
 use Rattle.paper.specs.Constants.{value}
@@ -29,38 +29,10 @@ use Rattle.enter_item.specs.declared.Spot.{Spot}
 use Rattle.enter_statement.specs.Ends.{Halts}
 use Rattle.enter_line.specs.Lines.{Finishes}
 use Rattle.enter_line.specs.LineLaws.{sets-set}
-use Rattle.enter_line.specs.Reading.{as-head, of-translated, of-head, reading, Accepted, Told, Capped}
+use Rattle.enter_line.specs.Reading.{as-head, of-translated, of-head, reading, Accepted, Told}
 use Rattle.enter_line.specs.declared.Head.{Head as Found}
 use Rattle.enter_line.specs.declared.Head.the-variants.{Numbered}
 use Rattle.enter_line.specs.declared.Reading.the-variants.{Read, Delete, Refused}
-
--- ---- the number
-
-value-grows : (a : ℕ) (ds : List ℕ) → a ≤ value a ds
-unfolding value
-value-grows a [] = omega arith
-value-grows a (d ∷ ds) = let h = value-grows (a * 10 + (d - 48)) ds in omega arith
-
--- one digit more
-pub value-step : (s : List ℕ) (i e v : ℕ) → i < e → e ≤ length s → value v (take (e - i) (drop i s)) ≡ value (v * 10 + (getD s i 0 - 48)) (take (e - (i + 1)) (drop (i + 1) s))
-unfolding value
-value-step s i e v h k =
-    let z : e - i ≡ suc (e - (i + 1)) = omega arith in
-    let y : suc i ≡ i + 1 = omega arith in
-    ap (λ (n : ℕ). value v (take n (drop i s))) z
-    ∙ ap (λ (l : List ℕ). value v (take (suc (e - (i + 1))) l)) (drop-cons s i 0 (omega arith))
-    ∙ ap (λ (n : ℕ). value (v * 10 + (getD s i 0 - 48)) (take (e - (i + 1)) (drop n s))) y
-
-pub value-end : (s : List ℕ) (i e v : ℕ) → e ≤ i → value v (take (e - i) (drop i s)) ≡ v
-unfolding value
-value-end s i e v h = let z : e - i ≡ 0 = omega arith in ap (λ (n : ℕ). value v (take n (drop i s))) z
-
-pub capped-whole : {v r : ℕ} → r ≡ v → Capped v r
-capped-whole e = record { small = λ h. e; great = λ h. e }
-
--- already too great
-pub capped-great : {v : ℕ} (r : ℕ) (ds : List ℕ) → v ≡ value r ds → 32767 < r → Capped v r
-capped-great {v} r ds e h = let g = value-grows r ds in record { small = λ k. absurd (omega arith); great = λ k. absurd (omega arith) }
 
 -- ---- the head
 
@@ -259,21 +231,6 @@ line-whole {l₁} {l₂} {l₃} {line′} {a} {b} {c} line names fresh text n e 
       cw ∙ sizes ks n us,
       aw,
     )
-
--- one digit more of a number
-pub value-next : {d b : ℕ} (v whole : ℕ) (s : List ℕ) (i e : ℕ) → whole ≡ value v (take (e - i) (drop i s)) → i < e → e ≤ length s → b ≡ getD s i 0 → d ≡ b - 48
-    → whole ≡ value (v * 10 + d) (take (e - (i + 1)) (drop (i + 1) s))
-value-next {d} {b} v whole s i e h k l p q =
-    let z : getD s i 0 - 48 ≡ d = omega arith in
-    h ∙ value-step s i e v k l ∙ ap (λ (x : ℕ). value (v * 10 + x) (take (e - (i + 1)) (drop (i + 1) s))) z
-
--- a number that was found too great is
-pub capped-above : {v r : ℕ} → Capped v r → 32767 < r → 32767 < v
-capped-above {v} {r} c h = go (leb v 32767) refl
-  where
-    go : (b : Bool) → leb v 32767 ≡ b → 32767 < v
-    go true e = let k = leb-true v 32767 e in absurd (omega (arith, c .small k))
-    go false e = leb-false v 32767 e
 
 -- the high byte of a line's number is a byte
 pub high-byte : (n : ℕ) → n ≤ 32767 → low (n / 256) ≡ n / 256

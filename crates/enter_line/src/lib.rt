@@ -2,7 +2,7 @@
 mod statements;
 
 use buffers::Run;
-use buffers::byte_at;
+use buffers::decimal;
 use buffers::put;
 use buffers::run_end;
 use enter_item::Spot;
@@ -11,11 +11,10 @@ use statements::low_byte;
 use statements::statements;
 ghost use mathlib.Core.Path.{_≡_};
 ghost use Prim.Native.Nat.{_-_, _≤_, _<_};
-ghost use lib.ListN.{length, take, drop};
-ghost use Rattle.paper.specs.Constants.{value};
+ghost use lib.ListN.{length, take};
 ghost use Rattle.paper.specs.Names.{names-in};
 ghost use Rattle.paper.specs.Calls.{head-of};
-ghost use Rattle.enter_line.specs.Reading.{Told, Capped, as-head};
+ghost use Rattle.enter_line.specs.Reading.{Told, as-head};
 
 // A line that was read: its number, how many bytes it has, and how many bytes the names new in it have.
 pub struct Line {
@@ -34,30 +33,6 @@ pub enum Reading {
 // The greatest number that a line may have.
 const GREATEST_NUMBER: usize = 32767;
 
-// The value of a digit, 0 of a byte below the digits.
-fn digit(b: u8) -> usize
-    ensures { λ r. ⌜ r ≡ b - 48 ⌝ }
-{
-    if 48 <= b { (b - 48) as usize } else { 0 }
-}
-
-// The number that digits of the text are, or any that is too great for a line if they are such a one.
-fn number_between(text: &[u8], from: usize, end: usize) -> usize
-    requires { ⌜ (from ≤ end) × (end ≤ length (now text)) ⌝ }
-    ensures { λ r. ⌜ Capped (value 0 (take (end - from) (drop from (now (text .entry))))) r ⌝ }
-{
-    let mut number: usize = 0;
-    let mut i = from;
-    while i < end {
-        number = number * 10 + digit(byte_at(text, i));
-        if GREATEST_NUMBER < number {
-            return number;
-        }
-        i += 1;
-    }
-    number
-}
-
 // How a text begins: its number and the place past its digits; digits worth too much for a line; no digit.
 enum Head {
     Numbered(usize, usize),
@@ -74,7 +49,7 @@ fn head_of(text: &[u8]) -> Head
     if end == from {
         return Head::NoDigit;
     }
-    let number = number_between(text, from, end);
+    let number = decimal(&text[from..end]);
     if GREATEST_NUMBER < number {
         return Head::TooGreat;
     }
