@@ -9,6 +9,7 @@ use enter_item::Spot;
 use enter_item::Step;
 use statements::low_byte;
 use statements::statements;
+use store::GREATEST_NUMBER;
 ghost use mathlib.Core.Path.{_≡_};
 ghost use Prim.Native.Nat.{_-_, _≤_, _<_};
 ghost use lib.ListN.{length, take};
@@ -29,9 +30,6 @@ pub enum Reading {
     Delete(usize),
     Refused(u8, usize),
 }
-
-// The greatest number that a line may have.
-const GREATEST_NUMBER: usize = 32767;
 
 // How a text begins: its number and the place past its digits; digits worth too much for a line; no digit.
 enum Head {

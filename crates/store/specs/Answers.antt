@@ -18,14 +18,9 @@ use Rattle.store.specs.declared.Removed.the-variants.{Done as Gone, NotT
 unfoldable pub place-of : ℕ → List (List ℕ) → Place
 place-of n ls = record { number = n; at = length (joined (lines-below n ls)); size = length (pick (stored? n ls) (line-at n ls) []) }
 
--- that place in a store that is sound
+-- that place in a store that is sound; document 01's 1 in any other
 unfoldable pub found-answer : List ℕ → ℕ → ℕ → Found
 found-answer store used n = let at = At (place-of n (lines-in (take used store))) in pick (sound-store store used) at Unsound
-
--- the number of document 01: 1 of a store that is not
-unfoldable pub found-number : Found → ℕ
-found-number Unsound = 1
-found-number (At p) = 0
 
 -- ---- putting a line in
 
@@ -33,7 +28,7 @@ found-number (At p) = 0
 unfoldable pub too-long : List ℕ → List (List ℕ) → Bool
 too-long store ls = ltb (room store) (length (joined ls))
 
--- the answer, by the lines that the store would hold
+-- the answer, by the lines that the store would hold: document 01's 8, or 0 and the bytes used
 unfoldable pub stored-answer : List ℕ → List (List ℕ) → Stored
 stored-answer store ls = pick (too-long store ls) NoRoom (Done (length (joined ls)))
 
@@ -41,32 +36,12 @@ stored-answer store ls = pick (too-long store ls) NoRoom (Done (length (joined l
 unfoldable pub stored-bytes : List ℕ → List (List ℕ) → List ℕ
 stored-bytes store ls = pick (too-long store ls) store (overwritten (joined ls) store)
 
--- the number of document 01
-unfoldable pub stored-number : Stored → ℕ
-stored-number (Done used) = 0
-stored-number NoRoom = 8
-
--- the bytes used afterwards, of those used before
-unfoldable pub stored-used : ℕ → Stored → ℕ
-stored-used before (Done used) = used
-stored-used before NoRoom = before
-
 -- ---- taking a line out
 
--- the answer for a line number
+-- the answer for a line number: 0 and the bytes used, or document 01's 9
 unfoldable pub removed-answer : ℕ → List (List ℕ) → Removed
 removed-answer n ls = pick (stored? n ls) (Gone (length (joined (take-out n ls)))) NotThere
 
 -- what the store then holds
 unfoldable pub removed-bytes : ℕ → List ℕ → List (List ℕ) → List ℕ
 removed-bytes n store ls = pick (stored? n ls) (overwritten (joined (take-out n ls)) store) store
-
--- the number of document 01
-unfoldable pub removed-number : Removed → ℕ
-removed-number (Gone used) = 0
-removed-number NotThere = 9
-
--- the bytes used afterwards, of those used before
-unfoldable pub removed-used : ℕ → Removed → ℕ
-removed-used before (Gone used) = used
-removed-used before NotThere = before

@@ -15,7 +15,7 @@ use Rattle.store.specs.declared.Place.{Place}
 use Rattle.store.specs.declared.Found.the-variants.{Unsound, At}
 use Rattle.store.specs.declared.Stored.the-variants.{Done, NoRoom}
 use Rattle.store.specs.declared.Removed.the-variants.{Done as Gone, NotThere}
-use Rattle.store.specs.Answers.{place-of, found-answer, found-number, too-long, stored-answer, stored-number, stored-used, removed-answer, removed-number, removed-used}
+use Rattle.store.specs.Answers.{place-of, found-answer, too-long, stored-answer, removed-answer}
 
 -- ---- the place of a number
 
@@ -134,55 +134,3 @@ not-there-go false m e = refl
 pub removed-not-there : (n : ℕ) (ls : List (List ℕ)) → removed-answer n ls ≡ NotThere → stored? n ls ≡ false
 unfolding removed-answer
 removed-not-there n ls e = not-there-go (stored? n ls) (length (joined (take-out n ls))) e
-
--- ---- answers, as the numbers and counts of document 01
-
-found-number-go : (b : Bool) (p : Place) → found-number (pick b (At p) Unsound) ≡ pick b 0 1
-unfolding found-number
-found-number-go true p = refl
-found-number-go false p = refl
-
--- 1 if the store is not sound
-pub found-number-is : (store : List ℕ) (used n : ℕ) → found-number (found-answer store used n) ≡ pick (sound-store store used) 0 1
-unfolding found-answer
-found-number-is store used n = found-number-go (sound-store store used) (place-of n (lines-in (take used store)))
-
-number-go : (b : Bool) (m : ℕ) → stored-number (pick b NoRoom (Done m)) ≡ pick b 8 0
-unfolding stored-number
-number-go true m = refl
-number-go false m = refl
-
--- 8 if the lines would pass the room
-pub stored-number-is : (store : List ℕ) (ls : List (List ℕ)) → stored-number (stored-answer store ls) ≡ pick (too-long store ls) 8 0
-unfolding stored-answer
-stored-number-is store ls = number-go (too-long store ls) (length (joined ls))
-
-used-go : (b : Bool) (used m : ℕ) → stored-used used (pick b NoRoom (Done m)) ≡ pick b used m
-unfolding stored-used
-used-go true used m = refl
-used-go false used m = refl
-
--- the used count is that of the lines, or as given
-pub stored-used-is : (store : List ℕ) (used : ℕ) (ls : List (List ℕ)) → stored-used used (stored-answer store ls) ≡ pick (too-long store ls) used (length (joined ls))
-unfolding stored-answer
-stored-used-is store used ls = used-go (too-long store ls) used (length (joined ls))
-
-out-number-go : (b : Bool) (m : ℕ) → removed-number (pick b (Gone m) NotThere) ≡ pick b 0 9
-unfolding removed-number
-out-number-go true m = refl
-out-number-go false m = refl
-
--- 9 if no line has the number
-pub removed-number-is : (n : ℕ) (ls : List (List ℕ)) → removed-number (removed-answer n ls) ≡ pick (stored? n ls) 0 9
-unfolding removed-answer
-removed-number-is n ls = out-number-go (stored? n ls) (length (joined (take-out n ls)))
-
-out-used-go : (b : Bool) (used m : ℕ) → removed-used used (pick b (Gone m) NotThere) ≡ pick b m used
-unfolding removed-used
-out-used-go true used m = refl
-out-used-go false used m = refl
-
--- the used count is that of the lines left, or as given
-pub removed-used-is : (used n : ℕ) (ls : List (List ℕ)) → removed-used used (removed-answer n ls) ≡ pick (stored? n ls) (length (joined (take-out n ls))) used
-unfolding removed-answer
-removed-used-is used n ls = out-used-go (stored? n ls) used (length (joined (take-out n ls)))

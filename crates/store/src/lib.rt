@@ -16,8 +16,8 @@ const MOST_ROOM: usize = 65535;
 // The length of the shortest line.
 const SHORTEST_LINE: usize = 6;
 
-// The greatest number of a stored line.
-const GREATEST_NUMBER: usize = 32767;
+// The greatest number that a line may have.
+pub const GREATEST_NUMBER: usize = 32767;
 
 // The room of a store: its length, or the most that a store may use.
 fn room_of(store: &[u8]) -> usize

@@ -1,4 +1,3 @@
--- `entries::take_out` meets its contract.
 use Rattle.paper.specs.Calls.{lines-of}
 use Rattle.editor_edit.specs.States.{state}
 use Rattle.editor_edit.specs.Sound.{store-sound}
