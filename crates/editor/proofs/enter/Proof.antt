@@ -1,4 +1,3 @@
--- `editor::enter` meets its contract.
 use mathlib.Core.Path.{ap, _∙_}
 use native.Mathlib.Omega.{arith}
 use Rattle.store.specs.Answers.{found-answer}

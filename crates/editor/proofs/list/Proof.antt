@@ -1,4 +1,3 @@
--- `editor::list` meets its contract.
 use Rattle.editor_edit.specs.States.{state}
 use Rattle.store.specs.Places.{own-place}
 use Rattle.editor.proofs.TestLaws.{unsound-tables, sound-there, unsound-store, list-so, list-refused}

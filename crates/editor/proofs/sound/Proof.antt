@@ -1,4 +1,3 @@
--- `editor::sound` meets its contract.
 use Rattle.editor_edit.specs.States.{state}
 use Rattle.editor.proofs.TestLaws.{store-decides, unsound-tables}
 use borrow.Author.Needs.{needs}

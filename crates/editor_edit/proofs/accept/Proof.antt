@@ -1,4 +1,3 @@
--- `entries::accept` meets its contract.
 use native.Mathlib.Omega.{arith}
 use Rattle.paper.specs.Calls.{lines-of}
 use Rattle.editor_edit.specs.States.{state}

@@ -1,4 +1,4 @@
--- `lent::enter_lent` meets its contract: a walk of its MIR, by hand. The record's borrow is opened, `enter` is called on the record, the answer's record is stored, and the borrow is closed at it.
+-- `editor_lent::enter_lent` meets its contract: a walk of its MIR, by hand. The record's borrow is opened, `enter` is called on the record, the answer's record is stored, and the borrow is closed at it.
 -- The slices go to `enter` at their own lifetimes, shares and ghost names: they are given up for good (`gave-slice`), and what `enter` says of their last lists is what is said here. All that the proof knows of `enter` is that it meets its contract.
 -- Assumes nothing.
 use mathlib.Core.Path.{_≡_, refl, ap}

@@ -1,4 +1,4 @@
--- `lent::list_lent` meets its contract: a walk of its MIR, by hand. The record's borrow is looked into, and `list` is called on the record.
+-- `editor_lent::list_lent` meets its contract: a walk of its MIR, by hand. The record's borrow is looked into, and `list` is called on the record.
 -- The output goes to `list` at its own lifetime, share and ghost name: it is given up for good (`gave-slice`), and what `list` says of its last bytes is what is said here. All that the proof knows of `list` is that it meets its contract.
 -- Assumes nothing.
 use mathlib.Core.Path.{_≡_, refl}

@@ -1,4 +1,3 @@
--- `listings::list_stored` meets its contract.
 use native.Mathlib.Omega.{arith}
 use Rattle.editor_edit.specs.States.{state}
 use Rattle.editor_list.proofs.ListLaws.{names-sound, lies-there, not-stored, listed-so, part-is}

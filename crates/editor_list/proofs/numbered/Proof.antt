@@ -1,4 +1,3 @@
--- `listings::numbered` meets its contract.
 use mathlib.Core.Path.{sym, ap, _∙_}
 use Rattle.list_line.specs.Listed.{answer}
 use Rattle.list_line.specs.declared.Outcome.{Outcome}

@@ -1,4 +1,3 @@
--- `tag::number_at` meets its contract.
 use mathlib.Core.Path.{sym}
 use lib.ListN.{List·getD-eq-default}
 use borrow.Author.Needs.{needs}

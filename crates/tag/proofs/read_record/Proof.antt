@@ -1,4 +1,3 @@
--- `tag::read_record` meets its contract.
 use Rattle.tag.proofs.LentLaws.{read-so}
 use borrow.Author.Needs.{needs}
 use Rattle.tag.proofs.read_record.Statement.{statement}

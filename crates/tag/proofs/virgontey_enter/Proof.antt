@@ -1,4 +1,3 @@
--- `tag::virgontey_enter` meets its contract.
 use Rattle.tag.proofs.LentLaws.{leaves-so}
 use borrow.Author.Needs.{needs}
 use Rattle.tag.proofs.virgontey_enter.Statement.{statement}

@@ -1,4 +1,3 @@
--- `tag::virgontey_list` meets its contract.
 use Rattle.tag.proofs.LentLaws.{lists-so}
 use borrow.Author.Needs.{needs}
 use Rattle.tag.proofs.virgontey_list.Statement.{statement}

@@ -1,4 +1,3 @@
--- `tag::write_entered` meets its contract.
 use Rattle.tag.proofs.LentLaws.{four-put}
 use borrow.Author.Needs.{needs}
 use Rattle.tag.proofs.write_entered.Statement.{statement}

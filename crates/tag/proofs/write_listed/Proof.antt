@@ -1,4 +1,3 @@
--- `tag::write_listed` meets its contract.
 use Rattle.tag.proofs.LentLaws.{two-put}
 use borrow.Author.Needs.{needs}
 use Rattle.tag.proofs.write_listed.Statement.{statement}

@@ -1,4 +1,3 @@
--- `tag::write_record` meets its contract.
 use Rattle.tag.proofs.LentLaws.{three-put}
 use borrow.Author.Needs.{needs}
 use Rattle.tag.proofs.write_record.Statement.{statement}

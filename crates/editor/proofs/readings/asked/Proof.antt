@@ -1,4 +1,3 @@
--- `editor::readings::asked` meets its contract.
 use mathlib.Core.Path.{sym, ap}
 use Rattle.editor.specs.Readings.{asked-number}
 use borrow.Author.Needs.{needs}

@@ -1,4 +1,3 @@
--- `editor::readings::edit` meets its contract.
 use Rattle.editor_edit.specs.States.{state}
 use Rattle.editor.proofs.ReadingLaws.{edits-refused, own-lies, edits-delete, readable, edits-line}
 use borrow.Author.Needs.{needs}

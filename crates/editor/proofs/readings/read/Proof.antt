@@ -1,4 +1,3 @@
--- `editor::readings::read` meets its contract.
 use native.Mathlib.Omega.{arith}
 use Rattle.editor.proofs.EnterLaws.{long-text, short-text}
 use borrow.Author.Needs.{needs}
