@@ -332,10 +332,15 @@ says-length {ns} {l} {room} {n} e f =
     let w = found-length (well-formed? ns l) (capped room (length (listing ns l))) n (sym e ∙ f) in
     record { formed = w .0; count = w .1 }
 
+-- a line that is found not to be well-formed
+pub says-none : (ns : List (List ℕ)) (l : List ℕ) (room : ℕ) {r : Measure} → r ≡ measured ns l room → r ≡ Measure′.NotWellFormed → well-formed? ns l ≡ false
+unfolding measured
+says-none ns l room e f = found-none (well-formed? ns l) (capped room (length (listing ns l))) (sym e ∙ f)
+
 -- not well-formed
 pub lists-not : (ns : List (List ℕ)) (l out : List ℕ) (room : ℕ) {r : Measure} → r ≡ measured ns l room → r ≡ Measure′.NotWellFormed → answer Outcome′.NotWellFormed out ≡ lists ns l out
 unfolding measured answer lists not-listed
-lists-not ns l out room e f = rw (found-none (well-formed? ns l) (capped room (length (listing ns l))) (sym e ∙ f))
+lists-not ns l out room e f = rw (says-none ns l room e f)
 
 -- longer than the buffer
 pub lists-long : (ns : List (List ℕ)) (l out : List ℕ) (n : ℕ) → Says ns l (length out) n → length out < n → answer Outcome′.TooLong out ≡ lists ns l out

@@ -6,6 +6,7 @@ use first::Measure;
 ghost use mathlib.Core.Path.{_≡_};
 ghost use lib.ListN.{take};
 ghost use Rattle.paper.specs.Names.{names-in};
+ghost use Rattle.paper.specs.WellFormed.{well-formed?};
 ghost use Rattle.list_pieces.specs.Rest.{Sound};
 ghost use Rattle.list_line.specs.Listed.{answer, lists};
 
@@ -14,6 +15,17 @@ pub enum Outcome {
     NotWellFormed,
     TooLong,
     Written(usize),
+}
+
+// Whether a line, of any bytes, is well-formed over a sound name table of `size` bytes: what is tested before a listing is written.
+pub fn well_formed(line: &[u8], names: &[u8], size: usize) -> bool
+    requires { ⌜ Sound (now names) size ⌝ }
+    ensures { λ r. ⌜ r ≡ well-formed? (names-in (take size (now (names .entry)))) (now (line .entry)) ⌝ }
+{
+    match first::measure_line(line, names, size, 0) {
+        Measure::NotWellFormed => false,
+        Measure::Length(_) => true,
+    }
 }
 
 // Lists a line, of any bytes, over a sound name table of `size` bytes: the listing is written to the front of a buffer, or nothing is.
