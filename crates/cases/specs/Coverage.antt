@@ -1,11 +1,10 @@
 -- Nothing of the grammar stands untried: every row is used by the reading of some case; without any one of the frames that a row wants some case
 -- is read otherwise; and if any one frame more might be empty some case is read otherwise, but for the few frames listed below.
-use Prim.Native.Nat.{ℕ, zero, suc}
+use Prim.Native.Nat.{ℕ, zero, suc, _+_, _*_}
 use mathlib.Core.Path.{_≡_, refl}
 use mathlib.Core.Bool.{Bool, false, not, _&&_, _||_}
 use mathlib.Core.List.{List, [], _∷_, _++_}
-use lib.Dec.{eqb}
-use lib.ListN.{length, getD}
+use lib.ListN.{length}
 use Rattle.paper.specs.Bytes.{pick, bytes, same, among}
 use Rattle.paper.specs.Frames.{want-statement, want-after-then, want-end, want-raw-text, want-raw-end, want-array-open, want-let-target, want-dim-array-open, want-restore-number}
 use Rattle.paper.specs.Tokens.{class}
@@ -14,11 +13,11 @@ use Rattle.paper.specs.Machine.{Row, row, find-row, Taken, Run, left, done, bad
 use Rattle.paper.specs.Grammar.{Gives, itself, for-strings, as-prefix, put, grammar, may-be-empty, start}
 use Rattle.paper.specs.Calls.{Head, numbered, too-great, no-digit, head-of}
 use Rattle.paper.specs.Open.{everything}
-use Rattle.paper.specs.Cases.{Case, stores, refuses, telling}
-use Rattle.cases.specs.Worked.{worked}
+use Rattle.paper.specs.Cases.{Case, stores, refuses}
+use Rattle.cases.specs.Worked.{incomplete}
 use Rattle.cases.specs.Following.{Walk, along, walks, all-walks}
 
--- ---- the texts of all cases, as the classes of their items
+-- ---- the texts of cases, as the classes of their items
 
 -- the classes of items
 unfoldable pub classes : List Item → List ℕ
@@ -43,15 +42,19 @@ texts-of-walks (w ∷ ws) = and-text (head-of (bytes (w .text))) (texts-of-walks
 
 -- ---- readings by some rows and some frames that may be empty
 
--- the same rows, each giving itself
-unfoldable pub traced : List (Row Gives) → List (Row (Row Gives))
-traced [] = []
-traced (r ∷ rs) = row (r .frame) (r .class) r (r .wants) ∷ traced rs
+-- a row's frame and class, as one number
+unfoldable pub key : Row Gives → ℕ
+key r = 100 * r .frame + r .class
 
--- the rows by which classes were taken
-unfoldable pub rows-of : List (Taken (Row Gives) ℕ) → List (Row Gives)
-rows-of [] = []
-rows-of (t ∷ ts) = t .gave ∷ rows-of ts
+-- the same rows, each giving its key
+unfoldable pub traced : List (Row Gives) → List (Row ℕ)
+traced [] = []
+traced (r ∷ rs) = row (r .frame) (r .class) (key r) (r .wants) ∷ traced rs
+
+-- the keys of the rows by which classes were taken
+unfoldable pub keys-of : List (Taken ℕ ℕ) → List ℕ
+keys-of [] = []
+keys-of (t ∷ ts) = t .gave ∷ keys-of ts
 
 -- what a row gives, as a number
 unfoldable pub give-number : Gives → ℕ
@@ -71,21 +74,21 @@ verdict (left ts s) = 0 ∷ length s ∷ gave-numbers ts
 verdict (done ts r) = 1 ∷ length r ∷ []
 verdict (bad k ts r) = 1 ∷ length r ∷ []
 
--- a text: its classes, the rows by which they are taken, up to the end or to the refusal, and what its reading comes to
+-- a text: its classes, the keys of the rows by which they are taken, up to the end or to the refusal, and what its reading comes to
 pub record Text : Type 0 where
   pub classes-of : List ℕ
-  pub rows : List (Row Gives)
+  pub keys : List ℕ
   pub comes-to : List ℕ
 
--- the rows that a run used
-unfoldable pub rows-of-run : Run (Row Gives) ℕ → List (Row Gives)
-rows-of-run (left ts s) = rows-of ts
-rows-of-run (done ts r) = rows-of ts
-rows-of-run (bad k ts r) = rows-of ts
+-- the keys of the rows that a run used
+unfoldable pub keys-of-run : Run ℕ ℕ → List ℕ
+keys-of-run (left ts s) = keys-of ts
+keys-of-run (done ts r) = keys-of ts
+keys-of-run (bad k ts r) = keys-of ts
 
 -- a text, read
 unfoldable pub read-text : List ℕ → Text
-read-text t = record { classes-of = t; rows = rows-of-run (read (find-row (traced grammar) may-be-empty) start t); comes-to = verdict (read (find-row grammar may-be-empty) start t) }
+read-text t = record { classes-of = t; keys = keys-of-run (read (find-row (traced grammar) may-be-empty) start t); comes-to = verdict (read (find-row grammar may-be-empty) start t) }
 
 -- texts, read
 unfoldable pub read-texts : List (List ℕ) → List Text
@@ -98,34 +101,29 @@ read-otherwise rows empty t = not (same (verdict (read (find-row rows empty) sta
 
 -- ---- every row is used
 
--- a row is one of some rows
-unfoldable pub used? : Row Gives → List (Row Gives) → Bool
-used? r [] = false
-used? r (u ∷ us) = (eqb (r .frame) (u .frame) && eqb (r .class) (u .class)) || used? r us
-
 -- a row is used by the reading of some text
-unfoldable pub used-by-some? : Row Gives → List Text → Bool
-used-by-some? r [] = false
-used-by-some? r (t ∷ ts) = used? r (t .rows) || used-by-some? r ts
+unfoldable pub used? : Row Gives → List Text → Bool
+used? r [] = false
+used? r (t ∷ ts) = among (key r) (t .keys) || used? r ts
 
--- the rows that are not used
-unfoldable pub unused : List (Row Gives) → List Text → List (Row Gives)
+-- the keys of the rows that are not used
+unfoldable pub unused : List (Row Gives) → List Text → List ℕ
 unused [] ts = []
-unused (r ∷ rs) ts = let more = unused rs ts in pick (used-by-some? r ts) more (r ∷ more)
+unused (r ∷ rs) ts = let more = unused rs ts in pick (used? r ts) more (key r ∷ more)
 
 -- ---- every frame that a row wants is needed
 
 -- some text that uses a row is read otherwise with another in front of it, of the same frame and class
 unfoldable pub other-row-shows : Row Gives → List Text → Bool
 other-row-shows r [] = false
-other-row-shows r (t ∷ ts) = (used? r (t .rows) && read-otherwise (r ∷ grammar) may-be-empty t) || other-row-shows r ts
+other-row-shows r (t ∷ ts) = (among (key r) (t .keys) && read-otherwise (r ∷ grammar) may-be-empty t) || other-row-shows r ts
 
--- the frames, among those that a row wants after `before`, without which no text is read otherwise; each with the row's frame and class
+-- the frames, among those that a row wants after `before`, without which no text is read otherwise; each with the row's key
 unfoldable pub not-needed : Row Gives → List ℕ → List ℕ → List Text → List (List ℕ)
 not-needed r before [] ts = []
 not-needed r before (w ∷ ws) ts =
     let more = not-needed r (before ++ w ∷ []) ws ts in
-    pick (other-row-shows (row (r .frame) (r .class) (r .gives) (before ++ ws)) ts) more ((r .frame ∷ r .class ∷ w ∷ []) ∷ more)
+    pick (other-row-shows (row (r .frame) (r .class) (r .gives) (before ++ ws)) ts) more ((key r ∷ w ∷ []) ∷ more)
 
 -- all frames that a row wants and no text needs
 unfoldable pub all-not-needed : List (Row Gives) → List Text → List (List ℕ)
@@ -134,12 +132,7 @@ all-not-needed (r ∷ rs) ts = not-needed r [] (r .wants) ts ++ all-not-needed r
 
 -- ---- every frame of which something must come is needed
 
--- the texts that are refused: a frame that may be empty leaves all others as they are
-unfoldable pub refused-texts : List Text → List Text
-refused-texts [] = []
-refused-texts (t ∷ ts) = let more = refused-texts ts in pick (eqb (getD (t .comes-to) 0 0) 1) (t ∷ more) more
-
--- some text is read otherwise if a frame may be empty
+-- some text is read otherwise if a frame may be empty: one that is refused, for others stay as they are
 unfoldable pub empty-shows : ℕ → List Text → Bool
 empty-shows f [] = false
 empty-shows f (t ∷ ts) = read-otherwise grammar (f ∷ may-be-empty) t || empty-shows f ts
@@ -149,26 +142,22 @@ unfoldable pub not-missed : ℕ → List Text → List ℕ
 not-missed zero ts = []
 not-missed (suc n) ts = let more = not-missed n ts in pick (among n may-be-empty || empty-shows n ts) more (n ∷ more)
 
--- the texts of all cases with their rows
-unfoldable pub texts : List Text
-texts = read-texts (texts-of-walks walks ++ texts-of-cases worked ++ texts-of-cases telling)
-
 -- Frames of which a text never shows that something must come. An array's name is one only before `(`, and text always follows REM and DATA, so
 -- that three frames find in every text what they want (`Following` tries them with other items too). Below the other five nothing is wanted, so
 -- that what they leave is refused all the same, at the same place.
 unfoldable pub never-missed : List ℕ
 never-missed = want-dim-array-open ∷ want-let-target ∷ want-array-open ∷ want-raw-end ∷ want-raw-text ∷ want-end ∷ want-after-then ∷ want-statement ∷ []
 
--- the rows that no text uses, the frames that a row wants and no text needs, and the frames that no text misses
+-- the keys of the rows that no text uses, the frames that a row wants and no text needs, and the frames that no text misses
 pub record Untried : Type 0 where
-  pub rows : List (Row Gives)
+  pub rows : List ℕ
   pub wanted : List (List ℕ)
   pub frames : List ℕ
 
--- what some texts leave untried
-unfoldable pub untried : List Text → Untried
-untried ts = record { rows = unused grammar ts; wanted = all-not-needed grammar ts; frames = not-missed (suc want-restore-number) (refused-texts ts) }
+-- what whole texts and incomplete ones leave untried
+unfoldable pub untried : List Text → List Text → Untried
+untried whole cut = record { rows = unused grammar whole; wanted = all-not-needed grammar whole; frames = not-missed (suc want-restore-number) cut }
 
-pub nothing-untried : untried texts ≡ record { rows = []; wanted = []; frames = never-missed }
-unfolding everything classes and-text texts-of-cases texts-of-walks traced rows-of give-number gave-numbers verdict rows-of-run read-text read-texts read-otherwise used? used-by-some? unused other-row-shows not-needed all-not-needed refused-texts empty-shows not-missed texts never-missed untried stores refuses telling worked all-walks
+pub nothing-untried : untried (read-texts (texts-of-walks walks)) (read-texts (texts-of-cases incomplete)) ≡ record { rows = []; wanted = []; frames = never-missed }
+unfolding everything classes and-text texts-of-cases texts-of-walks key traced keys-of give-number gave-numbers verdict keys-of-run read-text read-texts read-otherwise used? unused other-row-shows not-needed all-not-needed empty-shows not-missed never-missed untried stores refuses incomplete all-walks
 nothing-untried = refl

@@ -102,7 +102,7 @@ all-classes = line-end ∷ raw-end ∷ unfit ∷ number ∷ quoted ∷ numeric-v
 unfoldable pub of-statements : List Walk
 of-statements =
     along "10 REM X" (beginning ∷ (raw-text ∷ []) ∷ (raw-end ∷ []) ∷ [])
-    ∷ along "10 A=1:B=2" (beginning ∷ (number-assigned ∷ []) ∷ term ∷ (joining ++ ending) ∷ beginning ∷ (number-assigned ∷ []) ∷ term ∷ (joining ++ ending) ∷ [])
+    ∷ along "10 A=1:B=2+3" (beginning ∷ (number-assigned ∷ []) ∷ term ∷ (joining ++ ending) ∷ beginning ∷ (number-assigned ∷ []) ∷ term ∷ (joining ++ ending) ∷ term ∷ (joining ++ ending) ∷ [])
     ∷ along "10 A(1)=2" (beginning ∷ (array-open ∷ []) ∷ term ∷ (inner-comma ∷ close-sign ∷ joining) ∷ (number-assigned ∷ []) ∷ term ∷ (joining ++ ending) ∷ [])
     ∷ along "10 A(1+2,3+4)=5" (beginning ∷ (array-open ∷ []) ∷ term ∷ (inner-comma ∷ close-sign ∷ joining) ∷ term ∷ (inner-comma ∷ close-sign ∷ joining) ∷ term ∷ (close-sign ∷ joining) ∷ term ∷ (close-sign ∷ joining) ∷ (number-assigned ∷ []) ∷ term ∷ (joining ++ ending) ∷ [])
     ∷ along "10 A$=\"X\"" (beginning ∷ (substring-open ∷ string-assigned ∷ []) ∷ stringy ∷ ending ∷ [])
@@ -154,9 +154,9 @@ after-then =
 -- terms of every kind, joined by every kind of operator
 unfoldable pub of-terms : List Walk
 of-terms =
-    along "10 GOTO -1*2" (beginning ∷ term ∷ term ∷ (joining ++ ending) ∷ term ∷ (joining ++ ending) ∷ [])
-    ∷ along "10 GOTO NOT 1+2" (beginning ∷ term ∷ term ∷ (joining ++ ending) ∷ term ∷ (joining ++ ending) ∷ [])
-    ∷ along "10 GOTO A<B" (beginning ∷ term ∷ (joining ++ ending) ∷ term ∷ (joining ++ ending) ∷ [])
+    along "10 GOTO -1*2+3" (beginning ∷ term ∷ term ∷ (joining ++ ending) ∷ term ∷ (joining ++ ending) ∷ term ∷ (joining ++ ending) ∷ [])
+    ∷ along "10 GOTO NOT 1+2+3" (beginning ∷ term ∷ term ∷ (joining ++ ending) ∷ term ∷ (joining ++ ending) ∷ term ∷ (joining ++ ending) ∷ [])
+    ∷ along "10 GOTO A<B+1" (beginning ∷ term ∷ (joining ++ ending) ∷ term ∷ (joining ++ ending) ∷ term ∷ (joining ++ ending) ∷ [])
     ∷ along "10 GOTO A(1+2)=3+4" (beginning ∷ term ∷ (array-open ∷ []) ∷ term ∷ (inner-comma ∷ close-sign ∷ joining) ∷ term ∷ (inner-comma ∷ close-sign ∷ joining) ∷ (joining ++ ending) ∷ term ∷ (joining ++ ending) ∷ term ∷ (joining ++ ending) ∷ [])
     ∷ along "10 GOTO A(1,2)" (beginning ∷ term ∷ (array-open ∷ []) ∷ term ∷ (inner-comma ∷ close-sign ∷ joining) ∷ term ∷ (close-sign ∷ joining) ∷ (joining ++ ending) ∷ [])
     ∷ along "10 GOTO (1+2)OR 3+4" (beginning ∷ term ∷ term ∷ (close-sign ∷ joining) ∷ term ∷ (close-sign ∷ joining) ∷ (joining ++ ending) ∷ term ∷ (joining ++ ending) ∷ term ∷ (joining ++ ending) ∷ [])

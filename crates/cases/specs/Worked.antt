@@ -1,7 +1,7 @@
 -- Cases worked out by hand from document 01, beyond its starred ones: every row of the grammar, words and names, constants at their
 -- limits, and the place of each kind of refusal. As one table and one theorem.
 use mathlib.Core.Path.{_≡_, refl}
-use mathlib.Core.List.{List, [], _∷_}
+use mathlib.Core.List.{List, [], _∷_, _++_}
 use Rattle.paper.specs.Open.{everything}
 use Rattle.paper.specs.Cases.{empty, Case, stores, refuses, shown, result, results, expected}
 
@@ -131,7 +131,6 @@ worked =
     ∷ refuses "10 A=SIN(A$)" 4 11
     ∷ refuses "10 A=LEN(A)" 4 9
     ∷ refuses "10 PRINT A$ -1" 4 12
-    ∷ refuses "30 GOTO  " 4 9
     ∷ refuses "10 PRINT A   B" 4 13
     ∷ refuses "10 IF A THEN -5" 4 13
     ∷ refuses "10 IF A THEN 5+1" 4 14
@@ -158,6 +157,22 @@ worked =
     ∷ refuses "10 DIM A$(1,2)" 4 11
     ∷ refuses "10 ON A THEN 1" 4 8
     ∷ refuses "10 GOTO10" 4 9
+    ∷ refuses "A=1" 3 0
+    ∷ refuses "" 3 0
+    ∷ refuses "   " 3 0
+    ∷ refuses "99999999999999999999 END" 3 0
+    ∷ refuses "10" 9 0
+    ∷ refuses " 10 " 9 0
+    ∷ []
+
+-- texts from which something that must come is left out
+unfoldable pub incomplete : List Case
+incomplete =
+    refuses "30 GOTO  " 4 9
+    ∷ refuses "10 A" 4 4
+    ∷ refuses "10 A$" 4 5
+    ∷ refuses "10 GOTO A$" 4 10
+    ∷ refuses "10 A=(1" 4 7
     ∷ refuses "10 NEXT" 4 7
     ∷ refuses "10 DIM" 4 6
     ∷ refuses "10 DIM A(1)," 4 12
@@ -176,15 +191,9 @@ worked =
     ∷ refuses "10 ON A 1" 4 8
     ∷ refuses "10 POKE 1 2" 4 10
     ∷ refuses "10 LET" 4 6
-    ∷ refuses "A=1" 3 0
-    ∷ refuses "" 3 0
-    ∷ refuses "   " 3 0
-    ∷ refuses "99999999999999999999 END" 3 0
-    ∷ refuses "10" 9 0
-    ∷ refuses " 10 " 9 0
     ∷ []
 
 -- the definitions give each of them so
-pub worked-cases : results worked ≡ expected worked
-unfolding everything empty stores refuses shown result results expected worked
+pub worked-cases : results (worked ++ incomplete) ≡ expected (worked ++ incomplete)
+unfolding everything empty stores refuses shown result results expected worked incomplete
 worked-cases = refl
