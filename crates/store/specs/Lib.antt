@@ -1,3 +1,4 @@
+pub mod Moves
 pub mod Walks
 pub mod Answers
 pub mod Places

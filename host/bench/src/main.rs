@@ -21,16 +21,20 @@ enum Task {
     EnterAlone,
     Enter(usize),
     Replace(usize),
+    ReplaceEqual(usize),
+    ReplaceLonger(usize),
     Delete(usize),
     List(usize),
 }
 
-const TASKS: [Task; 9] = [
+const TASKS: [Task; 11] = [
     Task::EnterAlone,
     Task::Enter(200),
     Task::Enter(2000),
     Task::Replace(200),
     Task::Replace(2000),
+    Task::ReplaceEqual(2000),
+    Task::ReplaceLonger(2000),
     Task::Delete(200),
     Task::Delete(2000),
     Task::List(200),
@@ -43,9 +47,12 @@ impl Task {
     fn lines(self) -> usize {
         match self {
             Task::EnterAlone => 0,
-            Task::Enter(lines) | Task::Replace(lines) | Task::Delete(lines) | Task::List(lines) => {
-                lines
-            }
+            Task::Enter(lines)
+            | Task::Replace(lines)
+            | Task::ReplaceEqual(lines)
+            | Task::ReplaceLonger(lines)
+            | Task::Delete(lines)
+            | Task::List(lines) => lines,
         }
     }
 
@@ -54,6 +61,8 @@ impl Task {
             Task::EnterAlone => "enter alone".into(),
             Task::Enter(lines) => format!("enter into {lines}"),
             Task::Replace(lines) => format!("replace in {lines}"),
+            Task::ReplaceEqual(lines) => format!("replace by an equal length in {lines}"),
+            Task::ReplaceLonger(lines) => format!("replace by a longer line in {lines}"),
             Task::Delete(lines) => format!("delete from {lines}"),
             Task::List(lines) => format!("list of {lines}"),
         }
@@ -86,6 +95,9 @@ fn job(task: Task, names: usize) -> Job {
             Task::Enter(_) => text(names, number + 1 + call % 8, call * 3),
             // Another statement than the one that stands there.
             Task::Replace(_) => text(names, number, call * 3 + 6),
+            // The line that stands there, as it is or with a statement more.
+            Task::ReplaceEqual(_) => text(names, number, place(call)),
+            Task::ReplaceLonger(_) => [text(names, number, place(call)), b":END".to_vec()].concat(),
             Task::Delete(_) => number.to_string().into_bytes(),
             Task::List(_) => Vec::new(),
         });
@@ -137,6 +149,53 @@ fn round<S: Side>(job: &Job) -> f64 {
     time.as_nanos() as f64 / CALLS as f64
 }
 
+/// The bytes of the store that each edit of a round moves, on average, by the number that the contract of the library's
+/// gap gives: nothing where a line is replaced by one of its own length, else all that stands after the line, once.
+fn moved(job: &Job) -> f64 {
+    let mut work = job.program.clone();
+    let mut sum = 0;
+    for call in 0..CALLS {
+        if let Task::EnterAlone = job.task {
+            work.record.used = 0;
+        }
+        let used = work.record.used;
+        let number = line_number(&job.texts[call]);
+        let (at, old) = place_of(&work.store[..used], number);
+        let answer = reference::enter(
+            &job.texts[call],
+            &mut work.names,
+            &mut work.values,
+            &mut work.store,
+            &mut work.record,
+        );
+        assert_eq!(answer.number, 0);
+        if work.record.used != used {
+            sum += used - (at + old);
+        }
+    }
+    sum as f64 / CALLS as f64
+}
+
+/// The number that a text begins with.
+fn line_number(text: &[u8]) -> usize {
+    let digits = text.iter().take_while(|b| b.is_ascii_digit());
+    digits.fold(0, |number, b| number * 10 + usize::from(b - b'0'))
+}
+
+/// Where the line with a number begins, or would begin, and its length, 0 if it is not there.
+fn place_of(lines: &[u8], number: usize) -> (usize, usize) {
+    let mut at = 0;
+    while at < lines.len() {
+        let own = usize::from(lines[at]) + 256 * usize::from(lines[at + 1]);
+        let size = usize::from(lines[at + 2]);
+        if number <= own {
+            return (at, if number == own { size } else { 0 });
+        }
+        at += size;
+    }
+    (at, 0)
+}
+
 /// The median.
 fn median(mut times: Vec<f64>) -> f64 {
     times.sort_by(f64::total_cmp);
@@ -150,8 +209,8 @@ fn main() {
         _ => 500,
     };
     println!("ns for each line, median of {rounds} rounds of {CALLS} calls");
-    println!("| task | names | reference | library | ratio |");
-    println!("|---|---|---|---|---|");
+    println!("| task | names | reference | library | ratio | bytes moved |");
+    println!("|---|---|---|---|---|---|");
     for task in TASKS {
         for names in NAME_COUNTS {
             let job = job(task, names);
@@ -173,7 +232,11 @@ fn main() {
                 )
             };
             let title = task.title();
-            println!("| {title} | {names} | {reference:.0} | {shown} | {ratio} |");
+            let moved = match task {
+                Task::List(_) => "-".into(),
+                _ => format!("{:.0}", moved(&job)),
+            };
+            println!("| {title} | {names} | {reference:.0} | {shown} | {ratio} | {moved} |");
         }
     }
 }

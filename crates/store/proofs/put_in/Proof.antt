@@ -30,4 +30,4 @@ put-in-spec =
     (λ c. search needs)
     (λ c. let args = c .before .before .before .before .before .before .before .before .before .before .before .before .before .args in
     let given = c .before .before .before .before .before .before .before .before .before .before .before .before .before .pre in
-    put-done (args .store .now) (args .used) (args .line .now) (given .0) (args .place) (given .1) (omega (arith, c .before .before .before .before .before .before .before .before .before .room-of .ensures)) _ _ (c .before .before .before .before .before .before .resize .ensures) (c .before .before .copy .ensures)))
+    put-done (args .store .now) (args .used) (args .line .now) (given .0) (args .place) (given .1) (omega (arith, c .before .before .before .before .before .before .before .before .before .room-of .ensures)) _ _ (c .before .before .before .before .before .before .resize .ensures .0) (c .before .before .copy .ensures)))

@@ -24,4 +24,4 @@ take-out-spec =
     (λ c. search needs)
     (λ c. let args = c .before .before .before .before .before .before .args in
     let given = c .before .before .before .before .before .before .pre in
-    out-done (args .store .now) (args .used) (args .place .number) (given .0) (args .place) (given .1) (c .before .before .before .before .if1 .left) _ (c .before .before .resize .ensures)))
+    out-done (args .store .now) (args .used) (args .place .number) (given .0) (args .place) (given .1) (c .before .before .before .before .if1 .left) _ (c .before .before .resize .ensures .0)))

@@ -1,5 +1,5 @@
--- `store::gap::move_down` meets its contract. The invariant: the first `i` bytes are moved.
-use mathlib.Core.Path.{_≡_, ap, _∙_}
+-- `store::gap::move_down` meets its contract. The invariant: the first `i` bytes are moved, and counted.
+use mathlib.Core.Path.{_≡_, refl, ap, _∙_}
 use Prim.Native.Nat.{_-_, _≤_}
 use native.Mathlib.Omega.{arith}
 use lib.ListN.{drop}
@@ -9,10 +9,10 @@ use Rattle.store.proofs.gap.move_down.Statement.{statement}
 use Rattle.store.proofs.gap.move_down.Tie as tie
 
 abbrev Inv-loop : tie.InvT-loop
-Inv-loop s₀ at from n i₀ s i = (i ≤ n) × (s ≡ paste s₀ at (drop from s₀) i)
+Inv-loop s₀ at from n closed₀ i₀ s closed i = (i ≤ n) × (s ≡ paste s₀ at (drop from s₀) i) × (closed ≡ i)
 
 abbrev μ-loop : tie.MeasureT-loop
-μ-loop s₀ at from n i₀ s i = n - i
+μ-loop s₀ at from n closed₀ i₀ s closed i = n - i
 
 pub move-down-spec : {M : Type 1} → statement M
 move-down-spec =
@@ -21,7 +21,7 @@ move-down-spec =
     Inv-loop
     μ-loop
     (λ c. let args = c .args in
-    (omega arith, paste-zero (args .s .now) (args .at) (drop (args .from) (args .s .now))))
+    (omega arith, paste-zero (args .s .now) (args .at) (drop (args .from) (args .s .now)), refl))
     (λ c. omega arith)
     (λ c. let turn = c .before .before .loop in
     let args = c .before .before .before .args in
@@ -30,16 +30,17 @@ move-down-spec =
     (λ c. let turn = c .before .before .loop in
     let args = c .before .before .before .args in
     omega (arith, moved-length (turn .s) (args .s .now) (args .at) (args .from) (turn .i) (omega arith) (omega arith) (turn .inv .1)))
+    (λ c. omega arith)
     (λ c. omega arith)
     (λ c. omega arith)
     (λ c. let turn = c .before .before .loop in
     let args = c .before .before .before .args in
     let given = c .before .before .before .pre in
-    (omega arith, turn-down (turn .s) (args .s .now) (args .at) (args .from) (turn .i) (given .0) (omega arith) (turn .inv .1)))
+    (omega arith, turn-down (turn .s) (args .s .now) (args .at) (args .from) (turn .i) (given .0) (omega arith) (turn .inv .1), omega arith))
     (λ c. let turn = c .before .loop in
     let args = c .before .before .args in
     moved-length (turn .s) (args .s .now) (args .at) (args .from) (turn .i) (omega arith) (omega arith) (turn .inv .1))
     (λ c. let turn = c .before .loop in
     let args = c .before .before .args in
     let e : turn .i ≡ args .n = omega arith in
-    turn .inv .1 ∙ ap (paste (args .s .now) (args .at) (drop (args .from) (args .s .now))) e))
+    (turn .inv .1 ∙ ap (paste (args .s .now) (args .at) (drop (args .from) (args .s .now))) e, omega arith)))
