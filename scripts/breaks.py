@@ -142,10 +142,10 @@ def made():
 def of_grammar():
     """A frame optional or no longer so; a row left out; in a row a class, what it gives, or a wanted frame changed."""
     text = grammar.text("Grammar")
-    frames, classes = list(grammar.numbers("Frames")), list(grammar.numbers("Classes"))
+    frames, classes = list(grammar.FRAMES), list(grammar.CLASSES)
     empty = text.index("\nmay-be-empty =") + len("\nmay-be-empty =\n    ")
     for f in frames:
-        if f in grammar.may_be_empty():
+        if f in grammar.EMPTY:
             at = text.index(f, empty)
             yield "a frame no longer optional", f"Grammar.{f}-needed", "Grammar", at, at + len(f), "99"
         else:
