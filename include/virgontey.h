@@ -40,9 +40,10 @@ enum {
 enum {
     VIRGONTEY_ENTER_NUMBER = 0, /* 0 done, otherwise the refusal, see below */
     VIRGONTEY_ENTER_PLACE = 1,  /* offset in the text for refusals 4 and 5, otherwise 0 */
-    VIRGONTEY_ENTER_ADDED = 2,  /* how many names were added, 0 on a refusal */
-    VIRGONTEY_ENTER_USED = 3,   /* bytes of store in use afterwards, as given on a refusal */
-    VIRGONTEY_ENTER_LENGTH = 4
+    VIRGONTEY_ENTER_END = 2,    /* offset past the item at that place, the place itself at the text's end; otherwise 0 */
+    VIRGONTEY_ENTER_ADDED = 3,  /* how many names were added, 0 on a refusal */
+    VIRGONTEY_ENTER_USED = 4,   /* bytes of store in use afterwards, as given on a refusal */
+    VIRGONTEY_ENTER_LENGTH = 5
 };
 
 /* What virgontey_list answers. */
@@ -58,8 +59,8 @@ enum {
     VIRGONTEY_UNSOUND = 1,         /* tables or store are unsound */
     VIRGONTEY_TEXT_TOO_LONG = 2,   /* text is over 120 bytes */
     VIRGONTEY_NO_LINE_NUMBER = 3,  /* no digit after blanks, or a number above 32767 */
-    VIRGONTEY_NO_READING = 4,      /* the grammar has no reading; see the place */
-    VIRGONTEY_OUT_OF_RANGE = 5,    /* a constant is out of range; see the place */
+    VIRGONTEY_NO_READING = 4,      /* the grammar has no reading; see place and end */
+    VIRGONTEY_OUT_OF_RANGE = 5,    /* a constant is out of range; see place and end */
     VIRGONTEY_NAMES_FULL = 6,      /* names would pass 128, or lack name or value room */
     VIRGONTEY_LINE_TOO_LONG = 7,   /* the token line would pass 255 bytes */
     VIRGONTEY_STORE_FULL = 8,      /* the store would pass its room */

@@ -113,10 +113,10 @@ def row(call):
     asked, answer = call
     if asked[0] == "enter":
         text, names, size_of_names, count, values, store, used = asked[1:]
-        number, place, added, used_after, size_after, count_after, names_after, values_after, store_after = answer
+        number, place, end, added, used_after, size_after, count_after, names_after, values_after, store_after = answer
         before = state(names, size_of_names, count, values, store, used)
         after = state(names_after, size_after, count_after, values_after, store_after, used_after)
-        return f"enters (hex {quoted(text)}) {before} {number} {place} {added} {after}"
+        return f"enters (hex {quoted(text)}) {before} {number} {place} {end} {added} {after}"
     line, names, size_of_names, count, values, store, used, output = asked[1:]
     return f"lists {line} {state(names, size_of_names, count, values, store, used)} (hex {quoted(output)}) {answer[0]} {answer[1]} (hex {quoted(answer[2])})"
 

@@ -1,4 +1,4 @@
-/* Enters three lines and one that is refused, then lists the program. */
+/* Enters three lines and two that are refused, then lists the program. */
 #include <stdio.h>
 #include <string.h>
 
@@ -24,8 +24,9 @@ static void enter(struct program *p, const char *text)
         printf("taken:   %s (%zu new names, %zu bytes used)\n", text,
                answer[VIRGONTEY_ENTER_ADDED], answer[VIRGONTEY_ENTER_USED]);
     } else {
-        printf("refused: %s (number %zu at %zu)\n", text, answer[VIRGONTEY_ENTER_NUMBER],
-               answer[VIRGONTEY_ENTER_PLACE]);
+        printf("refused: %s (number %zu, from %zu to %zu)\n", text,
+               answer[VIRGONTEY_ENTER_NUMBER], answer[VIRGONTEY_ENTER_PLACE],
+               answer[VIRGONTEY_ENTER_END]);
     }
 }
 
@@ -54,6 +55,7 @@ int main(void)
     enter(&program, "20 IF V<L OR T>H THEN 900");
     enter(&program, "900 PRINT \"ALARM \";V");
     enter(&program, "30 GOTO");
+    enter(&program, "30 IF V<L BORT THEN 900");
     list(&program, 10);
     list(&program, 20);
     list(&program, 900);

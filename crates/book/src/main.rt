@@ -3,7 +3,7 @@
 // desk program's rooms.
 //
 // P       a source reference, where a program begins
-// E       a line that is entered, and its answer's number and place
+// E       a line that is entered, and its answer's number, place and that place's end
 // B       after an accepted line that is then stored: its bytes
 // L       after each B: the listing of that line
 // N       the used bytes of the name table, where a program ends
@@ -64,13 +64,15 @@ fn show_line(number: usize, names: &[u8], values: &[u8], store: &[u8], record: E
 }
 
 // Prints the answer to a line.
-fn print_entered(text: &[u8], number: usize, place: usize) {
+fn print_entered(text: &[u8], number: usize, place: usize, end: usize) {
     print(b"E\t");
     print(text);
     print(b"\t");
     print_number(number);
     print(b"\t");
     print_number(place);
+    print(b"\t");
+    print_number(end);
     print(b"\n");
 }
 
@@ -84,7 +86,7 @@ fn enter(
 ) -> Editor {
     let r = editor::enter(text, names, values, store, record);
     let after = r.editor;
-    print_entered(text, r.number as usize, r.place);
+    print_entered(text, r.number as usize, r.place, r.end);
     if r.number == 0 {
         show_line(
             number_in(front(text, run_end(text, 0, Run::Digits))),

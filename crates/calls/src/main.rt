@@ -27,12 +27,13 @@ fn print_bytes(bytes: &[u8]) {
     console::print_bytes(bytes);
 }
 
-// Enters a text and prints the answer: number, place, names added, bytes used, the counts of names and the buffers afterwards.
+// Enters a text and prints the answer: number, place, its end, names added, bytes used, the counts of names and the buffers afterwards.
 fn enter(text: &[u8], names: &mut [u8], values: &mut [u8], store: &mut [u8], record: Editor) {
     let r = editor::enter(text, names, values, store, record);
     let after = r.editor;
     console::print_number(r.number as usize);
     print_number(r.place);
+    print_number(r.end);
     print_number(r.added);
     print_number(after.used);
     print_number(after.name_bytes);

@@ -7,8 +7,8 @@ use Rattle.paper.specs.Bytes.{pick, same}
 use Rattle.paper.specs.Calls.{State, enter, list}
 
 pub data Call : Type 0 where
-  -- a text entered; the answer's number, place and names added, and the state afterwards
-  enters : List ℕ → State → ℕ → ℕ → ℕ → State → Call
+  -- a text entered; the answer's number, place, its end and names added, and the state afterwards
+  enters : List ℕ → State → ℕ → ℕ → ℕ → ℕ → State → Call
   -- a line listed into a buffer; the answer's number and bytes written, and the buffer afterwards
   lists : ℕ → State → List ℕ → ℕ → ℕ → List ℕ → Call
 
@@ -20,9 +20,9 @@ same-state a b =
 
 -- the definitions give the answer of a call
 unfoldable pub meets : Call → Bool
-meets (enters text s number place added after) =
+meets (enters text s number place end added after) =
     let e = enter text s in
-    eqb (e .number) number && (eqb (e .place) place && (eqb (e .added) added && same-state (e .after) after))
+    eqb (e .number) number && (eqb (e .place .start) place && (eqb (e .place .end) end && (eqb (e .added) added && same-state (e .after) after)))
 meets (lists n s output number written after) =
     let l = list n s output in
     eqb (l .number) number && (eqb (l .written) written && same (l .output) after)

@@ -69,12 +69,13 @@ fn next(turn: Turn, buffer: &mut [u8], text: &mut [u8]) -> Turn
     }
 }
 
-// Prints what entering a line answered: the line's number in the input, the answer's, the place, the names added and the bytes used.
+// Prints what entering a line answered: the line's number in the input, the answer's, the place, its end, the names added and the bytes used.
 fn print_entered(turn: Turn, answer: Answer, record: Editor) {
     print(b"E");
     print_field(turn.count);
     print_field(answer.number as usize);
     print_field(answer.place);
+    print_field(answer.end);
     print_field(answer.added);
     print_field(record.used);
     print(b"\n");

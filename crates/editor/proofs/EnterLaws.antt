@@ -9,6 +9,7 @@ use lib.ListN.{length, take}
 use borrow.Author.Tests.{lt-ltb, le-ltb}
 use Rattle.paper.specs.Bytes.{pick, blank?, run}
 use Rattle.paper.specs.Tokens.{Token}
+use Rattle.paper.specs.Items.{span}
 use Rattle.paper.specs.Names.{names-in, name-bytes, add-names}
 use Rattle.paper.specs.Line.{line-bytes}
 use Rattle.paper.specs.Calls.{State, names-of, refusal, Translated, tokens, refused-at, translate, accept, answered, delete, Head, numbered, too-great, no-digit, head-of, at-head, enter-sound}
@@ -29,27 +30,30 @@ use Rattle.editor.specs.Readings.{Ready, Edits, Prepared}
 -- ---- a refusal and a deletion
 
 module _ (s : State) (ks : List (List ℕ)) where
-  refused-go : (n k p : ℕ) (b : Bool) (t : Translated) → Refused k p ≡ pick b (Delete n) (of-translated ks n t) → refusal k p s ≡ pick b (delete s n) (answered s n t)
+  refused-go : (n k p q : ℕ) (b : Bool) (t : Translated) → Refused k p q ≡ pick b (Delete n) (of-translated ks n t) → refusal k (span p q) s ≡ pick b (delete s n) (answered s n t)
   unfolding of-translated answered
-  refused-go n k p true t e = let z : _≡_ {A = ℕ} 0 1 = cc in absurd (omega arith)
-  refused-go n k p false (tokens ts) e = let z : _≡_ {A = ℕ} 0 1 = cc in absurd (omega arith)
-  refused-go n k p false (refused-at k′ p′) e =
+  refused-go n k p q true t e = let z : _≡_ {A = ℕ} 0 1 = cc in absurd (omega arith)
+  refused-go n k p q false (tokens ts) e = let z : _≡_ {A = ℕ} 0 1 = cc in absurd (omega arith)
+  refused-go n k p q false (refused-at k′ there) e =
       let i : k ≡ k′ = cc in
-      let j : p ≡ p′ = cc in
-      rw (i, j)
+      let j : p ≡ there .start = cc in
+      let l : q ≡ there .end = cc in
+      rw (i, j, l)
 
   -- what reading refuses is refused
-  refused-head : (k p : ℕ) (h : Head) → Refused k p ≡ of-head ks h → refusal k p s ≡ at-head s h
+  refused-head : (k p q : ℕ) (h : Head) → Refused k p q ≡ of-head ks h → refusal k (span p q) s ≡ at-head s h
   unfolding of-head at-head
-  refused-head k p (numbered n q rest) e = refused-go n k p (eqb (run blank? rest) (length rest)) (translate q rest) e
-  refused-head k p too-great e =
+  refused-head k p q (numbered n from rest) e = refused-go n k p q (eqb (run blank? rest) (length rest)) (translate from rest) e
+  refused-head k p q too-great e =
       let i : k ≡ 3 = cc in
       let j : p ≡ 0 = cc in
-      rw (i, j)
-  refused-head k p no-digit e =
+      let l : q ≡ 0 = cc in
+      rw (i, j, l)
+  refused-head k p q no-digit e =
       let i : k ≡ 3 = cc in
       let j : p ≡ 0 = cc in
-      rw (i, j)
+      let l : q ≡ 0 = cc in
+      rw (i, j, l)
 
   delete-go : (n m : ℕ) (b : Bool) (t : Translated) → Delete m ≡ pick b (Delete n) (of-translated ks n t) → delete s m ≡ pick b (delete s n) (answered s n t)
   unfolding of-translated
@@ -128,9 +132,9 @@ module _ (s : State) (text line fresh line′ fresh′ : List ℕ) (r : Reading)
   abbrev ks : List (List ℕ)
   ks = names-in (take (s .name-size) (s .names))
 
-  enters-refused : (k p : ℕ) → r ≡ Refused k p → refusal k p s ≡ at-head s (head-of text)
+  enters-refused : (k p q : ℕ) → r ≡ Refused k p q → refusal k (span p q) s ≡ at-head s (head-of text)
   unfolding reading
-  enters-refused k p e = refused-head s ks k p (head-of text) (sym e ∙ told .answer)
+  enters-refused k p q e = refused-head s ks k p q (head-of text) (sym e ∙ told .answer)
 
   enters-delete : (n : ℕ) → r ≡ Delete n → delete s n ≡ at-head s (head-of text)
   unfolding reading
@@ -163,14 +167,14 @@ module _ (s : State) (text line fresh line′ fresh′ : List ℕ) (r : Reading)
     -- and what comes of the edit is what the text is to give
     pub enters-so : (q : Reading) → r ≡ q → (o : Outcome) → Edits s line′ fresh′ q o → o ≡ at-head s (head-of text)
     unfolding Edits
-    enters-so (Refused k p) e o h = h ∙ enters-refused k p e
+    enters-so (Refused k a b) e o h = h ∙ enters-refused k a b e
     enters-so (Delete n) e o h = h ∙ enters-delete n e
     enters-so (Read l) e o h = enters-line l e o h
 
 -- ---- a text of any length
 
 -- 2
-pub long-text : (names : List ℕ) (e : Editor) (text line fresh : List ℕ) → 120 < length text → Prepared names e text line fresh (Refused 2 0)
+pub long-text : (names : List ℕ) (e : Editor) (text line fresh : List ℕ) → 120 < length text → Prepared names e text line fresh (Refused 2 0 0)
 unfolding enter-sound Edits
 long-text names e text line fresh h =
     record {

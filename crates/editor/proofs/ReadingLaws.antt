@@ -3,6 +3,7 @@ use Prim.Native.Nat.{ℕ}
 use mathlib.Core.Path.{_≡_, sym, ap, _∙_, subst}
 use mathlib.Core.List.{List}
 use lib.ListN.{take}
+use Rattle.paper.specs.Items.{span}
 use Rattle.paper.specs.Calls.{State, lines-of, refusal, delete}
 use Rattle.paper.specs.Calls.{Entered as Outcome}
 use Rattle.store.specs.declared.Place.{Place}
@@ -18,9 +19,9 @@ use Rattle.editor_edit.specs.Lines.{Readable, Accepts}
 use Rattle.editor.specs.Readings.{asked-number, Ready, Edits}
 
 -- a refusal
-pub edits-refused : (names values store : List ℕ) (e : Editor) (line fresh : List ℕ) (r : Reading) (k q : ℕ) (x : Entered) → r ≡ Refused k q → x ≡ refusing k q e → Edits (state names values store e) line fresh r (entered x names values store)
+pub edits-refused : (names values store : List ℕ) (e : Editor) (line fresh : List ℕ) (r : Reading) (k a b : ℕ) (x : Entered) → r ≡ Refused k a b → x ≡ refusing k (span a b) e → Edits (state names values store e) line fresh r (entered x names values store)
 unfolding Edits refusal
-edits-refused names values store e line fresh r k q x f h = subst (λ (z : Reading). Edits (state names values store e) line fresh z (entered x names values store)) (sym f) (rw h)
+edits-refused names values store e line fresh r k a b x f h = subst (λ (z : Reading). Edits (state names values store e) line fresh z (entered x names values store)) (sym f) (rw h)
 
 module _ (s : State) (p : Place) (r : Reading) (lies : Lies p (asked-number r) s) where
   -- the place is that of its own number

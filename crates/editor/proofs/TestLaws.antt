@@ -6,6 +6,7 @@ use mathlib.Core.Bool.{Bool, true, false, _&&_}
 use mathlib.Core.List.{List}
 use lib.Dec.{T, leb}
 use lib.ListN.{length}
+use Rattle.paper.specs.Items.{no-span}
 use Rattle.paper.specs.Names.{sound-table}
 use Rattle.paper.specs.Store.{sound-store}
 use Rattle.paper.specs.Calls.{State, lines-of, sound-state, refusal, enter-sound, enter, not-listed, list-sound, list}
@@ -72,7 +73,7 @@ unfolding enter
 enter-so s text o t h = h ∙ sym (rw (is-true (sound-state s) t))
 
 -- 1
-pub enter-refused : (names values store : List ℕ) (e : Editor) (text : List ℕ) (x : Entered) → false ≡ sound-state (state names values store e) → x ≡ refusing 1 0 e
+pub enter-refused : (names values store : List ℕ) (e : Editor) (text : List ℕ) (x : Entered) → false ≡ sound-state (state names values store e) → x ≡ refusing 1 no-span e
     → entered x names values store ≡ enter text (state names values store e)
 unfolding enter refusal
 enter-refused names values store e text x t q = rw q (sym (rw (sym t)))

@@ -3,6 +3,7 @@ use Prim.Native.Nat.{ℕ}
 use mathlib.Core.Path.{_≡_}
 use mathlib.Core.List.{List}
 use lib.ListN.{take}
+use Rattle.paper.specs.Items.{span}
 use Rattle.paper.specs.Calls.{State, refusal, delete, enter-sound}
 use Rattle.paper.specs.Calls.{Entered as Outcome}
 use Rattle.enter_line.specs.declared.Line.{Line}
@@ -14,7 +15,7 @@ use Rattle.editor_edit.specs.Lines.{Readable, Accepts}
 
 -- the number of the line that a text is about; 0 of a text that is refused
 unfoldable pub asked-number : Reading → ℕ
-asked-number (Refused k p) = 0
+asked-number (Refused k a b) = 0
 asked-number (Delete n) = n
 asked-number (Read l) = l .number
 
@@ -24,7 +25,7 @@ Ready s line fresh r = (l : Line) → r ≡ Read l → Readable s (l .number) li
 
 -- an outcome is that of the refusal, the deletion, or the line that was read
 unfoldable pub Edits : State → List ℕ → List ℕ → Reading → Outcome → Type 0
-Edits s line fresh (Refused k p) o = o ≡ refusal k p s
+Edits s line fresh (Refused k a b) o = o ≡ refusal k (span a b) s
 Edits s line fresh (Delete n) o = o ≡ delete s n
 Edits s line fresh (Read l) o = Accepts s (l .number) line (l .size) (take (l .named) fresh) o
 

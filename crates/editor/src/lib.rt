@@ -62,11 +62,11 @@ pub fn enter(
         let mut fresh = [0u8; 240];
         let reading = read(text, names, e, &mut line, &mut fresh);
         match store::find(store, e.used, asked(reading)) {
-            Found::Unsound => refused(1, 0, e),
+            Found::Unsound => refused(1, e),
             Found::At(place) => edit(reading, place, &line, &fresh, names, values, store, e),
         }
     } else {
-        refused(1, 0, e)
+        refused(1, e)
     }
 }
 

@@ -2,7 +2,7 @@
 use buffers::front;
 use editor_edit::Editor;
 use editor_edit::Entered;
-use editor_edit::refused;
+use editor_edit::refused_at;
 use enter_line::Reading;
 use store::Place;
 ghost use mathlib.Core.Path.{_≡_};
@@ -28,7 +28,7 @@ pub(crate) fn read(
     ensures { λ r. ⌜ Prepared (now (names .entry)) e (now (text .entry)) (now (line .exit)) (now (fresh .exit)) r ⌝ }
 {
     if LONGEST_TEXT < text.len() {
-        return Reading::Refused(2, 0);
+        return Reading::Refused(2, 0, 0);
     }
     enter_line::read(text, names, e.name_bytes, line, fresh)
 }
@@ -38,7 +38,7 @@ pub(crate) fn asked(reading: Reading) -> usize
     ensures { λ r. ⌜ r ≡ asked-number reading ⌝ }
 {
     match reading {
-        Reading::Refused(_, _) => 0,
+        Reading::Refused(_, _, _) => 0,
         Reading::Delete(number) => number,
         Reading::Read(l) => l.number,
     }
@@ -60,7 +60,7 @@ pub(crate) fn edit(
     ensures { λ r. ⌜ Edits (state (now (names .entry)) (now (values .entry)) (now (store .entry)) e) (now (line .entry)) (now (fresh .entry)) reading (entered r (now (names .exit)) (now (values .exit)) (now (store .exit))) ⌝ }
 {
     match reading {
-        Reading::Refused(number, at) => refused(number, at, e),
+        Reading::Refused(number, at, end) => refused_at(number, at, end, e),
         Reading::Delete(_) => editor_edit::take_out(place, names, values, store, e),
         Reading::Read(l) => editor_edit::accept(
             place,

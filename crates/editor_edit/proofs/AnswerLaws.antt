@@ -7,6 +7,7 @@ use lib.Dec.{T}
 use lib.ListN.{length, take}
 use Rattle.paper.specs.Bytes.{joined}
 use Rattle.paper.specs.Tokens.{Token}
+use Rattle.paper.specs.Items.{no-span}
 use Rattle.paper.specs.Names.{names-in, name-bytes, value-entries}
 use Rattle.paper.specs.Line.{line-number}
 use Rattle.paper.specs.Store.{lines-in, put-line, take-out, overwritten}
@@ -34,7 +35,7 @@ module _ (names values store : List ℕ) (e : Editor) where
 
   -- the line is gone
   pub gone : T (sound-state S) → (n used : ℕ) (r : Removed) (store′ : List ℕ) → r ≡ removed-answer n (lines-of S) → store′ ≡ removed-bytes n store (lines-of S) → r ≡ Gone used
-      → entered (record { number = 0; place = 0; added = 0; editor = record { used = used; «name_count» = e .«name_count»; «name_bytes» = e .«name_bytes» } }) names values store′ ≡ delete S n
+      → entered (record { number = 0; place = 0; end = 0; added = 0; editor = record { used = used; «name_count» = e .«name_count»; «name_bytes» = e .«name_bytes» } }) names values store′ ≡ delete S n
   unfolding removed-bytes
   gone o n used r store′ a b g =
       let d = removed-done n (lines-of S) used (sym a ∙ g) in
@@ -43,7 +44,7 @@ module _ (names values store : List ℕ) (e : Editor) where
 
   -- the line is not there
   pub absent : (n : ℕ) (r : Removed) (store′ : List ℕ) (x : Entered) → r ≡ removed-answer n (lines-of S) → store′ ≡ removed-bytes n store (lines-of S) → r ≡ NotThere
-      → x ≡ refusing 9 0 e → entered x names values store′ ≡ delete S n
+      → x ≡ refusing 9 no-span e → entered x names values store′ ≡ delete S n
   unfolding removed-bytes
   absent n r store′ x a b g q =
       let d = removed-not-there n (lines-of S) (sym a ∙ g) in
@@ -57,18 +58,18 @@ module _ (names values store : List ℕ) (e : Editor) where
     lack = lacks (length names) (e .«name_bytes») (length values) (e .«name_count») (names-in fresh)
 
     -- 6
-    pub answer-6 : (b : Bool) (x : Entered) → b ≡ lack → b ≡ true → x ≡ refusing 6 0 e → Accepts S n line size fresh (entered x names values store)
+    pub answer-6 : (b : Bool) (x : Entered) → b ≡ lack → b ≡ true → x ≡ refusing 6 no-span e → Accepts S n line size fresh (entered x names values store)
     unfolding refusal
     answer-6 b x l t q ts w = rw q (refuses-6 S o n line size fresh (sym l ∙ t) ts w)
 
     -- 7
-    pub answer-7 : (b : Bool) (x : Entered) → b ≡ lack → b ≡ false → 255 < size → x ≡ refusing 7 0 e → Accepts S n line size fresh (entered x names values store)
+    pub answer-7 : (b : Bool) (x : Entered) → b ≡ lack → b ≡ false → 255 < size → x ≡ refusing 7 no-span e → Accepts S n line size fresh (entered x names values store)
     unfolding refusal
     answer-7 b x l t k q ts w = rw q (refuses-7 S o n line size fresh (sym l ∙ t) k ts w)
 
     -- 8
     pub answer-8 : (b : Bool) (x : Entered) (r : Stored) (part store′ : List ℕ) → b ≡ lack → b ≡ false → closed? fresh ≡ true → size ≤ 255
-        → part ≡ take size line → r ≡ stored-answer store (put-line part (lines-of S)) → store′ ≡ stored-bytes store (put-line part (lines-of S)) → r ≡ NoRoom → x ≡ refusing 8 0 e → Accepts S n line size fresh (entered x names values store′)
+        → part ≡ take size line → r ≡ stored-answer store (put-line part (lines-of S)) → store′ ≡ stored-bytes store (put-line part (lines-of S)) → r ≡ NoRoom → x ≡ refusing 8 no-span e → Accepts S n line size fresh (entered x names values store′)
     unfolding stored-bytes refusal
     answer-8 b x r part store′ l t c k p a z g q ts w =
         let d = stored-no-room store (put-line part (lines-of S)) (sym a ∙ g) in
@@ -80,7 +81,7 @@ module _ (names values store : List ℕ) (e : Editor) where
         → part ≡ take size line → r ≡ stored-answer store (put-line part (lines-of S)) → store′ ≡ stored-bytes store (put-line part (lines-of S)) → r ≡ Done used
         → names′ ≡ overwritten (take (e .«name_bytes») names ++ name-bytes (names-in fresh)) names
         → values′ ≡ overwritten (take (8 * e .«name_count») values ++ value-entries (e .«name_count») (names-in fresh)) values → added ≡ length (names-in fresh)
-        → Accepts S n line size fresh (entered (record { number = 0; place = 0; added = added; editor = record { used = used; «name_count» = e .«name_count» + added; «name_bytes» = e .«name_bytes» + length fresh } }) names′ values′ store′)
+        → Accepts S n line size fresh (entered (record { number = 0; place = 0; end = 0; added = added; editor = record { used = used; «name_count» = e .«name_count» + added; «name_bytes» = e .«name_bytes» + length fresh } }) names′ values′ store′)
     unfolding stored-bytes
     answer-0 b r used added part names′ values′ store′ l t c k p a z g en ev ea ts w =
         let d = stored-done store (put-line part (lines-of S)) used (sym a ∙ g) in

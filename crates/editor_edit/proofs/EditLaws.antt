@@ -11,6 +11,7 @@ use lib.Seq.{drop-append-seam, length-take-le, drop-length}
 use borrow.Author.Tests.{lt-ltb, le-ltb}
 use Rattle.paper.specs.Bytes.{joined}
 use Rattle.paper.specs.Tokens.{Token}
+use Rattle.paper.specs.Items.{no-span}
 use Rattle.paper.specs.Names.{names-in, name-bytes, add-names, value-entries}
 use Rattle.paper.specs.Line.{line-bytes, line-number}
 use Rattle.paper.specs.Store.{stored?, put-line, take-out, overwritten}
@@ -44,7 +45,7 @@ tables-stay s o ls =
 
 -- a line that is there
 pub taken-out : (s : State) → T (sound-state s) → (n : ℕ) → stored? n (lines-of s) ≡ true
-    → _≡_ {A = Outcome} (record { number = 0; place = 0; added = 0; after = with-lines s (take-out n (lines-of s)) }) (delete s n)
+    → _≡_ {A = Outcome} (record { number = 0; place = no-span; added = 0; after = with-lines s (take-out n (lines-of s)) }) (delete s n)
 unfolding delete
 taken-out s o n h = sym (rw (h, tables-stay s o (take-out n (lines-of s))))
 
@@ -75,12 +76,12 @@ module _ (s : State) (o : T (sound-state s)) (n : ℕ) (line : List ℕ) (size :
   lack-is ts w = ap (lacks-room s) (names-are w) ∙ sym (lacks-is s (names-in fresh) counted)
 
   -- 6
-  pub refuses-6 : lack ≡ true → Accepts s n line size fresh (refusal 6 0 s)
+  pub refuses-6 : lack ≡ true → Accepts s n line size fresh (refusal 6 no-span s)
   unfolding accept
   refuses-6 h ts w = sym (rw (lack-is ts w ∙ h))
 
   -- 7
-  pub refuses-7 : lack ≡ false → 255 < size → Accepts s n line size fresh (refusal 7 0 s)
+  pub refuses-7 : lack ≡ false → 255 < size → Accepts s n line size fresh (refusal 7 no-span s)
   unfolding accept
   refuses-7 h k ts w = sym (rw (lack-is ts w ∙ h, lt-ltb 255 (length (line-bytes (add-names (names-of s) ts) n ts)) (omega (arith, w .length-is))))
 
@@ -102,7 +103,7 @@ module _ (s : State) (o : T (sound-state s)) (n : ℕ) (line : List ℕ) (size :
   number-is ts w h k = ap line-number (line-is ts w h (w .closed) k) ∙ line-number-of (add-names (names-of s) ts) n ts
 
   -- 8
-  pub refuses-8 : lack ≡ false → closed? fresh ≡ true → size ≤ 255 → too-long (s .store) (put-line (take size line) (lines-of s)) ≡ true → Accepts s n line size fresh (refusal 8 0 s)
+  pub refuses-8 : lack ≡ false → closed? fresh ≡ true → size ≤ 255 → too-long (s .store) (put-line (take size line) (lines-of s)) ≡ true → Accepts s n line size fresh (refusal 8 no-span s)
   unfolding accept too-long
   refuses-8 h c k t ts w =
       let l = line-is ts w h c k in
@@ -129,7 +130,7 @@ module _ (s : State) (o : T (sound-state s)) (n : ℕ) (line : List ℕ) (size :
 
   -- 0
   pub takes : lack ≡ false → closed? fresh ≡ true → size ≤ 255 → too-long (s .store) (put-line (take size line) (lines-of s)) ≡ false
-      → Accepts s n line size fresh (record { number = 0; place = 0; added = length (names-in fresh); after = made })
+      → Accepts s n line size fresh (record { number = 0; place = no-span; added = length (names-in fresh); after = made })
   unfolding accept too-long
   takes h c k t ts w =
       let l = line-is ts w h c k in

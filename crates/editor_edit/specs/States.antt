@@ -2,6 +2,7 @@
 use Prim.Native.Nat.{ℕ}
 use mathlib.Core.Path.{_≡_}
 use mathlib.Core.List.{List}
+use Rattle.paper.specs.Items.{Span, span}
 use Rattle.paper.specs.Calls.{State, lines-of}
 use Rattle.paper.specs.Calls.{Entered as Outcome}
 use Rattle.store.specs.declared.Place.{Place}
@@ -20,11 +21,11 @@ empty-record = record { used = 0; «name_count» = 0; «name_bytes» = 0 }
 
 -- what a call answered, with what it left in names, values and store
 abbrev pub entered : Entered → List ℕ → List ℕ → List ℕ → Outcome
-entered r names values store = record { number = r .number; place = r .place; added = r .added; after = state names values store (r .editor) }
+entered r names values store = record { number = r .number; place = span (r .place) (r .end); added = r .added; after = state names values store (r .editor) }
 
 -- a refusal: nothing is added, and the record is as it was
-abbrev pub refusing : ℕ → ℕ → Editor → Entered
-refusing number place e = record { number = number; place = place; added = 0; editor = e }
+abbrev pub refusing : ℕ → Span → Editor → Entered
+refusing number place e = record { number = number; place = place .start; end = place .end; added = 0; editor = e }
 
 -- a place is that of a number in the store
 abbrev pub Lies : Place → ℕ → State → Type 0

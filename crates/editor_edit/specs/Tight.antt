@@ -15,7 +15,7 @@ record-of s = record { used = s .used; «name_count» = s .name-count; «name_by
 
 -- the answer of an outcome
 abbrev answer-of : Outcome → Entered
-answer-of o = record { number = o .number; place = o .place; added = o .added; editor = record-of (o .after) }
+answer-of o = record { number = o .number; place = o .place .start; end = o .place .end; added = o .added; editor = record-of (o .after) }
 
 -- of a text entered, or a line taken out: o is the outcome that the contract gives
 pub one-entered : (o : Outcome) (r r′ : Entered) (n v s n′ v′ s′ : List ℕ) → entered r n v s ≡ o → entered r′ n′ v′ s′ ≡ o → (r ≡ r′) × (n ≡ n′) × (v ≡ v′) × (s ≡ s′)

@@ -5,6 +5,7 @@ use store::Removed;
 use store::Stored;
 ghost use mathlib.Core.Path.{_≡_};
 ghost use lib.Dec.{T};
+ghost use Rattle.paper.specs.Items.{span, no-span};
 ghost use Rattle.paper.specs.Calls.{sound-state, delete};
 ghost use Rattle.editor_edit.specs.States.{state, empty-record, entered, refusing, Lies};
 ghost use Rattle.editor_edit.specs.Lines.{Readable, Accepts};
@@ -16,10 +17,11 @@ pub struct Editor {
     pub name_bytes: usize,
 }
 
-// What entering a text answers: document 01's number, the place where one applies, how many names were added, and the record afterwards.
+// What entering a text answers: document 01's number, the place and its end where they apply, how many names were added, and the record afterwards.
 pub struct Entered {
     pub number: u8,
     pub place: usize,
+    pub end: usize,
     pub added: usize,
     pub editor: Editor,
 }
@@ -38,16 +40,24 @@ pub fn empty() -> Editor
     }
 }
 
-// A refusal: nothing is added, and the record is as it was.
-pub fn refused(number: u8, place: usize, e: Editor) -> Entered
-    ensures { λ r. ⌜ r ≡ refusing number place e ⌝ }
+// A refusal of the item from a place to its end: nothing is added, and the record is as it was.
+pub fn refused_at(number: u8, place: usize, end: usize, e: Editor) -> Entered
+    ensures { λ r. ⌜ r ≡ refusing number (span place end) e ⌝ }
 {
     Entered {
         number,
         place,
+        end,
         added: 0,
         editor: e,
     }
+}
+
+// A refusal that has no place.
+pub fn refused(number: u8, e: Editor) -> Entered
+    ensures { λ r. ⌜ r ≡ refusing number no-span e ⌝ }
+{
+    refused_at(number, 0, 0, e)
 }
 
 // Takes the line at a place out of a sound store.
@@ -59,6 +69,7 @@ pub fn take_out(place: Place, names: &[u8], values: &[u8], store: &mut [u8], e: 
         Removed::Done(used) => Entered {
             number: 0,
             place: 0,
+            end: 0,
             added: 0,
             editor: Editor {
                 used,
@@ -66,7 +77,7 @@ pub fn take_out(place: Place, names: &[u8], values: &[u8], store: &mut [u8], e: 
                 name_bytes: e.name_bytes,
             },
         },
-        Removed::NotThere => refused(9, 0, e),
+        Removed::NotThere => refused(9, e),
     }
 }
 
@@ -90,19 +101,20 @@ pub fn accept(
     let count = e.name_count;
     let lacks = names_numbered::lacks_room(names.len(), bytes, values.len(), count, fresh);
     if lacks {
-        return refused(6, 0, e);
+        return refused(6, e);
     }
     if LONGEST_LINE < size {
-        return refused(7, 0, e);
+        return refused(7, e);
     }
     match store::put_in(store, e.used, place, front(line, size)) {
-        Stored::NoRoom => refused(8, 0, e),
+        Stored::NoRoom => refused(8, e),
         Stored::Done(used) => {
             names_numbered::add(names, bytes, values, count, fresh);
             let added = names_numbered::count(fresh);
             Entered {
                 number: 0,
                 place: 0,
+                end: 0,
                 added,
                 editor: Editor {
                     used,

@@ -1,6 +1,7 @@
 -- What a call with a lent record answered, as an outcome of `paper`.
 use Prim.Native.Nat.{ℕ}
 use mathlib.Core.List.{List}
+use Rattle.paper.specs.Items.{span}
 use Rattle.paper.specs.Calls.{Entered as Outcome}
 use Rattle.editor_edit.specs.States.{state}
 use Rattle.editor_edit.specs.declared.Editor.{Editor}
@@ -8,4 +9,4 @@ use Rattle.editor_lent.specs.declared.Answer.{Answer}
 
 -- what a call answered, with what it left in names, values, store and the record
 abbrev pub answered : Answer → List ℕ → List ℕ → List ℕ → Editor → Outcome
-answered r names values store e = record { number = r .number; place = r .place; added = r .added; after = state names values store e }
+answered r names values store e = record { number = r .number; place = span (r .place) (r .end); added = r .added; after = state names values store e }

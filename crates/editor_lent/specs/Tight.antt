@@ -10,7 +10,7 @@ use Rattle.editor_lent.specs.declared.Answer.{Answer}
 
 -- the answer of an outcome
 abbrev answer-of : Outcome → Answer
-answer-of o = record { number = o .number; place = o .place; added = o .added }
+answer-of o = record { number = o .number; place = o .place .start; end = o .place .end; added = o .added }
 
 -- o is the outcome that the contract gives
 pub one-answered : (o : Outcome) (r r′ : Answer) (n v s n′ v′ s′ : List ℕ) (e e′ : Editor) → answered r n v s e ≡ o → answered r′ n′ v′ s′ e′ ≡ o

@@ -9,10 +9,11 @@ ghost use Rattle.editor_edit.specs.States.{state};
 ghost use Rattle.editor_list.specs.Answers.{listed};
 ghost use Rattle.editor_lent.specs.Answers.{answered};
 
-// What entering a text over a lent record answers: document 01's number, the place where one applies, and how many names were added.
+// What entering a text over a lent record answers: document 01's number, the place and its end where they apply, and how many names were added.
 pub struct Answer {
     pub number: u8,
     pub place: usize,
+    pub end: usize,
     pub added: usize,
 }
 
@@ -31,6 +32,7 @@ pub fn enter_lent(
     Answer {
         number: r.number,
         place: r.place,
+        end: r.end,
         added: r.added,
     }
 }

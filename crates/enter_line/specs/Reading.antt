@@ -1,5 +1,5 @@
 -- What reading a text gives, from the definitions of document 01.
-use Prim.Native.Nat.{ℕ, _≤_}
+use Prim.Native.Nat.{ℕ, _+_, _≤_}
 use mathlib.Core.Path.{_≡_}
 use mathlib.Core.Bool.{false}
 use mathlib.Core.List.{List}
@@ -8,6 +8,7 @@ use lib.ListN.{length, drop}
 use lib.Seq.{sets}
 use Rattle.paper.specs.Bytes.{pick, blank?, run}
 use Rattle.paper.specs.Tokens.{Token}
+use Rattle.paper.specs.Items.{size-at}
 use Rattle.paper.specs.Names.{names-in, name-bytes, add-names}
 use Rattle.paper.specs.Line.{line-bytes}
 use Rattle.paper.specs.Calls.{Translated, tokens, refused-at, translate, Head, numbered, too-great, no-digit, head-of}
@@ -24,16 +25,20 @@ as-head text (Numbered n p) = numbered n p (drop p text)
 as-head text TooGreat = too-great
 as-head text NoDigit = no-digit
 
+-- a refusal at a place of a text, with the end of the item that stands there
+unfoldable pub ending-there : List ℕ → ℕ → ℕ → Reading
+ending-there text k p = Refused k p (p + size-at (drop p text))
+
 -- a translation over the names ks, of the line with number n
 unfoldable pub of-translated : List (List ℕ) → ℕ → Translated → Reading
 of-translated ks n (tokens ts) = Read (record { number = n; size = length (line-bytes (add-names ks ts) n ts); named = length (name-bytes (names-added ks ts)) })
-of-translated ks n (refused-at k p) = Refused k p
+of-translated ks n (refused-at k p) = Refused k (p .start) (p .end)
 
 -- by what stands after the number: nothing but blanks deletes
 unfoldable pub of-head : List (List ℕ) → Head → Reading
 of-head ks (numbered n p rest) = let read = of-translated ks n (translate p rest) in pick (eqb (run blank? rest) (length rest)) (Delete n) read
-of-head ks too-great = Refused 3 0
-of-head ks no-digit = Refused 3 0
+of-head ks too-great = Refused 3 0 0
+of-head ks no-digit = Refused 3 0 0
 
 -- the answer to a text
 unfoldable pub reading : List (List ℕ) → List ℕ → Reading

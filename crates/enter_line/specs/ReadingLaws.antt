@@ -3,7 +3,7 @@ use Prim.Native.Nat.{ℕ, suc, _+_, _-_, _/_, _%_, _≤_, _<_}
 use native.Mathlib.Omega.{arith}
 use mathlib.Core.Path.{_≡_, refl, subst, sym, ap, _∙_}
 use mathlib.Core.Bool.{Bool, true, false}
-use mathlib.Core.List.{List, _++_, append-nil}
+use mathlib.Core.List.{List, [], _∷_, _++_, append-nil}
 use lib.Dec.{eqb, leb}
 use borrow.Author.Tests.{eq-eqb, ne-eqb, le-leb, lt-leb, leb-true}
 use native.Mathlib.Nat.{mod-eq-of-lt, div-add-mod}
@@ -13,15 +13,19 @@ use Rattle.paper.specs.Bytes.{pick, digit?, blank?, run}
 use Rattle.paper.specs.Tokens.{Token}
 use Rattle.paper.specs.Constants.{value}
 use Rattle.paper.specs.Names.{names-in, name-bytes, add-names}
-use Rattle.paper.specs.Items.{scan, items}
-use Rattle.paper.specs.Machine.{read}
+use Rattle.paper.specs.Items.{Item as Scanned, item, span, size-at, scan, items}
+use Rattle.paper.specs.Machine.{bad, read}
 use Rattle.paper.specs.Grammar.{look-in-range, start}
 use Rattle.paper.specs.Line.{line-bytes, lawful-number?}
 use Rattle.paper.specs.WellFormed.{tokens-of}
 use Rattle.paper.specs.Calls.{tokens, refused-at, place-of, outcome, translate, numbered, too-great, no-digit, head-of}
 use Rattle.laws.specs.Names.{names-added, closed?}
+use Rattle.laws.specs.Ends.{refused-ends, end-in}
 use Rattle.buffers.specs.Runs.{run-within}
 use Rattle.buffers.specs.Sets.{front}
+use Rattle.enter_scan.specs.declared.Item.{Item}
+use Rattle.enter_scan.specs.Kinds.{shape-at, item-with}
+use Rattle.enter_scan.specs.Shapes.{item-shape}
 use Rattle.enter_item.specs.Draft.{low, with-offsets, written-line}
 use Rattle.enter_item.specs.DraftLaws.{line-size}
 use Rattle.enter_item.specs.Says.{env, Mem, mem, spot, known, items-at, Asks}
@@ -29,9 +33,10 @@ use Rattle.enter_item.specs.declared.Spot.{Spot}
 use Rattle.enter_statement.specs.Ends.{Halts}
 use Rattle.enter_line.specs.Lines.{Finishes}
 use Rattle.enter_line.specs.LineLaws.{sets-set}
-use Rattle.enter_line.specs.Reading.{as-head, of-translated, of-head, reading, Accepted, Told}
+use Rattle.enter_line.specs.Reading.{as-head, ending-there, of-translated, of-head, reading, Accepted, Told}
 use Rattle.enter_line.specs.declared.Head.{Head as Found}
 use Rattle.enter_line.specs.declared.Head.the-variants.{Numbered}
+use Rattle.enter_line.specs.declared.Reading.{Reading}
 use Rattle.enter_line.specs.declared.Reading.the-variants.{Read, Delete, Refused}
 
 -- ---- the head
@@ -104,11 +109,11 @@ more-rest {p} text h a b z = b (omega (arith, length-drop p text))
 
 -- ---- the answer
 
-pub told-none : {ks : List (List ℕ)} {text line fresh line′ fresh′ : List ℕ} → head-of text ≡ no-digit → Told ks text line fresh line′ fresh′ (Refused 3 0)
+pub told-none : {ks : List (List ℕ)} {text line fresh line′ fresh′ : List ℕ} → head-of text ≡ no-digit → Told ks text line fresh line′ fresh′ (Refused 3 0 0)
 unfolding reading of-head
 told-none {ks} h = record { answer = sym (ap (of-head ks) h); accepted = λ n p rest ts e b t. no-number (sym h ∙ e) }
 
-pub told-great : {ks : List (List ℕ)} {text line fresh line′ fresh′ : List ℕ} → head-of text ≡ too-great → Told ks text line fresh line′ fresh′ (Refused 3 0)
+pub told-great : {ks : List (List ℕ)} {text line fresh line′ fresh′ : List ℕ} → head-of text ≡ too-great → Told ks text line fresh line′ fresh′ (Refused 3 0 0)
 unfolding reading of-head
 told-great {ks} h = record { answer = sym (ap (of-head ks) h); accepted = λ n p rest ts e b t. no-great (sym h ∙ e) }
 
@@ -125,17 +130,17 @@ told-delete {ks} {text} {line} {fresh} {line′} {fresh′} {n} {p} {rest} h k =
       accepted = λ n′ p′ rest′ ts e b t. let i : rest ≡ rest′ = cc in let y : true ≡ false = sym z ∙ blank-same i ∙ b in let q : _≡_ {A = ℕ} 0 1 = cc in absurd (omega arith);
     }
 
-pub told-refused : {ks : List (List ℕ)} {text line fresh line′ fresh′ : List ℕ} {n p k q : ℕ} {rest : List ℕ} → head-of text ≡ numbered n p rest → (run blank? rest ≡ length rest → ⊥)
-    → translate p rest ≡ refused-at k q → Told ks text line fresh line′ fresh′ (Refused k q)
-unfolding reading of-head of-translated
-told-refused {ks} {text} {line} {fresh} {line′} {fresh′} {n} {p} {k} {q} {rest} h b t =
+pub told-refused : {ks : List (List ℕ)} {text line fresh line′ fresh′ : List ℕ} {n p k q : ℕ} {rest : List ℕ} {r : Reading} → head-of text ≡ numbered n p rest → (run blank? rest ≡ length rest → ⊥)
+    → translate p rest ≡ refused-at k (span q (q + size-at (drop q text))) → r ≡ ending-there text k q → Told ks text line fresh line′ fresh′ r
+unfolding reading of-head of-translated ending-there
+told-refused {ks} {text} {line} {fresh} {line′} {fresh′} {n} {p} {k} {q} {rest} h b t w =
     let z : eqb (run blank? rest) (length rest) ≡ false = ne-eqb (run blank? rest) (length rest) b in
     record {
-      answer = sym (ap (of-head ks) h ∙ rw z (ap (of-translated ks n) t));
+      answer = w ∙ sym (ap (of-head ks) h ∙ rw z (ap (of-translated ks n) t));
       accepted = λ n′ p′ rest′ ts e c u.
           let i : rest ≡ rest′ = cc in
           let j : p ≡ p′ = cc in
-          let y : refused-at k q ≡ tokens ts = sym t ∙ ap (λ (l : List ℕ). translate p l) i ∙ ap (λ (x : ℕ). translate x rest′) j ∙ u in
+          let y : refused-at k (span q (q + size-at (drop q text))) ≡ tokens ts = sym t ∙ ap (λ (l : List ℕ). translate p l) i ∙ ap (λ (x : ℕ). translate x rest′) j ∙ u in
           let w : _≡_ {A = ℕ} 0 1 = cc in absurd (omega arith);
     }
 
@@ -159,6 +164,17 @@ told-read {ks} {text} {line} {fresh} {line′} {fresh′} {n} {p} {size} {named}
           subst (λ (x : ℕ). Accepted ks x ts line fresh line′ fresh′) o (subst (λ (x : List Token). Accepted ks n x line fresh line′ fresh′) v (w .0));
     }
 
+-- ---- where a refused item ends
+
+-- past the item that the item reader sees at its place
+pub ends-seen : {place : ℕ} {it : Item} {number : ℕ} (text : List ℕ) → it ≡ item-with (shape-at false (drop place text)) place → Refused number place (it .end) ≡ ending-there text number place
+unfolding ending-there item-with shape-at size-at item
+ends-seen {place} {it} {number} text h = ap (λ (i : Item). Refused number place (i .end)) h ∙ ap (λ (n : ℕ). Refused number place (place + n)) (go (drop place text))
+  where
+    go : (s : List ℕ) → shape-at false s .size ≡ size-at s
+    go [] = refl
+    go (b ∷ s) = ap (λ (i : Scanned). i .size) (item-shape false 0 b s)
+
 -- ---- from the statements
 
 items-from : (text n : List ℕ) (e : ℕ) → items e (drop e text) ≡ items-at (env text 0 n) true e
@@ -169,9 +185,12 @@ pub translated-left : {m m′ : Mem} {q′ : Spot} (text n : List ℕ) (e w f : 
 unfolding translate outcome start
 translated-left text n e w f x = ap outcome (ap (read look-in-range start) (items-from text n e) ∙ x .ran)
 
-pub translated-bad : {k p : ℕ} (text n : List ℕ) (e : ℕ) → Halts start (items-at (env text 0 n) true e) k p → translate e (drop e text) ≡ refused-at k p
+pub translated-bad : {k p : ℕ} (text n : List ℕ) (e : ℕ) → Halts start (items-at (env text 0 n) true e) k p → translate e (drop e text) ≡ refused-at k (span p (p + size-at (drop p text)))
 unfolding translate outcome place-of
-translated-bad {k} {p} text n e x = ap outcome (ap (read look-in-range start) (items-from text n e) ∙ x .ran) ∙ ap (refused-at k) (sym (x .place))
+translated-bad {k} {p} text n e x =
+    let ran : read look-in-range start (items e (drop e text)) ≡ bad k (x .ts) (x .item ∷ x .rest) = ap (read look-in-range start) (items-from text n e) ∙ x .ran in
+    let end = end-in text e (drop e text) (x .item) refl (refused-ends e (drop e text) k (x .ts) (x .item) (x .rest) ran) in
+    ap outcome ran ∙ ap (λ (z : ℕ). refused-at k (span (x .item .place) z)) end ∙ ap (λ (z : ℕ). refused-at k (span z (z + size-at (drop z text)))) (sym (x .place))
 
 no-names : (names fresh : List ℕ) (q : Spot) (m : Mem) → q .named ≡ 0 → names-in names ++ names-in (take (q .named) (m .fresh)) ≡ names-in names
 unfolding names-in

@@ -7,6 +7,7 @@ use buffers::put;
 use buffers::run_end;
 use enter_item::Spot;
 use enter_item::Step;
+use enter_scan::item_at;
 use statements::low_byte;
 use statements::statements;
 use store::GREATEST_NUMBER;
@@ -15,7 +16,7 @@ ghost use Prim.Native.Nat.{_-_, _≤_, _<_};
 ghost use lib.ListN.{length, take};
 ghost use Rattle.paper.specs.Names.{names-in};
 ghost use Rattle.paper.specs.Calls.{head-of};
-ghost use Rattle.enter_line.specs.Reading.{Told, as-head};
+ghost use Rattle.enter_line.specs.Reading.{Told, as-head, ending-there};
 
 // A line that was read: its number, how many bytes it has, and how many bytes the names new in it have.
 pub struct Line {
@@ -24,11 +25,11 @@ pub struct Line {
     pub named: usize,
 }
 
-// What reading a text gives: a line, the number alone of a line to delete, or a refusal's number and place.
+// What reading a text gives: a line, the number alone of a line to delete, or a refusal's number, its place and that place's end.
 pub enum Reading {
     Read(Line),
     Delete(usize),
-    Refused(u8, usize),
+    Refused(u8, usize, usize),
 }
 
 // How a text begins: its number and the place past its digits; digits worth too much for a line; no digit.
@@ -52,6 +53,14 @@ fn head_of(text: &[u8]) -> Head
         return Head::TooGreat;
     }
     Head::Numbered(number, end)
+}
+
+// A refusal with 4 or 5 at a place of a text: it ends with the item that stands there.
+fn refused(text: &[u8], number: u8, place: usize) -> Reading
+    ensures { λ r. ⌜ r ≡ ending-there (now (text .entry)) number place ⌝ }
+{
+    let refused = item_at(text, place, false);
+    Reading::Refused(number, place, refused.end)
 }
 
 // Reads a text of at most 120 bytes over the first `size` bytes of a name table. An accepted line is written to the front of `line`, and the
@@ -81,10 +90,10 @@ pub fn read(text: &[u8], names: &[u8], size: usize, line: &mut [u8], fresh: &mut
                         named: p.named,
                     })
                 }
-                Step::Refused(k, p) => Reading::Refused(k, p),
+                Step::Refused(k, p) => refused(text, k, p),
             }
         }
-        Head::TooGreat => Reading::Refused(3, 0),
-        Head::NoDigit => Reading::Refused(3, 0),
+        Head::TooGreat => Reading::Refused(3, 0, 0),
+        Head::NoDigit => Reading::Refused(3, 0, 0),
     }
 }

@@ -54,7 +54,7 @@ pub struct RawText {
 }
 
 // The item at a place where no blank stands; `first` says: in statement position.
-fn item_at(part: &[u8], at: usize, first: bool) -> Item
+pub fn item_at(part: &[u8], at: usize, first: bool) -> Item
     ensures { λ r. ⌜ r ≡ item-with (shape-at first (drop at (now (part .entry)))) at ⌝ }
 {
     if part.len() <= at {

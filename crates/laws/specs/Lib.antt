@@ -5,3 +5,4 @@ pub mod Classes
 pub mod Runs
 pub mod Lines
 pub mod Names
+pub mod Ends

@@ -9,7 +9,7 @@ use Rattle.paper.specs.Bytes.{pick, digit?, blank?, run, joined}
 use Rattle.paper.specs.Tokens.{Token}
 use Rattle.paper.specs.Constants.{value}
 use Rattle.paper.specs.Names.{names-in, most-names, sound-table, add-names, name-bytes, value-entries}
-use Rattle.paper.specs.Items.{Item, items}
+use Rattle.paper.specs.Items.{Item, Span, span-of, no-span, items}
 use Rattle.paper.specs.Machine.{Run, left, done, bad, read}
 use Rattle.paper.specs.Grammar.{Gives, look-in-range, start}
 use Rattle.paper.specs.Line.{line-bytes, lawful-number?}
@@ -38,34 +38,34 @@ lines-of s = lines-in (take (s .used) (s .store))
 unfoldable pub sound-state : State → Bool
 sound-state s = sound-table (s .names) (s .name-size) (s .name-count) && (leb (8 * s .name-count) (length (s .values)) && sound-store (s .store) (s .used))
 
--- what a call to enter answers: number, place, names added; and the state afterwards, with the bytes used
+-- what a call to enter answers: number, place with its end (document 02, §8), names added; and the state afterwards, with the bytes used
 pub record Entered : Type 0 where
   pub number : ℕ
-  pub place : ℕ
+  pub place : Span
   pub added : ℕ
   pub after : State
 
 -- a refusal changes nothing
-unfoldable pub refusal : ℕ → ℕ → State → Entered
+unfoldable pub refusal : ℕ → Span → State → Entered
 refusal number place s = record { number = number; place = place; added = 0; after = s }
 
 -- ---- the translation: refusals 4 and 5, the leftmost first
 
--- the statements of a line as tokens; or a refusal's number and place
+-- the statements of a line as tokens; or a refusal's number, and where the item stands
 pub data Translated : Type 0 where
   tokens : List Token → Translated
-  refused-at : ℕ → ℕ → Translated
+  refused-at : ℕ → Span → Translated
 
--- the place of the first of some items
-unfoldable pub place-of : List Item → ℕ
-place-of [] = 0
-place-of (i ∷ is) = i .place
+-- where the first of some items stands
+unfoldable pub place-of : List Item → Span
+place-of [] = no-span
+place-of (i ∷ is) = span-of i
 
 -- What a run means: tokens, if all items are taken and nothing more is wanted; else the refusal of an item. Over the items of a text a run has no other
 -- end than these two (`Ending.settled` of crate `promises`), so that the second case and the third say nothing.
 unfoldable pub outcome : Run Gives Item → Translated
 outcome (left ts []) = tokens (tokens-of ts)
-outcome (left ts (f ∷ fs)) = refused-at 4 0
+outcome (left ts (f ∷ fs)) = refused-at 4 no-span
 outcome (done ts r) = refused-at 4 (place-of r)
 outcome (bad k ts r) = refused-at k (place-of r)
 
@@ -104,10 +104,10 @@ accept s n ts =
     let ns = add-names (names-of s) ts in
     let line = line-bytes ns n ts in
     let lines = put-line line (lines-of s) in
-    let entered : Entered = record { number = 0; place = 0; added = length ns - length (names-of s); after = stored s ns lines } in
-    pick (lacks-room s ns) (refusal 6 0 s)
-    (pick (ltb 255 (length line)) (refusal 7 0 s)
-    (pick (ltb (room (s .store)) (length (joined lines))) (refusal 8 0 s) entered))
+    let entered : Entered = record { number = 0; place = no-span; added = length ns - length (names-of s); after = stored s ns lines } in
+    pick (lacks-room s ns) (refusal 6 no-span s)
+    (pick (ltb 255 (length line)) (refusal 7 no-span s)
+    (pick (ltb (room (s .store)) (length (joined lines))) (refusal 8 no-span s) entered))
 
 -- the answer to a translation
 unfoldable pub answered : State → ℕ → Translated → Entered
@@ -117,8 +117,8 @@ answered s n (refused-at k p) = refusal k p s
 -- a text with only a number deletes
 unfoldable pub delete : State → ℕ → Entered
 delete s n =
-    let gone : Entered = record { number = 0; place = 0; added = 0; after = stored s (names-of s) (take-out n (lines-of s)) } in
-    pick (stored? n (lines-of s)) gone (refusal 9 0 s)
+    let gone : Entered = record { number = 0; place = no-span; added = 0; after = stored s (names-of s) (take-out n (lines-of s)) } in
+    pick (stored? n (lines-of s)) gone (refusal 9 no-span s)
 
 -- ---- the line's number: refusal 3
 
@@ -142,18 +142,18 @@ at-head s (numbered n p rest) =
     let deleted = delete s n in
     let translated = answered s n (translate p rest) in
     pick (eqb (run blank? rest) (length rest)) deleted translated
-at-head s too-great = refusal 3 0 s
-at-head s no-digit = refusal 3 0 s
+at-head s too-great = refusal 3 no-span s
+at-head s no-digit = refusal 3 no-span s
 
 -- ---- entering a text: refusals 1 and 2
 
 -- over sound tables and store: 2, then 3 and the others
 unfoldable pub enter-sound : List ℕ → State → Entered
-enter-sound text s = let entered = at-head s (head-of text) in pick (ltb 120 (length text)) (refusal 2 0 s) entered
+enter-sound text s = let entered = at-head s (head-of text) in pick (ltb 120 (length text)) (refusal 2 no-span s) entered
 
 -- 1, and then over sound tables and store
 unfoldable pub enter : List ℕ → State → Entered
-enter text s = let entered = enter-sound text s in pick (sound-state s) entered (refusal 1 0 s)
+enter text s = let entered = enter-sound text s in pick (sound-state s) entered (refusal 1 no-span s)
 
 -- ---- listing: refusals 1, 9, 10, 11
 

@@ -35,7 +35,7 @@ unfolding Names′.in-front Names′.names-in Names′.marked Names′.name-byte
 all-Names = tt
 
 unfoldable pub all-Items : Unit {0}
-unfolding Items′.item Items′.statement-or Items′.operator-or Items′.variable-at Items′.name-token Items′.name-at Items′.sign-size Items′.power-size Items′.with-power Items′.number-at Items′.string-byte? Items′.string-at Items′.symbol-or Items′.symbol-at Items′.item-at Items′.raw-byte? Items′.raw-from Items′.raw-at Items′.opens Items′.scan Items′.items
+unfolding Items′.item Items′.statement-or Items′.operator-or Items′.variable-at Items′.name-token Items′.name-at Items′.sign-size Items′.power-size Items′.with-power Items′.number-at Items′.string-byte? Items′.string-at Items′.symbol-or Items′.symbol-at Items′.item-at Items′.size-at Items′.raw-byte? Items′.raw-from Items′.raw-at Items′.opens Items′.scan Items′.items
 all-Items = tt
 
 unfoldable pub all-Machine : Unit {0}

@@ -3,21 +3,24 @@ use Prim.Native.Nat.{ℕ, _-_, _≤_}
 use native.Mathlib.Omega.{arith}
 use mathlib.Core.Path.{_≡_, refl, subst, sym, _∙_}
 use mathlib.Core.Bool.{Bool, true, false, not}
+use mathlib.Core.Logic.{_⊎_, inl, inr}
 use mathlib.Core.List.{List, [], _∷_}
 use lib.Dec.{T, T-not, eqb, ltb}
-use lib.ListN.{length}
+use lib.ListN.{length, drop}
+use lib.Seq.{drop-drop}
 use borrow.Author.Tests.{ltb-false}
-use Rattle.paper.specs.Bytes.{pick, blank?, every, among, joined}
+use Rattle.paper.specs.Bytes.{pick, blank?, run, every, among, joined}
 use Rattle.paper.specs.Tokens.{Token}
+use Rattle.paper.specs.Items.{Span, no-span}
 use Rattle.paper.specs.Line.{lawful-number?}
 use Rattle.paper.specs.WellFormed.{well-formed?}
 use Rattle.paper.specs.Listing.{listing}
 use Rattle.paper.specs.Store.{room, stored?, line-at, put-line, take-out, overwritten}
 use Rattle.paper.specs.Calls.{State, names-of, lines-of, sound-state, Entered, refusal, Translated, tokens, refused-at, translate, stored, lacks-room, accept, answered, delete, numbered, too-great, no-digit, head-of, at-head, enter-sound, enter, Listed, not-listed, list-sound, list}
 use Rattle.laws.specs.Tests.{as-T}
-use Rattle.promises.specs.Terms.{after-blanks, digit-count, number-in, number-end, past-number, items-in, NoReading, OutOfRange, names-with, line-with, Written}
+use Rattle.promises.specs.Terms.{after-blanks, digit-count, number-in, number-end, past-number, items-in, NoReading, OutOfRange, EndsThere, names-with, line-with, Written}
 use Rattle.promises.specs.Lists.{run-whole}
-use Rattle.promises.specs.Refusals.{Refusal, is-four, is-five, four-or-five, translation-refused}
+use Rattle.promises.specs.Refusals.{Refusal, is-four, is-five, four-or-five, translation-refused, translation-ends}
 use Rattle.promises.specs.Stored.{over-take, over-past, over-length}
 
 -- the refusals that have no place
@@ -31,16 +34,16 @@ pub record Numbered (text : List ℕ) (s : State) : Type 0 where
 
 -- What `enter` answers: a refusal with no place; a refusal with 4 or 5; the line put in; the line deleted
 pub data Answer (text : List ℕ) (s : State) : Entered → Type 0 where
-  refused-outright : (k : ℕ) → T (among k placeless) → Answer text s (refusal k 0 s)
-  refused-there : (k q : ℕ) → Refusal (items-in text) k q → Answer text s (refusal k q s)
+  refused-outright : (k : ℕ) → T (among k placeless) → Answer text s (refusal k no-span s)
+  refused-there : (k : ℕ) (q : Span) → Refusal (items-in text) k q → EndsThere text q → Answer text s (refusal k q s)
   puts-line : Numbered text s → (ts : List Token) → translate (number-end text) (past-number text) ≡ tokens ts → lacks-room s (names-with s ts) ≡ false
       → length (joined (put-line (line-with s (number-in text) ts) (lines-of s))) ≤ room (s .store)
-      → Answer text s (record { number = 0; place = 0; added = length (names-with s ts) - length (names-of s); after = stored s (names-with s ts) (put-line (line-with s (number-in text) ts) (lines-of s)) })
+      → Answer text s (record { number = 0; place = no-span; added = length (names-with s ts) - length (names-of s); after = stored s (names-with s ts) (put-line (line-with s (number-in text) ts) (lines-of s)) })
   drops-line : Numbered text s → T (every blank? (past-number text)) → T (stored? (number-in text) (lines-of s))
-      → Answer text s (record { number = 0; place = 0; added = 0; after = stored s (names-of s) (take-out (number-in text) (lines-of s)) })
+      → Answer text s (record { number = 0; place = no-span; added = 0; after = stored s (names-of s) (take-out (number-in text) (lines-of s)) })
 
 module _ (text : List ℕ) (s : State) where
-  outright : (k : ℕ) → T (among k placeless) → Answer text s (refusal k 0 s)
+  outright : (k : ℕ) → T (among k placeless) → Answer text s (refusal k no-span s)
   outright k t = refused-outright k t
 
   accept-says : Numbered text s → (ts : List Token) → translate (number-end text) (past-number text) ≡ tokens ts → Answer text s (accept s (number-in text) ts)
@@ -54,19 +57,25 @@ module _ (text : List ℕ) (s : State) where
       lines = put-line line (lines-of s)
 
       go : (a b c : Bool) → lacks-room s (names-with s ts) ≡ a → ltb (room (s .store)) (length (joined lines)) ≡ c
-          → Answer text s (pick a (refusal 6 0 s) (pick b (refusal 7 0 s) (pick c (refusal 8 0 s) (record { number = 0; place = 0; added = length (names-with s ts) - length (names-of s); after = stored s (names-with s ts) lines }))))
+          → Answer text s (pick a (refusal 6 no-span s) (pick b (refusal 7 no-span s) (pick c (refusal 8 no-span s) (record { number = 0; place = no-span; added = length (names-with s ts) - length (names-of s); after = stored s (names-with s ts) lines }))))
       go true b c x z = outright 6 tt
       go false true c x z = outright 7 tt
       go false false true x z = outright 8 tt
       go false false false x z = puts-line t ts e x (ltb-false _ _ z)
 
+  -- what stands after the number stands in the text at the number's end
+  stands-there : drop (number-end text) text ≡ past-number text
+  unfolding number-end past-number after-blanks
+  stands-there = sym (drop-drop (digit-count text) (run blank? text) text)
+
   translation-says : Numbered text s → (r : Translated) → translate (number-end text) (past-number text) ≡ r → Answer text s (answered s (number-in text) r)
   unfolding answered
   translation-says t (tokens ts) e = accept-says t ts e
-  translation-says t (refused-at k q) e = refused-there k q (translation-refused (number-end text) (past-number text) k q e)
+  translation-says t (refused-at k q) e =
+      refused-there k q (translation-refused (number-end text) (past-number text) k q e) (translation-ends text (number-end text) (past-number text) k q stands-there e)
 
   delete-go : Numbered text s → T (every blank? (past-number text)) → (b : Bool) → stored? (number-in text) (lines-of s) ≡ b
-      → Answer text s (pick b (record { number = 0; place = 0; added = 0; after = stored s (names-of s) (take-out (number-in text) (lines-of s)) }) (refusal 9 0 s))
+      → Answer text s (pick b (record { number = 0; place = no-span; added = 0; after = stored s (names-of s) (take-out (number-in text) (lines-of s)) }) (refusal 9 no-span s))
   unfolding among
   delete-go t e true x = drops-line t e (as-T _ x)
   delete-go t e false x = outright 9 tt
@@ -85,12 +94,12 @@ module _ (text : List ℕ) (s : State) where
       go false false e = outright 3 tt
       go false true e = rw (run-whole blank? (past-number text)) (number-go (record { sound = o; lawful = as-T _ e }) (every blank? (past-number text)) refl)
 
-  short-go : T (sound-state s) → (b : Bool) → Answer text s (pick b (refusal 2 0 s) (at-head s (head-of text)))
+  short-go : T (sound-state s) → (b : Bool) → Answer text s (pick b (refusal 2 no-span s) (at-head s (head-of text)))
   unfolding among
   short-go o true = outright 2 tt
   short-go o false = head-says o
 
-  sound-go : (b : Bool) → sound-state s ≡ b → Answer text s (pick b (enter-sound text s) (refusal 1 0 s))
+  sound-go : (b : Bool) → sound-state s ≡ b → Answer text s (pick b (enter-sound text s) (refusal 1 no-span s))
   unfolding enter-sound among
   sound-go true e = short-go (as-T (sound-state s) e) (ltb 120 (length text))
   sound-go false e = outright 1 tt
@@ -102,7 +111,7 @@ module _ (text : List ℕ) (s : State) where
 
 -- ---- what the answers of `enter` have in common
 
-refused-is : (k q : ℕ) (s : State) → ((refusal k q s) .number ≡ k) × ((refusal k q s) .place ≡ q) × ((refusal k q s) .added ≡ 0) × ((refusal k q s) .after ≡ s)
+refused-is : (k : ℕ) (q : Span) (s : State) → ((refusal k q s) .number ≡ k) × ((refusal k q s) .place ≡ q) × ((refusal k q s) .added ≡ 0) × ((refusal k q s) .after ≡ s)
 unfolding refusal
 refused-is k q s = (refl, refl, refl, refl)
 
@@ -112,8 +121,8 @@ not-outright k m h n e = T-not (among m placeless) n (subst (λ (z : ℕ). T (am
 
 four-so : (text : List ℕ) (s : State) (e : Entered) → Answer text s e → e .number ≡ 4 → NoReading (items-in text) (e .place)
 unfolding among
-four-so text s e (refused-outright k h) z = absurd (not-outright k 4 h tt (sym (refused-is k 0 s .0) ∙ z))
-four-so text s e (refused-there k q h) z = subst (NoReading (items-in text)) (sym (refused-is k q s .1)) (is-four (items-in text) k q h (sym (refused-is k q s .0) ∙ z))
+four-so text s e (refused-outright k h) z = absurd (not-outright k 4 h tt (sym (refused-is k no-span s .0) ∙ z))
+four-so text s e (refused-there k q h w) z = subst (NoReading (items-in text)) (sym (refused-is k q s .1)) (is-four (items-in text) k q h (sym (refused-is k q s .0) ∙ z))
 four-so text s e (puts-line t ts tr lacks fits) z = absurd (omega arith)
 four-so text s e (drops-line t b st) z = absurd (omega arith)
 
@@ -123,8 +132,8 @@ place-four text s z = four-so text s (enter text s) (answer text s) z
 
 five-so : (text : List ℕ) (s : State) (e : Entered) → Answer text s e → e .number ≡ 5 → OutOfRange (items-in text) (e .place)
 unfolding among
-five-so text s e (refused-outright k h) z = absurd (not-outright k 5 h tt (sym (refused-is k 0 s .0) ∙ z))
-five-so text s e (refused-there k q h) z = subst (OutOfRange (items-in text)) (sym (refused-is k q s .1)) (is-five (items-in text) k q h (sym (refused-is k q s .0) ∙ z))
+five-so text s e (refused-outright k h) z = absurd (not-outright k 5 h tt (sym (refused-is k no-span s .0) ∙ z))
+five-so text s e (refused-there k q h w) z = subst (OutOfRange (items-in text)) (sym (refused-is k q s .1)) (is-five (items-in text) k q h (sym (refused-is k q s .0) ∙ z))
 five-so text s e (puts-line t ts tr lacks fits) z = absurd (omega arith)
 five-so text s e (drops-line t b st) z = absurd (omega arith)
 
@@ -132,19 +141,33 @@ five-so text s e (drops-line t b st) z = absurd (omega arith)
 pub place-five : (text : List ℕ) (s : State) → (enter text s) .number ≡ 5 → OutOfRange (items-in text) ((enter text s) .place)
 place-five text s z = five-so text s (enter text s) (answer text s) z
 
-place-so : (text : List ℕ) (s : State) (e : Entered) → Answer text s e → (e .number ≡ 4 → ⊥) → (e .number ≡ 5 → ⊥) → e .place ≡ 0
-place-so text s e (refused-outright k h) x y = refused-is k 0 s .1
-place-so text s e (refused-there k q h) x y = absurd (four-or-five (items-in text) k q h (λ z. x (refused-is k q s .0 ∙ z)) (λ z. y (refused-is k q s .0 ∙ z)))
+place-so : (text : List ℕ) (s : State) (e : Entered) → Answer text s e → (e .number ≡ 4 → ⊥) → (e .number ≡ 5 → ⊥) → e .place ≡ no-span
+place-so text s e (refused-outright k h) x y = refused-is k no-span s .1
+place-so text s e (refused-there k q h w) x y = absurd (four-or-five (items-in text) k q h (λ z. x (refused-is k q s .0 ∙ z)) (λ z. y (refused-is k q s .0 ∙ z)))
 place-so text s e (puts-line t ts tr lacks fits) x y = refl
 place-so text s e (drops-line t b st) x y = refl
 
--- any other answer has place 0
-pub no-place : (text : List ℕ) (s : State) → ((enter text s) .number ≡ 4 → ⊥) → ((enter text s) .number ≡ 5 → ⊥) → (enter text s) .place ≡ 0
+ends-so : (text : List ℕ) (s : State) (e : Entered) → Answer text s e → (e .number ≡ 4) ⊎ (e .number ≡ 5) → EndsThere text (e .place)
+unfolding among
+ends-so text s e (refused-outright k h) (inl z) = absurd (not-outright k 4 h tt (sym (refused-is k no-span s .0) ∙ z))
+ends-so text s e (refused-outright k h) (inr z) = absurd (not-outright k 5 h tt (sym (refused-is k no-span s .0) ∙ z))
+ends-so text s e (refused-there k q h w) z = subst (EndsThere text) (sym (refused-is k q s .1)) w
+ends-so text s e (puts-line t ts tr lacks fits) (inl z) = absurd (omega arith)
+ends-so text s e (puts-line t ts tr lacks fits) (inr z) = absurd (omega arith)
+ends-so text s e (drops-line t b st) (inl z) = absurd (omega arith)
+ends-so text s e (drops-line t b st) (inr z) = absurd (omega arith)
+
+-- where the item at the place ends
+pub place-ends : (text : List ℕ) (s : State) → ((enter text s) .number ≡ 4) ⊎ ((enter text s) .number ≡ 5) → EndsThere text ((enter text s) .place)
+place-ends text s z = ends-so text s (enter text s) (answer text s) z
+
+-- any other answer has no place
+pub no-place : (text : List ℕ) (s : State) → ((enter text s) .number ≡ 4 → ⊥) → ((enter text s) .number ≡ 5 → ⊥) → (enter text s) .place ≡ no-span
 no-place text s x y = place-so text s (enter text s) (answer text s) x y
 
 unchanged-so : (text : List ℕ) (s : State) (e : Entered) → Answer text s e → (e .number ≡ 0 → ⊥) → (e .after ≡ s) × (e .added ≡ 0)
-unchanged-so text s e (refused-outright k h) n = (refused-is k 0 s .3, refused-is k 0 s .2)
-unchanged-so text s e (refused-there k q h) n = (refused-is k q s .3, refused-is k q s .2)
+unchanged-so text s e (refused-outright k h) n = (refused-is k no-span s .3, refused-is k no-span s .2)
+unchanged-so text s e (refused-there k q h w) n = (refused-is k q s .3, refused-is k q s .2)
 unchanged-so text s e (puts-line t ts tr lacks fits) n = absurd (n refl)
 unchanged-so text s e (drops-line t b st) n = absurd (n refl)
 

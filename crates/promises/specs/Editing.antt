@@ -11,6 +11,7 @@ use borrow.Author.Tests.{eq-eqb, eqb-true}
 use Rattle.paper.specs.Bytes.{pick, blank?, every, among, joined}
 use Rattle.paper.specs.Classes.{colon, line-end, raw-end}
 use Rattle.paper.specs.Tokens.{Token, class}
+use Rattle.paper.specs.Items.{no-span}
 use Rattle.paper.specs.Machine.{Taken, left, read}
 use Rattle.paper.specs.Grammar.{Gives, start}
 use Rattle.paper.specs.Line.{variable-bytes, own-bytes, begins?, to-next, token-bytes, line-bytes, line-number, lawful-number?}
@@ -158,7 +159,7 @@ lines-are s ns ls h = h .lines
 
 put-done : (text : List ℕ) (s : State) → Numbered text s → (ts : List Token) → translate (number-end text) (past-number text) ≡ tokens ts → (ns : List (List ℕ)) → names-with s ts ≡ ns → lacks-room s ns ≡ false
     → length (joined (put-line (line-bytes ns (number-in text) ts) (lines-of s))) ≤ room (s .store)
-    → Edited text s (record { number = 0; place = 0; added = length ns - length (names-of s); after = stored s ns (put-line (line-bytes ns (number-in text) ts) (lines-of s)) })
+    → Edited text s (record { number = 0; place = no-span; added = length ns - length (names-of s); after = stored s ns (put-line (line-bytes ns (number-in text) ts) (lines-of s)) })
 put-done text s t ts tr ns en lacks fits =
     let o : SoundState s = state-says s (t .sound) in
     let new : List (List ℕ) = names-added (names-of s) ts in
@@ -182,7 +183,7 @@ put-done text s t ts tr ns en lacks fits =
     (subst (λ (z : List (List ℕ)). WellFormed z (line-with s n ts)) (sym names) (subst (WellFormed ns) line wf))
 
 gone-done : (text : List ℕ) (s : State) → Numbered text s → T (every blank? (past-number text)) → T (stored? (number-in text) (lines-of s))
-    → Edited text s (record { number = 0; place = 0; added = 0; after = stored s (names-of s) (take-out (number-in text) (lines-of s)) })
+    → Edited text s (record { number = 0; place = no-span; added = 0; after = stored s (names-of s) (take-out (number-in text) (lines-of s)) })
 gone-done text s t b st =
     let o : SoundState s = state-says s (t .sound) in
     let n : ℕ = number-in text in
@@ -200,7 +201,7 @@ gone-done text s t b st =
 pub edited-so : (text : List ℕ) (s : State) (e : Entered) → Answer text s e → e .number ≡ 0 → Edited text s e
 unfolding refusal among
 edited-so text s e (refused-outright k h) z = absurd (not-outright k 0 h tt z)
-edited-so text s e (refused-there k q h) z = absurd (four-or-five (items-in text) k q h (λ x. omega arith) (λ x. omega arith))
+edited-so text s e (refused-there k q h w) z = absurd (four-or-five (items-in text) k q h (λ x. omega arith) (λ x. omega arith))
 edited-so text s e (puts-line t ts tr lacks fits) z = put-done text s t ts tr (names-with s ts) refl lacks fits
 edited-so text s e (drops-line t b st) z = gone-done text s t b st
 
@@ -215,7 +216,7 @@ after-any P text s h k = go (enter text s) (answer text s)
   where
     go : (e : Entered) → Answer text s e → P (e .after)
     go e (refused-outright n x) = h
-    go e (refused-there n q x) = h
+    go e (refused-there n q x w) = h
     go e (puts-line t ts tr lacks fits) = k e (edited-so text s e (puts-line t ts tr lacks fits) refl)
     go e (drops-line t b st) = k e (edited-so text s e (drops-line t b st) refl)
 

@@ -11,7 +11,7 @@ use borrow.Author.Tests.{ne-eqb, le-ltb}
 use Rattle.paper.specs.Bytes.{every, pick, digit?, blank, blank?, run}
 use Rattle.paper.specs.Tokens.{Token, operator}
 use Rattle.paper.specs.Constants.{value}
-use Rattle.paper.specs.Items.{Item, item, items, scan}
+use Rattle.paper.specs.Items.{Item, item, span-of, items, scan}
 use Rattle.paper.specs.Machine.{read}
 use Rattle.paper.specs.Grammar.{look-in-range, start}
 use Rattle.paper.specs.Line.{lawful-number?}
@@ -43,7 +43,7 @@ scan-blanks (b ∷ s) first p t =
     let r = scan-blanks s first (suc p) (and-right (blank? b) _ t) in
     (r .0, scan-blank b s first p (is-true (blank? b) (and-left (blank? b) _ t)) ∙ r .1)
 
-only-end : (q : ℕ) → outcome (read look-in-range start (item q 0 (operator 0x16) ∷ [])) ≡ refused-at 4 q
+only-end : (q : ℕ) → outcome (read look-in-range start (item q 0 (operator 0x16) ∷ [])) ≡ refused-at 4 (span-of (item q 0 (operator 0x16)))
 unfolding outcome place-of all-Bytes all-Words all-Tokens all-Items all-Grammar all-Machine
 only-end q = refl
 
@@ -56,7 +56,7 @@ not-blank p s ts e = go (every blank? s) refl
     go false h = refl
     go true h =
         let r = scan-blanks s true p (as-T _ h) in
-        let a : refused-at 4 (r .0) ≡ tokens ts = sym (only-end (r .0)) ∙ ap (λ (z : List Item). outcome (read look-in-range start z)) (sym (r .1)) ∙ e in
+        let a : refused-at 4 (span-of (item (r .0) 0 (operator 0x16))) ≡ tokens ts = sym (only-end (r .0)) ∙ ap (λ (z : List Item). outcome (read look-in-range start z)) (sym (r .1)) ∙ e in
         let z : _≡_ {A = ℕ} 0 1 = cc in
         absurd (omega arith)
 

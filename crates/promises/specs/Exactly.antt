@@ -12,7 +12,7 @@ use borrow.Author.Tests.{leb-true, leb-false, eqb-true, eqb-false, lt-ltb, le-lt
 use Rattle.paper.specs.Bytes.{pick, blank?, every, joined}
 use Rattle.paper.specs.Tokens.{Token}
 use Rattle.paper.specs.Names.{most-names, name-bytes}
-use Rattle.paper.specs.Items.{Item, items}
+use Rattle.paper.specs.Items.{Item, Span, items}
 use Rattle.paper.specs.Line.{line-number, lawful-number?}
 use Rattle.paper.specs.WellFormed.{Lawful, well-formed?}
 use Rattle.paper.specs.Listing.{listing}
@@ -101,7 +101,7 @@ module _ (s : State) (o : T (sound-state s)) (n : ℕ) where
       (λ e. tested number-of _ _ _ (says-giving is ts l (says-less 255 (length (line-with s n ts)))) (λ e. tested number-of _ _ _ (says-giving is ts l (says-full s o n ts)) (λ e. none-holds)))
 
   -- 4 and 5
-  refused-first : (is : List Item) (k q : ℕ) → Refusal is k q → FirstHolding (item-refusals is) k
+  refused-first : (is : List Item) (k : ℕ) (q : Span) → Refusal is k q → FirstHolding (item-refusals is) k
   refused-first is k q (no-reading h) = let u : Unread is = (q, h) in this-holds u
   refused-first is k q (too-far h) = let f : TooFar is = (q, h) in later-holds (λ (u : Unread is). not-both is (u .0) q (u .1) h) (this-holds f)
 

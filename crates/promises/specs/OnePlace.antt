@@ -7,7 +7,7 @@ use mathlib.Core.List.{List, [], _∷_, _++_, append-assoc}
 use lib.Dec.{T}
 use Rattle.paper.specs.Bytes.{every}
 use Rattle.paper.specs.Tokens.{Token, out-of-range, out-of-range?}
-use Rattle.paper.specs.Items.{Item, items}
+use Rattle.paper.specs.Items.{Item, Span, span-of, items}
 use Rattle.paper.specs.Machine.{left}
 use Rattle.paper.specs.Grammar.{look-item, start}
 use Rattle.paper.specs.WellFormed.{tokens-of, Lawful}
@@ -46,10 +46,10 @@ out-among is before rest i e o t =
     (and-left (in-range? i) _ (every-right in-range? before (i ∷ rest) (subst (λ (z : List Item). T (every in-range? z)) e t)))
 
 -- items that begin a lawful sequence are not those up to the place of 4
-begins-not : (is : List Item) (p : ℕ) (u : NoReading is p) (before m more : List Item) → before ≡ u .before ++ u .here ∷ m → LawfulItems (before ++ more) → ⊥
+begins-not : (is : List Item) (p : Span) (u : NoReading is p) (before m more : List Item) → before ≡ u .before ++ u .here ∷ m → LawfulItems (before ++ more) → ⊥
 begins-not is p u before m more e l = u .none-begins (m ++ more) (subst LawfulItems (ap (λ (z : List Item). z ++ more) e ∙ append-assoc (u .before) (u .here ∷ m) more) l)
 
-module _ (is : List Item) (p q : ℕ) where
+module _ (is : List Item) (p q : Span) where
   -- 4 and 5 never both have a place
   pub not-both : NoReading is p → OutOfRange is q → ⊥
   not-both u o = go (parted (u .before) (o .before) (u .here) (o .here) (u .rest) (o .rest) (sym (u .items) ∙ o .items))
@@ -64,7 +64,7 @@ module _ (is : List Item) (p q : ℕ) where
   one-4 u v = go (parted (u .before) (v .before) (u .here) (v .here) (u .rest) (v .rest) (sym (u .items) ∙ v .items))
     where
       go : Parted (u .before) (v .before) (u .here) (v .here) → p ≡ q
-      go (at-one e h) = sym (u .at) ∙ ap (λ (i : Item). i .place) h ∙ v .at
+      go (at-one e h) = sym (u .at) ∙ ap span-of h ∙ v .at
       go (first-left m e) = absurd (begins-not is p u (v .before) m (v .some-begins .0) e (v .some-begins .1))
       go (second-left m e) = absurd (begins-not is q v (u .before) m (u .some-begins .0) e (u .some-begins .1))
 
@@ -73,7 +73,7 @@ module _ (is : List Item) (p q : ℕ) where
   one-5 u v = go (parted (u .before) (v .before) (u .here) (v .here) (u .rest) (v .rest) (sym (u .items) ∙ v .items))
     where
       go : Parted (u .before) (v .before) (u .here) (v .here) → p ≡ q
-      go (at-one e h) = sym (u .at) ∙ ap (λ (i : Item). i .place) h ∙ v .at
+      go (at-one e h) = sym (u .at) ∙ ap span-of h ∙ v .at
       go (first-left m e) = absurd (out-among (v .before) (u .before) m (u .here) e (u .out) (v .in-range))
       go (second-left m e) = absurd (out-among (u .before) (v .before) m (v .here) e (v .out) (u .in-range))
 
@@ -101,7 +101,7 @@ not-refused is r = ((λ u. u .1 .none-begins (u .1 .rest) (subst LawfulItems (u 
 pub neither : (p : ℕ) (s : List ℕ) → ((Unread (items p s) → ⊥) × (TooFar (items p s) → ⊥)) ↔ Readable (items p s)
 neither p s = ((λ n. go n (translate p s) refl), not-refused (items p s))
   where
-    by : (Unread (items p s) → ⊥) × (TooFar (items p s) → ⊥) → (k q : ℕ) → Refusal (items p s) k q → ⊥
+    by : (Unread (items p s) → ⊥) × (TooFar (items p s) → ⊥) → (k : ℕ) (q : Span) → Refusal (items p s) k q → ⊥
     by n k q (no-reading h) = n .0 (q, h)
     by n k q (too-far h) = n .1 (q, h)
 

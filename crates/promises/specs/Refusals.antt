@@ -5,16 +5,18 @@ use mathlib.Core.Path.{_≡_, refl, subst, sym, ap, _∙_}
 use mathlib.Core.Bool.{Bool, true, not}
 use mathlib.Core.List.{List, [], _∷_, _++_, append-assoc, map}
 use lib.Dec.{T}
+use lib.ListN.{drop}
 use Rattle.paper.specs.Bytes.{every}
 use Rattle.paper.specs.Tokens.{Token, statement, assigned, operator, variable, constant, string, raw, out-of-range, unreadable, out-of-range?}
-use Rattle.paper.specs.Items.{Item, items}
+use Rattle.paper.specs.Items.{Item, Span, span-of, items}
 use Rattle.paper.specs.Machine.{Step, took, Taken, Run, left, done, bad, and-taken, go-on, read}
 use Rattle.paper.specs.MachineLaws.{all-taken, then, read-then}
 use Rattle.paper.specs.Grammar.{Gives, look-item, look-in-range, start}
 use Rattle.paper.specs.WellFormed.{tokens-of, Lawful}
 use Rattle.paper.specs.Calls.{refused-at, place-of, outcome, translate}
 use Rattle.laws.specs.Tests.{and-both}
-use Rattle.promises.specs.Terms.{LawfulItems, in-range?, NoReading, OutOfRange}
+use Rattle.laws.specs.Ends.{Ends, refused-ends, end-in}
+use Rattle.promises.specs.Terms.{LawfulItems, in-range?, NoReading, OutOfRange, EndsThere}
 use Rattle.promises.specs.Viable.{completion}
 use Rattle.promises.specs.FrameTables.{infos}
 use Rattle.promises.specs.Place as Place′
@@ -25,22 +27,22 @@ use Rattle.promises.specs.Scanned.{scanned-items}
 use Rattle.promises.specs.Ending.{Settled, settled}
 
 -- a refusal's number and place
-pub data Refusal (is : List Item) : ℕ → ℕ → Type 0 where
-  no-reading : {place : ℕ} → NoReading is place → Refusal is 4 place
-  too-far : {place : ℕ} → OutOfRange is place → Refusal is 5 place
+pub data Refusal (is : List Item) : ℕ → Span → Type 0 where
+  no-reading : {place : Span} → NoReading is place → Refusal is 4 place
+  too-far : {place : Span} → OutOfRange is place → Refusal is 5 place
 
 -- by its number
-pub is-four : (is : List Item) (k q : ℕ) → Refusal is k q → k ≡ 4 → NoReading is q
+pub is-four : (is : List Item) (k : ℕ) (q : Span) → Refusal is k q → k ≡ 4 → NoReading is q
 is-four is k q (no-reading h) e = h
 is-four is k q (too-far h) e = absurd (omega arith)
 
 -- and 5
-pub is-five : (is : List Item) (k q : ℕ) → Refusal is k q → k ≡ 5 → OutOfRange is q
+pub is-five : (is : List Item) (k : ℕ) (q : Span) → Refusal is k q → k ≡ 5 → OutOfRange is q
 is-five is k q (no-reading h) e = absurd (omega arith)
 is-five is k q (too-far h) e = h
 
 -- there is no other
-pub four-or-five : (is : List Item) (k q : ℕ) → Refusal is k q → (k ≡ 4 → ⊥) → (k ≡ 5 → ⊥) → ⊥
+pub four-or-five : (is : List Item) (k : ℕ) (q : Span) → Refusal is k q → (k ≡ 4 → ⊥) → (k ≡ 5 → ⊥) → ⊥
 four-or-five is k q (no-reading h) x y = x refl
 four-or-five is k q (too-far h) x y = y refl
 
@@ -70,7 +72,7 @@ unfolding every sources in-range? out?
 taken-in-range [] n = tt
 taken-in-range (t ∷ ts) n = and-both (in-range? (t .from)) (every in-range? (sources ts)) (subst (λ (b : Bool). T (not b)) (sym (n .0)) tt) (taken-in-range ts (n .1))
 
-first-item : (is : List Item) (ts : List (Taken Gives Item)) (i : Item) (rest : List Item) → NoneOut ts → First is (sources ts) i rest → NoReading is (i .place)
+first-item : (is : List Item) (ts : List (Taken Gives Item)) (i : Item) (rest : List Item) → NoneOut ts → First is (sources ts) i rest → NoReading is (span-of i)
 first-item is ts i rest n f =
     record {
       before = sources ts;
@@ -114,7 +116,7 @@ up-to ts i e next t =
           ∙ a .1,
     )
 
-out-item : (is : List Item) (ts : List (Taken Gives Item)) (i : Item) (rest : List Item) (e : Gives) (next : List ℕ) → NoneOut ts → is ≡ sources ts ++ i ∷ rest → out? i ≡ true → Stop look-item start ts i (took e next) → OutOfRange is (i .place)
+out-item : (is : List Item) (ts : List (Taken Gives Item)) (i : Item) (rest : List Item) (e : Gives) (next : List ℕ) → NoneOut ts → is ≡ sources ts ++ i ∷ rest → out? i ≡ true → Stop look-item start ts i (took e next) → OutOfRange is (span-of i)
 unfolding out?
 out-item is ts i rest e next n w o t =
     let u = up-to ts i e next t in
@@ -139,7 +141,7 @@ refused-so is s k ts r n (by-grammar us [] e) = absurd (subst Settled e s)
 refused-so is s k ts r n (by-grammar us (i ∷ q) e) = no-reading (first-item is us i q n (refused-first 4 is us i q e))
 refused-so is s k ts r n (by-range us i q e next w o t) = too-far (out-item is us i q e next n w o t)
 
-outcome-refused : (is : List Item) → Settled (read look-item start is) → (r : Run Gives Item) → Agrees start is r → (k q : ℕ) → outcome r ≡ refused-at k q → Refusal is k q
+outcome-refused : (is : List Item) → Settled (read look-item start is) → (r : Run Gives Item) → Agrees start is r → (k : ℕ) (q : Span) → outcome r ≡ refused-at k q → Refusal is k q
 unfolding outcome
 outcome-refused is s (left ts []) a k q e = let z : _≡_ {A = ℕ} 0 1 = cc in absurd (omega arith)
 outcome-refused is s (left ts (f ∷ fs)) a k q e = absurd (subst Settled (a .0) s)
@@ -147,9 +149,30 @@ outcome-refused is s (done ts r) a k q e = absurd (subst Settled (a .0) s)
 outcome-refused is s (bad m ts r) a k q e =
     let mk : m ≡ k = cc in
     let pq : place-of r ≡ q = cc in
-    subst (λ (z : ℕ). Refusal is k z) pq (subst (λ (z : ℕ). Refusal is z (place-of r)) mk (refused-so is s m ts r (a .1) (a .0)))
+    subst (λ (z : Span). Refusal is k z) pq (subst (λ (z : ℕ). Refusal is z (place-of r)) mk (refused-so is s m ts r (a .1) (a .0)))
 
 -- a text that is not translated is refused with 4 or 5, at an item
-pub translation-refused : (p : ℕ) (s : List ℕ) (k q : ℕ) → translate p s ≡ refused-at k q → Refusal (items p s) k q
+pub translation-refused : (p : ℕ) (s : List ℕ) (k : ℕ) (q : Span) → translate p s ≡ refused-at k q → Refusal (items p s) k q
 unfolding translate items
 translation-refused p s k q e = outcome-refused (items p s) (settled (items p s) (scanned-items s 0 true p)) (read look-in-range start (items p s)) (agrees start (items p s)) k q e
+
+-- ---- where the refused item ends
+
+no-item-left : (is : List Item) → Settled (read look-item start is) → (k : ℕ) (ts : List (Taken Gives Item)) → Refused start is k ts [] → ⊥
+no-item-left is s k ts (by-grammar us r e) = subst Settled e s
+
+outcome-ends : (p : ℕ) (s : List ℕ) → Settled (read look-item start (items p s)) → (r : Run Gives Item) → read look-in-range start (items p s) ≡ r → Agrees start (items p s) r
+    → (k : ℕ) (q : Span) → outcome r ≡ refused-at k q → (i : Item) × (span-of i ≡ q) × Ends p s i
+unfolding outcome place-of
+outcome-ends p s o (left ts []) h a k q e = let z : _≡_ {A = ℕ} 0 1 = cc in absurd (omega arith)
+outcome-ends p s o (left ts (f ∷ fs)) h a k q e = absurd (subst Settled (a .0) o)
+outcome-ends p s o (done ts r) h a k q e = absurd (subst Settled (a .0) o)
+outcome-ends p s o (bad m ts []) h a k q e = absurd (no-item-left (items p s) o m ts (a .0))
+outcome-ends p s o (bad m ts (i ∷ r)) h a k q e = (i, cc, refused-ends p s m ts i r h)
+
+-- past the item that stands at the place in the whole text, which has s from place p on
+pub translation-ends : (text : List ℕ) (p : ℕ) (s : List ℕ) (k : ℕ) (q : Span) → drop p text ≡ s → translate p s ≡ refused-at k q → EndsThere text q
+unfolding translate items
+translation-ends text p s k q d e =
+    let x = outcome-ends p s (settled (items p s) (scanned-items s 0 true p)) (read look-in-range start (items p s)) refl (agrees start (items p s)) k q e in
+    subst (EndsThere text) (x .1) (end-in text p s (x .0) d (x .2))

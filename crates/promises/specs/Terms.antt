@@ -10,7 +10,7 @@ use Rattle.paper.specs.Bytes.{pick, every, joined, blank?, digit?, run}
 use Rattle.paper.specs.Tokens.{Token, out-of-range, out-of-range?}
 use Rattle.paper.specs.Constants.{value, five, six}
 use Rattle.paper.specs.Names.{most-names, sound-names, name-bytes, add-names, value-entries}
-use Rattle.paper.specs.Items.{Item, items}
+use Rattle.paper.specs.Items.{Item, Span, span-of, no-span, size-at, items}
 use Rattle.paper.specs.Line.{line-bytes, line-number}
 use Rattle.paper.specs.WellFormed.{Lawful, WellFormed}
 use Rattle.paper.specs.Listing.{listing}
@@ -55,27 +55,31 @@ in-range? i = not (out-of-range? (i .token))
 
 -- Of the items `is`, the one at the place is the first such that no lawful sequence begins with the items up to it: none does, and some
 -- lawful sequence begins with the items before it. No constant before it is out of range.
-pub record NoReading (is : List Item) (place : ℕ) : Type 0 where
+pub record NoReading (is : List Item) (place : Span) : Type 0 where
   pub before : List Item
   pub here : Item
   pub rest : List Item
   pub items : is ≡ before ++ here ∷ rest
-  pub at : here .place ≡ place
+  pub at : span-of here ≡ place
   pub none-begins : (more : List Item) → LawfulItems (before ++ here ∷ more) → ⊥
   pub some-begins : (more : List Item) × LawfulItems (before ++ more)
   pub in-range : T (every in-range? before)
 
 -- Of the items `is`, the one at the place is the first constant out of range; some lawful sequence begins with the items up to it, so that
 -- any place for refusal 4 stands further right.
-pub record OutOfRange (is : List Item) (place : ℕ) : Type 0 where
+pub record OutOfRange (is : List Item) (place : Span) : Type 0 where
   pub before : List Item
   pub here : Item
   pub rest : List Item
   pub items : is ≡ before ++ here ∷ rest
-  pub at : here .place ≡ place
+  pub at : span-of here ≡ place
   pub out : here .token ≡ out-of-range
   pub some-begins : (more : List Item) × LawfulItems (before ++ here ∷ more)
   pub in-range : T (every in-range? before)
+
+-- a place in a text, with the end of the item that stands there
+abbrev pub EndsThere : List ℕ → Span → Type 0
+EndsThere text place = place .end ≡ place .start + size-at (drop (place .start) text)
 
 -- items that are a lawful sequence, with every constant in range
 abbrev pub Readable : List Item → Type 0
@@ -124,11 +128,11 @@ NoLineNumber text = (digit-count text ≡ 0) ⊎ (32767 < number-in text)
 
 -- 4: the grammar has no reading, and no constant further left is out of range
 abbrev pub Unread : List Item → Type 0
-Unread is = (place : ℕ) × NoReading is place
+Unread is = (place : Span) × NoReading is place
 
 -- 5: a constant is out of range, and the grammar has a reading up to it
 abbrev pub TooFar : List Item → Type 0
-TooFar is = (place : ℕ) × OutOfRange is place
+TooFar is = (place : Span) × OutOfRange is place
 
 -- the items are a lawful sequence, and this holds of the tokens that they give
 abbrev pub Giving : List Item → (List Token → Type 0) → Type 0
@@ -278,4 +282,4 @@ with-lines s ls =
 
 -- the answer of a text that is accepted and adds no name
 unfoldable pub accepted-with : State → Entered
-accepted-with after = record { number = 0; place = 0; added = 0; after = after }
+accepted-with after = record { number = 0; place = no-span; added = 0; after = after }

@@ -7,6 +7,7 @@ use lib.ListN.{length, getD, set}
 use lib.Seq.{sets}
 use borrow.Author.Tests.{lt-ltb, le-ltb}
 use Rattle.paper.specs.Bytes.{pick}
+use Rattle.paper.specs.Items.{no-span}
 use Rattle.paper.specs.Calls.{refusal, not-listed, enter, list}
 use Rattle.paper.specs.Calls.{Entered as Outcome, Listed as Written-out}
 use Rattle.editor_edit.specs.declared.Editor.{Editor}
@@ -23,9 +24,13 @@ two-put s s₁ s₂ a b e₁ e₂ = e₂ ∙ ap (λ (x : List ℕ). set x 1 b) e
 pub three-put : (s s₁ s₂ s₃ : List ℕ) (a b d : ℕ) → s₁ ≡ set s 0 a → s₂ ≡ set s₁ 1 b → s₃ ≡ set s₂ 2 d → s₃ ≡ sets s 0 (a ∷ b ∷ d ∷ [])
 three-put s s₁ s₂ s₃ a b d e₁ e₂ e₃ = e₃ ∙ ap (λ (x : List ℕ). set x 2 d) (two-put s s₁ s₂ a b e₁ e₂)
 
-pub four-put : (s s₁ s₂ s₃ s₄ : List ℕ) (a b d f : ℕ) → s₁ ≡ set s 0 a → s₂ ≡ set s₁ 1 b → s₃ ≡ set s₂ 2 d → s₄ ≡ set s₃ 3 f
+four-put : (s s₁ s₂ s₃ s₄ : List ℕ) (a b d f : ℕ) → s₁ ≡ set s 0 a → s₂ ≡ set s₁ 1 b → s₃ ≡ set s₂ 2 d → s₄ ≡ set s₃ 3 f
     → s₄ ≡ sets s 0 (a ∷ b ∷ d ∷ f ∷ [])
 four-put s s₁ s₂ s₃ s₄ a b d f e₁ e₂ e₃ e₄ = e₄ ∙ ap (λ (x : List ℕ). set x 3 f) (three-put s s₁ s₂ s₃ a b d e₁ e₂ e₃)
+
+pub five-put : (s s₁ s₂ s₃ s₄ s₅ : List ℕ) (a b d f g : ℕ) → s₁ ≡ set s 0 a → s₂ ≡ set s₁ 1 b → s₃ ≡ set s₂ 2 d → s₄ ≡ set s₃ 3 f → s₅ ≡ set s₄ 4 g
+    → s₅ ≡ sets s 0 (a ∷ b ∷ d ∷ f ∷ g ∷ [])
+five-put s s₁ s₂ s₃ s₄ s₅ a b d f g e₁ e₂ e₃ e₄ e₅ = e₅ ∙ ap (λ (x : List ℕ). set x 4 g) (four-put s s₁ s₂ s₃ s₄ a b d f e₁ e₂ e₃ e₄)
 
 -- a record's counts, read one by one
 pub read-so : (r : List ℕ) (u n b : ℕ) → u ≡ getD r 0 0 → n ≡ getD r 1 0 → b ≡ getD r 2 0 → _≡_ {A = Editor} (record { used = u; «name_count» = n; «name_bytes» = b }) (editor-of r)
@@ -33,19 +38,19 @@ read-so r u n b p q t = rw (p, q, t)
 
 module _ (text names values store r : List ℕ) (e : Editor) (so : e ≡ editor-of r) where
   -- a record that lacks a count
-  pub enter-lacking : (x : Entered) → x ≡ refusing 1 0 e → length r < 3 → entered x names values store ≡ enter-by-counts text names values store r
+  pub enter-lacking : (x : Entered) → x ≡ refusing 1 no-span e → length r < 3 → entered x names values store ≡ enter-by-counts text names values store r
   unfolding refusal
   enter-lacking x given h =
       ap (λ (y : Entered). entered y names values store) given
-      ∙ ap (λ (y : Editor). refusal 1 0 (state names values store y)) so
-      ∙ ap (λ (t : Bool). pick t (refusal 1 0 (state names values store (editor-of r))) (enter text (state names values store (editor-of r)))) (sym (lt-ltb (length r) 3 h))
+      ∙ ap (λ (y : Editor). refusal 1 no-span (state names values store y)) so
+      ∙ ap (λ (t : Bool). pick t (refusal 1 no-span (state names values store (editor-of r))) (enter text (state names values store (editor-of r)))) (sym (lt-ltb (length r) 3 h))
 
   -- a record that has them all
   pub enter-counted : (o : Outcome) → 3 ≤ length r → o ≡ enter text (state names values store e) → o ≡ enter-by-counts text names values store r
   enter-counted o h given =
       given
       ∙ ap (λ (x : Editor). enter text (state names values store x)) so
-      ∙ ap (λ (t : Bool). pick t (refusal 1 0 (state names values store (editor-of r))) (enter text (state names values store (editor-of r)))) (sym (le-ltb (length r) 3 h))
+      ∙ ap (λ (t : Bool). pick t (refusal 1 no-span (state names values store (editor-of r))) (enter text (state names values store (editor-of r)))) (sym (le-ltb (length r) 3 h))
 
 module _ (line : ℕ) (names values store r output : List ℕ) where
   -- a record that lacks a count

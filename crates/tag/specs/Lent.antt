@@ -6,6 +6,7 @@ use lib.Dec.{ltb}
 use lib.ListN.{length, getD}
 use lib.Seq.{sets}
 use Rattle.paper.specs.Bytes.{pick}
+use Rattle.paper.specs.Items.{no-span}
 use Rattle.paper.specs.Calls.{State, refusal, not-listed, enter, list}
 use Rattle.paper.specs.Calls.{Entered as Outcome, Listed as Written-out}
 use Rattle.editor_edit.specs.declared.Editor.{Editor}
@@ -21,7 +22,7 @@ counts s = s .used ∷ s .name-count ∷ s .name-size ∷ []
 
 -- the numbers that entering a text answers
 abbrev pub entered-numbers : Outcome → List ℕ
-entered-numbers o = o .number ∷ o .place ∷ o .added ∷ o .after .used ∷ []
+entered-numbers o = o .number ∷ o .place .start ∷ o .place .end ∷ o .added ∷ o .after .used ∷ []
 
 -- the numbers that listing a line answers
 abbrev pub listed-numbers : Written-out → List ℕ
@@ -31,7 +32,7 @@ listed-numbers o = o .number ∷ o .written ∷ []
 abbrev pub enter-by-counts : List ℕ → List ℕ → List ℕ → List ℕ → List ℕ → Outcome
 enter-by-counts text names values store r =
     let s = state names values store (editor-of r) in
-    pick (ltb (length r) 3) (refusal 1 0 s) (enter text s)
+    pick (ltb (length r) 3) (refusal 1 no-span s) (enter text s)
 
 -- a line listed: a record that lacks a count is refused with 1
 abbrev pub list-by-counts : ℕ → List ℕ → List ℕ → List ℕ → List ℕ → List ℕ → Written-out

@@ -53,13 +53,14 @@ fn write_record(record: &mut [usize], e: Editor)
 
 // Writes what entering a text answered, as many numbers as there is room for.
 fn write_entered(answer: &mut [usize], r: Entered)
-    ensures { λ _. ⌜ now (answer .exit) ≡ sets (now (answer .entry)) 0 (r .number ∷ r .place ∷ r .added ∷ r .editor .used ∷ []) ⌝ }
+    ensures { λ _. ⌜ now (answer .exit) ≡ sets (now (answer .entry)) 0 (r .number ∷ r .place ∷ r .end ∷ r .added ∷ r .editor .used ∷ []) ⌝ }
 {
     let e = r.editor;
     put(answer, 0, r.number as usize);
     put(answer, 1, r.place);
-    put(answer, 2, r.added);
-    put(answer, 3, e.used);
+    put(answer, 2, r.end);
+    put(answer, 3, r.added);
+    put(answer, 4, e.used);
 }
 
 // Writes what listing a line answered, as many numbers as there is room for.
@@ -82,7 +83,7 @@ fn enter_by_counts(
 {
     let e = read_record(record);
     if record.len() < COUNTS {
-        return refused(1, 0, e);
+        return refused(1, e);
     }
     editor::enter(text, names, values, store, e)
 }

@@ -33,7 +33,11 @@ impl Program {
             &mut self.store,
             &mut self.record,
         );
-        let _ = writeln!(shown, "E\t{text}\t{}\t{}", answer.number, answer.place);
+        let _ = writeln!(
+            shown,
+            "E\t{text}\t{}\t{}\t{}",
+            answer.number, answer.place, answer.end
+        );
         if answer.number != 0 {
             return;
         }

@@ -30,19 +30,24 @@ impl Checker {
         }
         match (&case.call, answer) {
             (
-                Call::Enter { text: _, tables },
+                Call::Enter { text, tables },
                 Answer::Enter {
                     number,
                     place,
+                    end,
                     added,
                     used,
                     tables: after,
                 },
             ) => {
                 require(*used == after.record.used, "used and the record differ")?;
+                let placed = *number == 4 || *number == 5;
+                require(placed || (*place, *end) == (0, 0), "a place without cause")?;
+                require(place <= end, "an end before its place")?;
+                require(*end <= text.len(), "an end past the text")?;
                 require(
-                    *place == 0 || *number == 4 || *number == 5,
-                    "a place without cause",
+                    !placed || (place == end) == (*place == text.len()),
+                    "an item without bytes",
                 )?;
                 if *number != 0 {
                     require(tables == after, "a refusal changed something")?;

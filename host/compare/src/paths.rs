@@ -35,6 +35,7 @@ pub fn through_library(call: &Call) -> Option<Answer> {
             Answer::Enter {
                 number: answer.number,
                 place: answer.place,
+                end: answer.end,
                 added: answer.added,
                 used: answer.used,
                 tables,

@@ -17,10 +17,11 @@ fn main() -> io::Result<()> {
         let answer = enter(line, &mut names, &mut values, &mut store, &mut record);
         writeln!(
             output,
-            "E\t{}\t{}\t{}\t{}\t{}",
+            "E\t{}\t{}\t{}\t{}\t{}\t{}",
             count + 1,
             answer.number,
             answer.place,
+            answer.end,
             answer.added,
             answer.used
         )?;

@@ -42,6 +42,7 @@ pub enum Answer {
     Enter {
         number: usize,
         place: usize,
+        end: usize,
         added: usize,
         used: usize,
         tables: Tables,
@@ -111,6 +112,7 @@ pub fn read_answer(line: &[u8], to_enter: bool) -> Option<Answer> {
     let number = fields.number()?;
     let answer = if to_enter {
         let place = fields.number()?;
+        let end = fields.number()?;
         let added = fields.number()?;
         let used = fields.number()?;
         let name_bytes = fields.number()?;
@@ -118,6 +120,7 @@ pub fn read_answer(line: &[u8], to_enter: bool) -> Option<Answer> {
         Answer::Enter {
             number,
             place,
+            end,
             added,
             used,
             tables: Tables {
@@ -148,12 +151,14 @@ pub fn write_answer(answer: &Answer) -> Vec<u8> {
         Answer::Enter {
             number,
             place,
+            end,
             added,
             used,
             tables,
         } => {
             line.number(*number);
             line.number(*place);
+            line.number(*end);
             line.number(*added);
             line.number(*used);
             line.number(tables.record.name_bytes);
@@ -189,6 +194,7 @@ pub fn run_reference(call: Call) -> Answer {
             Answer::Enter {
                 number: answer.number,
                 place: answer.place,
+                end: answer.end,
                 added: answer.added,
                 used: answer.used,
                 tables,
@@ -401,7 +407,7 @@ mod tests {
     #[test]
     fn calls_are_answered() {
         let answer = answer_line(b"enter 313020454e44 - 0 0 - 00000000000000 0");
-        assert_eq!(answer, b"0 0 0 6 0 0 - - 0a000606151600");
+        assert_eq!(answer, b"0 0 0 0 6 0 0 - - 0a000606151600");
         let answer = answer_line(b"list 10 - 0 0 - 0a0006061516 6 ffffffffffffffff");
         assert_eq!(answer, b"0 7 313020454e4420ff");
         let answer = answer_line(b"list 9223372036854775807 - 0 0 - - 0 -");

@@ -62,8 +62,9 @@ pub unsafe extern "C" fn virgontey_enter(
     let answer = lent_mut(answer, answer_len);
     answer[0] = given.number;
     answer[1] = given.place;
-    answer[2] = given.added;
-    answer[3] = given.used;
+    answer[2] = given.end;
+    answer[3] = given.added;
+    answer[4] = given.used;
 }
 
 /// # Safety

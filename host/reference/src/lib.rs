@@ -33,6 +33,7 @@ pub struct Record {
 pub struct EnterAnswer {
     pub number: usize,
     pub place: usize,
+    pub end: usize,
     pub added: usize,
     pub used: usize,
 }
@@ -56,12 +57,14 @@ pub fn enter(
         Ok(added) => EnterAnswer {
             number: 0,
             place: 0,
+            end: 0,
             added,
             used: record.used,
         },
-        Err((number, place)) => EnterAnswer {
+        Err((number, place, end)) => EnterAnswer {
             number,
             place,
+            end,
             added: 0,
             used: record.used,
         },
@@ -83,41 +86,41 @@ pub fn list(
     }
 }
 
-/// Enters a text; gives the count of names added, or the refusal and its place.
+/// Enters a text; gives the count of names added, or the refusal, its place and that place's end.
 fn enter_or_refuse(
     text: &[u8],
     names: &mut [u8],
     values: &mut [u8],
     store: &mut [u8],
     record: &mut Record,
-) -> Result<usize, (usize, usize)> {
-    let table = sound_names(names, values, store, record).ok_or((1, 0))?;
+) -> Result<usize, (usize, usize, usize)> {
+    let table = sound_names(names, values, store, record).ok_or((1, 0, 0))?;
     if text.len() > LONGEST_TEXT {
-        return Err((2, 0));
+        return Err((2, 0, 0));
     }
-    let (number, number_end) = read_line_number(text).ok_or((3, 0))?;
+    let (number, number_end) = read_line_number(text).ok_or((3, 0, 0))?;
     let place = find_line(store, record.used, number);
 
     if items::skip_blanks(text, number_end) == text.len() {
         if place.length == 0 {
-            return Err((9, 0));
+            return Err((9, 0, 0));
         }
         put_line(store, record, place.at, place.length, &[]);
         return Ok(0);
     }
 
     let translation = translate(text, number_end, number, &table)
-        .map_err(|refusal| (refusal.number as usize, refusal.place))?;
+        .map_err(|refusal| (refusal.number as usize, refusal.place, refusal.end))?;
     let Translation { line, new_names } = translation;
     let new_bytes = new_name_bytes(text, &new_names);
     if lacks_name_room(names, values, record, new_names.count(), new_bytes) {
-        return Err((6, 0));
+        return Err((6, 0, 0));
     }
     if line.length() > LONGEST_LINE {
-        return Err((7, 0));
+        return Err((7, 0, 0));
     }
     if record.used - place.length + line.length() > store_room(store) {
-        return Err((8, 0));
+        return Err((8, 0, 0));
     }
 
     put_line(store, record, place.at, place.length, line.bytes());

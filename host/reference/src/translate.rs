@@ -13,23 +13,32 @@ pub const LONGEST_TEXT: usize = 120;
 /// The longest token line.
 pub const LONGEST_LINE: usize = 255;
 
-/// Refusal 4 or 5 and its place.
+/// Refusal 4 or 5, and where the item that it is about starts and ends.
 #[derive(Clone, Copy, PartialEq, Eq, Debug)]
 pub struct Refusal {
     pub number: u8,
     pub place: usize,
+    pub end: usize,
 }
 
 type Read = Result<(), Refusal>;
 
 /// Refusal 4: the grammar has no reading.
-fn no_reading(place: usize) -> Refusal {
-    Refusal { number: 4, place }
+fn no_reading(place: usize, end: usize) -> Refusal {
+    Refusal {
+        number: 4,
+        place,
+        end,
+    }
 }
 
 /// Refusal 5: a constant is out of range.
-fn out_of_range(place: usize) -> Refusal {
-    Refusal { number: 5, place }
+fn out_of_range(constant: Item) -> Refusal {
+    Refusal {
+        number: 5,
+        place: constant.start,
+        end: constant.end,
+    }
 }
 
 /// Reads the line's number. Gives it and where its digits end; None: refusal 3.
@@ -185,7 +194,7 @@ impl Reader<'_> {
 
     /// Refuses the item in view.
     fn refuse<T>(&self) -> Result<T, Refusal> {
-        Err(no_reading(self.item.start))
+        Err(no_reading(self.item.start, self.item.end))
     }
 
     /// Writes a token for the item in view and goes on.
@@ -281,7 +290,7 @@ impl Reader<'_> {
     /// Takes the constant in view.
     fn take_constant(&mut self, constant: Option<Constant>) -> Read {
         let Some(bytes) = constant else {
-            return Err(out_of_range(self.item.start));
+            return Err(out_of_range(self.item));
         };
         self.line.put(operator::NUMBER);
         self.line.put_all(&bytes);
@@ -390,7 +399,8 @@ impl Reader<'_> {
         }
         let raw = &self.text[start..];
         if let Some(count) = raw.iter().position(|byte| *byte == TEXT_END) {
-            return Err(no_reading(start + count));
+            let place = start + count;
+            return Err(no_reading(place, place + 1));
         }
         self.line.put_all(raw);
         self.line.put(TEXT_END);

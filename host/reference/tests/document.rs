@@ -83,15 +83,15 @@ fn the_desk_example() {
         let a = desk.enter(text.as_bytes());
         let line = number + 1;
         shown += &format!(
-            "E\t{line}\t{}\t{}\t{}\t{}\n",
-            a.number, a.place, a.added, a.used
+            "E\t{line}\t{}\t{}\t{}\t{}\t{}\n",
+            a.number, a.place, a.end, a.added, a.used
         );
     }
     for line in [10, 20] {
         shown += &format!("L\t{}\n", desk.list(line).unwrap());
     }
     let wanted =
-        "E\t1\t0\t0\t1\t15\nE\t2\t0\t0\t1\t24\nE\t3\t4\t7\t0\t24\nL\t10 A=1\nL\t20 PRINT A;B\n";
+        "E\t1\t0\t0\t0\t1\t15\nE\t2\t0\t0\t0\t1\t24\nE\t3\t4\t7\t7\t0\t24\nL\t10 A=1\nL\t20 PRINT A;B\n";
     assert_eq!(shown, wanted);
 }
 

@@ -380,3 +380,34 @@ fn short_output() {
         }
     }
 }
+
+/// Over empty tables, the item from a place to its end is refused with this number.
+#[track_caller]
+fn refused_item(text: &[u8], number: usize, place: usize, end: usize) {
+    let answer = Desk::new().enter(text);
+    let shown = String::from_utf8_lossy(text);
+    let found = (answer.number, answer.place, answer.end);
+    assert_eq!(found, (number, place, end), "{shown}");
+}
+
+#[test]
+fn whole_items() {
+    refused_item(b"40 IF A BORC THEN 10", 4, 8, 12);
+    refused_item(b"10 NEXT A(1)", 4, 8, 9);
+    refused_item(b"10 NEXT A$(1)", 4, 8, 10);
+    refused_item(b"10 LET SIN(1)=2", 4, 7, 10);
+    refused_item(b"10 NEXT \"A\"", 4, 8, 11);
+    refused_item(b"10 A=1=<=2", 4, 7, 9);
+    refused_item(b"10 ?A$1.5E+5", 4, 6, 12);
+    refused_item(b"10 A=1E98", 5, 5, 9);
+    refused_item(b"10 A=1E100", 4, 9, 10);
+    refused_item(b"30 GOTO", 4, 7, 7);
+    refused_item(b"30 GOTO  ", 4, 9, 9);
+    refused_item(b"10 A@", 4, 4, 5);
+    refused_item(b"10 A=.", 4, 5, 6);
+    refused_item(b"10 A=\x9B", 4, 5, 6);
+    refused_item(b"10 REM A\x9BB", 4, 8, 9);
+    refused_item(b"10 DATA \x9B\x9B", 4, 8, 9);
+    refused_item(b"", 3, 0, 0);
+    refused_item(b"10", 9, 0, 0);
+}

@@ -20,7 +20,10 @@ pub struct Record {
 #[derive(Clone, Copy, PartialEq, Eq, Debug)]
 pub struct EnterAnswer {
     pub number: usize,
+    /// Where the refused item starts, for refusals 4 and 5.
     pub place: usize,
+    /// Where it ends.
+    pub end: usize,
     pub added: usize,
     pub used: usize,
 }
@@ -80,7 +83,7 @@ mod linked {
         record: &mut Record,
     ) -> EnterAnswer {
         let mut counts = [record.used, record.name_count, record.name_bytes];
-        let mut answer = [0; 4];
+        let mut answer = [0; 5];
         // Safe: every pointer comes from a slice and goes with its length; mutable slices never
         // overlap; the library keeps no pointer.
         unsafe {
@@ -100,10 +103,11 @@ mod linked {
             );
         }
         [record.used, record.name_count, record.name_bytes] = counts;
-        let [number, place, added, used] = answer;
+        let [number, place, end, added, used] = answer;
         EnterAnswer {
             number,
             place,
+            end,
             added,
             used,
         }
@@ -214,9 +218,9 @@ mod linked {
             for length in 0..3 {
                 let (mut lent, before) = (self::lent(), self::lent());
                 let mut record = [6, 0, 0];
-                let mut answer = [OTHER; 4];
+                let mut answer = [OTHER; 5];
                 enter(b"20 END", &mut lent, &mut record[..length], &mut answer);
-                assert_eq!(answer, [1, 0, 0, if length == 0 { 0 } else { 6 }]);
+                assert_eq!(answer, [1, 0, 0, 0, if length == 0 { 0 } else { 6 }]);
                 assert_eq!(record, [6, 0, 0]);
                 assert_eq!(lent.store, before.store);
 
@@ -229,22 +233,40 @@ mod linked {
 
         #[test]
         fn an_answer_gets_what_it_has_room_for() {
-            let whole = [0, 0, 0, 12, OTHER];
-            for length in 0..5 {
+            let whole = [0, 0, 0, 0, 12, OTHER];
+            for length in 0..=6 {
                 let mut lent = lent();
                 let mut record = [6, 0, 0, OTHER];
-                let mut answer = [OTHER; 5];
+                let mut answer = [OTHER; 6];
                 enter(b"20 END", &mut lent, &mut record, &mut answer[..length]);
                 assert_eq!(answer[..length], whole[..length]);
-                assert_eq!(answer[length..], [OTHER; 5][length..]);
+                assert_eq!(answer[length..], [OTHER; 6][length..]);
                 assert_eq!(record, [12, 0, 0, OTHER]);
 
                 let mut out = [0; 32];
-                let mut answer = [OTHER; 5];
+                let mut answer = [OTHER; 6];
                 list(&lent, &record, &mut out, &mut answer[..length]);
                 assert_eq!(&out[..8], b"10 END \0");
-                assert_eq!(answer[..length], [0, 7, OTHER, OTHER, OTHER][..length]);
-                assert_eq!(answer[length..], [OTHER; 5][length..]);
+                assert_eq!(
+                    answer[..length],
+                    [0, 7, OTHER, OTHER, OTHER, OTHER][..length]
+                );
+                assert_eq!(answer[length..], [OTHER; 6][length..]);
+            }
+        }
+
+        #[test]
+        fn a_refused_item_has_a_start_and_an_end() {
+            let refused: [(&[u8], [usize; 5]); 4] = [
+                (b"40 IF A BORC THEN 10", [4, 8, 12, 0, 6]),
+                (b"10 NEXT A(1)", [4, 8, 9, 0, 6]),
+                (b"10 A=1E98", [5, 5, 9, 0, 6]),
+                (b"30 GOTO", [4, 7, 7, 0, 6]),
+            ];
+            for (text, expected) in refused {
+                let mut answer = [OTHER; 5];
+                enter(text, &mut lent(), &mut [6, 0, 0], &mut answer);
+                assert_eq!(answer, expected, "{}", String::from_utf8_lossy(text));
             }
         }
     }

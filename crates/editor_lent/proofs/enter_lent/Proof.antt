@@ -79,13 +79,13 @@ stayed = (
 
 -- what the answer says, without the record
 abbrev answer : Entered → Answer
-answer r = record { number = r .number; place = r .place; added = r .added }
+answer r = record { number = r .number; place = r .place; end = r .end; added = r .added }
 
 -- the answer's parts are what they are said to be
 parts : (r : Entered) (vs : List Val) → Is E.the-row r vs → Is R.the-row (answer r) (R′.lowered (answer r) ∷ [])
 parts r vs is =
     let fields = LL.owed E.the-type E′.the-laws r vs is in
-    LL.owes R.the-type R′.the-laws (answer r) (fields .0, (fields .1 .0, (fields .1 .1 .0, tt)))
+    LL.owes R.the-type R′.the-laws (answer r) (fields .0, (fields .1 .0, (fields .1 .1 .0, (fields .1 .1 .1 .0, tt))))
 
 module _ {M : Type 1} (𝓤 : URA M) (H : Heap 𝓤) (A : Atoms 𝓤) (mem : Memory → SProp 𝓤) (run : Routine → Fun 𝓤) where
   -- the contract that the proof cites
@@ -198,12 +198,12 @@ module _ {M : Type 1} (𝓤 : URA M) (H : Heap 𝓤) (A : Atoms 𝓤) (W : Given
         -- [store's last list; true; values'; names'; true; the tokens and the result; the record's cell; the open borrow; obs; auth; _13; …; ..]
         move ! (5 ∷ []) $ split ! $ move ! (1 ∷ []) $ peeks ! E.the-row (Is E.the-row) (shows 𝓤 H A E.the-row) r (w ∷ []) (λ is.
         land ! (from ! (stop !)) (init ! 25 refl (LL.lawful E.the-type E′.the-laws 𝓤 H A W .typed r _ is .0)) $ rewrite ! 25 (λ (u : Val). ‵ (fat fullShare E′.mir l₆ 0 u)) (ap only (LL.tells E.the-type E′.the-laws r _ is)) refl $
-        assigns ! (of-opd ! (load ! (from ! (fld ! refl (stop !))) (look-in ! 25 (sub ! 3 refl (whole !))))) (from ! (hop ! (look ! 27 refl) (stop !))) (store ! 7 refl (LL.lawful T.the-type T′.the-laws 𝓤 H A W .typed (r .editor) _ (LL.owed E.the-type E′.the-laws r _ is .1 .1 .1 .0) .0)) $
-        assigns ! (agg ! (and-then ! (load ! (from ! (fld ! refl (stop !))) (look-in ! 25 (sub ! 0 refl (whole !)))) (and-then ! (load ! (from ! (fld ! refl (stop !))) (look-in ! 25 (sub ! 1 refl (whole !)))) (and-then ! (load ! (from ! (fld ! refl (stop !))) (look-in ! 25 (sub ! 2 refl (whole !)))) (no-more !))))) (from ! (stop !))
+        assigns ! (of-opd ! (load ! (from ! (fld ! refl (stop !))) (look-in ! 25 (sub ! 4 refl (whole !))))) (from ! (hop ! (look ! 27 refl) (stop !))) (store ! 7 refl (LL.lawful T.the-type T′.the-laws 𝓤 H A W .typed (r .editor) _ (LL.owed E.the-type E′.the-laws r _ is .1 .1 .1 .1 .0) .0)) $
+        assigns ! (agg ! (and-then ! (load ! (from ! (fld ! refl (stop !))) (look-in ! 25 (sub ! 0 refl (whole !)))) (and-then ! (load ! (from ! (fld ! refl (stop !))) (look-in ! 25 (sub ! 1 refl (whole !)))) (and-then ! (load ! (from ! (fld ! refl (stop !))) (look-in ! 25 (sub ! 2 refl (whole !)))) (and-then ! (load ! (from ! (fld ! refl (stop !))) (look-in ! 25 (sub ! 3 refl (whole !)))) (no-more !)))))) (from ! (stop !))
         (init ! 37 refl (LL.lawful R.the-type R′.the-laws 𝓤 H A W .typed (answer r) _ (parts r _ is) .0)) $
         -- the borrow is closed at the answer's record
         move ! (7 ∷ []) $ use1 W (‵ (cellAt fullShare (T.the-row .mir) (T′.lowered (r .editor) ∷ []) b o)) (W .laws .at-raw fullShare T′.mir b o (T′.lowered (r .editor))) $
-        owned ! T.the-row (Is T.the-row) ((LL.makes T.the-type T′.the-plain) 𝓤 H A) (r .editor) _ (LL.owed E.the-type E′.the-laws r _ is .1 .1 .1 .0) $ move ! (1 ∷ 0 ∷ 9 ∷ 10 ∷ 11 ∷ []) $ closes ! tt T.the-row (r .editor) (T′.lowered (r .editor) ∷ []) b o $
+        owned ! T.the-row (Is T.the-row) ((LL.makes T.the-type T′.the-plain) 𝓤 H A) (r .editor) _ (LL.owed E.the-type E′.the-laws r _ is .1 .1 .1 .1 .0) $ move ! (1 ∷ 0 ∷ 9 ∷ 10 ∷ 11 ∷ []) $ closes ! tt T.the-row (r .editor) (T′.lowered (r .editor) ∷ []) b o $
         -- [obs; the borrow; the token; what the result owns; the slices' tokens; store's last list; true; values'; names'; true; _13; …; ..]
         returns ! (look ! 36 refl) $ forget ! 10 refl $ forget ! 12 refl $ forget ! 14 refl $ forget ! 16 refl $ forget ! 18 refl $ forget ! 20 refl $ forget ! 22 refl $ forget ! 24 refl $ forget ! 26 refl $ forget ! 28 refl $ forget ! 30 refl $ forget ! 32 refl $ forget ! 34 refl $ forget ! 36 refl $
         move ! (36 ∷ 37 ∷ []) $ free1 ! $ move ! (34 ∷ 35 ∷ []) $ free1 ! $ move ! (32 ∷ 33 ∷ []) $ free1 ! $ move ! (30 ∷ 31 ∷ []) $ free1 ! $ move ! (28 ∷ 29 ∷ []) $ free1 ! $ move ! (26 ∷ 27 ∷ []) $ free1 ! $ move ! (24 ∷ 25 ∷ []) $ free1 ! $

@@ -1,4 +1,4 @@
-use Rattle.tag.proofs.LentLaws.{four-put}
+use Rattle.tag.proofs.LentLaws.{five-put}
 use borrow.Author.Needs.{needs}
 use Rattle.tag.proofs.write_entered.Statement.{statement}
 use Rattle.tag.proofs.write_entered.Tie as tie
@@ -18,11 +18,14 @@ put-requires-3 c κs = search needs
 put-requires-4 : tie.Need-put-requires-4
 put-requires-4 c κs = search needs
 
+put-requires-5 : tie.Need-put-requires-5
+put-requires-5 c κs = search needs
+
 same-length : tie.Need-same-length
 same-length c = search needs
 
 returns : tie.Need-returns
-returns c = four-put (c .before .before .before .before .before .before .before .before .before .before .before .before .before .before .before .before .before .before .before .args .answer .now) _ _ _ _ (c .before .before .before .before .before .before .before .before .before .before .before .before .before .before .before .before .before .before .before .args .r .number) _ _ _ (c .before .before .before .before .before .before .before .before .before .before .before .before .before .before .put .ensures) (c .before .before .before .before .before .before .before .before .before .before .put2 .ensures) (c .before .before .before .before .before .before .put3 .ensures) (c .before .before .put4 .ensures)
+returns c = five-put (c .before .before .before .before .before .before .before .before .before .before .before .before .before .before .before .before .before .before .before .before .before .before .before .args .answer .now) _ _ _ _ _ (c .before .before .before .before .before .before .before .before .before .before .before .before .before .before .before .before .before .before .before .before .before .before .before .args .r .number) _ _ _ _ (c .before .before .before .before .before .before .before .before .before .before .before .before .before .before .before .before .before .before .put .ensures) (c .before .before .before .before .before .before .before .before .before .before .before .before .before .before .put2 .ensures) (c .before .before .before .before .before .before .before .before .before .before .put3 .ensures) (c .before .before .before .before .before .before .put4 .ensures) (c .before .before .put5 .ensures)
 
 pub write-entered-spec : {M : Type 1} → statement M
 write-entered-spec =
@@ -33,5 +36,6 @@ write-entered-spec =
     put-requires-2
     put-requires-3
     put-requires-4
+    put-requires-5
     same-length
     returns)

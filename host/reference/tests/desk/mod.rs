@@ -75,7 +75,11 @@ pub fn hex(bytes: &[u8]) -> String {
 pub fn gives(text: &str, line: &str) {
     let mut desk = Desk::new();
     let answer = desk.enter(text.as_bytes());
-    assert_eq!((answer.number, answer.place), (0, 0), "{text}");
+    assert_eq!(
+        (answer.number, answer.place, answer.end),
+        (0, 0, 0),
+        "{text}"
+    );
     assert_eq!(desk.hex(), line, "{text}");
     assert_eq!(answer.used, desk.record.used);
     assert_eq!(answer.added, desk.record.name_count);

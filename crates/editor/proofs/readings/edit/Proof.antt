@@ -7,8 +7,8 @@ use Rattle.editor.proofs.readings.edit.Tie as tie
 enum-known-reading : tie.Need-enum-known-reading
 enum-known-reading c = search needs
 
-refused-requires : tie.Need-refused-requires
-refused-requires c κs = search needs
+refused-at-requires : tie.Need-refused-at-requires
+refused-at-requires c κs = search needs
 
 enum-told : tie.Need-enum-told
 enum-told c = search needs
@@ -32,7 +32,7 @@ accept-requires c κs =
 returns : tie.Need-returns
 returns c =
     let args = c .before .before .before .before .before .before .before .before .before .args in
-    edits-refused (args .names .now) (args .values .now) (args .store .now) (args .e) (args .line .now) (args .fresh .now) (args .reading) _ _ _ (c .before .before .reading .given .1) (c .refused .ensures)
+    edits-refused (args .names .now) (args .values .now) (args .store .now) (args .e) (args .line .now) (args .fresh .now) (args .reading) _ _ _ _ (c .before .before .reading .given .1) (c .refused-at .ensures)
 
 same-length : tie.Need-same-length
 same-length c = search needs
@@ -67,7 +67,7 @@ edit-spec =
     tie.close
     (tie.spec
     enum-known-reading
-    refused-requires
+    refused-at-requires
     enum-told
     take-out-requires
     enum-known-reading-2
