@@ -3,6 +3,7 @@ pub mod Worked
 pub mod Recorded
 pub mod Limits
 pub mod Quotes
+pub mod Pairs
 pub mod Kinds
 pub mod Following
 pub mod Coverage
