@@ -131,7 +131,7 @@ def main():
     for i in range(0, len(table), GROUP):
         n = i // GROUP
         out += f"\nunfoldable pub calls-{n} : List Call\ncalls-{n} =\n    " + "\n    ∷ ".join(table[i : i + GROUP]) + "\n    ∷ []\n"
-        out += f"\npub agree-{n} : failing {i} calls-{n} ≡ []\nunfolding everything state same-state meets failing calls-{n}\nagree-{n} = refl\n"
+        out += f"\npub agree-{n} : failing {i} calls-{n} ≡ []\nunfolding everything agreeing state same-state meets failing calls-{n}\nagree-{n} = refl\n"
     open(FILE, "w").write(out)
     print(len(table), "calls")
 

@@ -3,7 +3,9 @@ use Prim.Native.Nat.{ℕ, suc}
 use mathlib.Core.Bool.{Bool, _&&_}
 use mathlib.Core.List.{List, [], _∷_}
 use lib.Dec.{eqb}
+use lib.ListN.{length, take}
 use Rattle.paper.specs.Bytes.{pick, same}
+use Rattle.paper.specs.Store.{lines-in, greatest-number}
 use Rattle.paper.specs.Calls.{State, enter, list}
 
 pub data Call : Type 0 where
@@ -12,11 +14,18 @@ pub data Call : Type 0 where
   -- a line listed into a buffer; the answer's number and bytes written, and the buffer afterwards
   lists : ℕ → State → List ℕ → ℕ → ℕ → List ℕ → Call
 
+-- names, their bytes and count, values, store and the bytes used; the count of lines and the greatest number are what a walk of the store finds
+unfoldable pub agreeing : List ℕ → ℕ → ℕ → List ℕ → List ℕ → ℕ → State
+agreeing names size count values store used =
+    let ls = lines-in (take used store) in
+    record { names = names; name-size = size; name-count = count; values = values; store = store; used = used; line-count = length ls; greatest = greatest-number ls }
+
 -- two states are equal
 unfoldable pub same-state : State → State → Bool
 same-state a b =
     same (a .names) (b .names) && (eqb (a .name-size) (b .name-size) && (eqb (a .name-count) (b .name-count)
-    && (same (a .values) (b .values) && (same (a .store) (b .store) && eqb (a .used) (b .used)))))
+    && (same (a .values) (b .values) && (same (a .store) (b .store) && (eqb (a .used) (b .used)
+    && (eqb (a .line-count) (b .line-count) && eqb (a .greatest) (b .greatest)))))))
 
 -- the definitions give the answer of a call
 unfoldable pub meets : Call → Bool

@@ -9,7 +9,7 @@ use Rattle.paper.specs.Bytes.{bytes}
 use Rattle.paper.specs.Hex.{hex}
 use Rattle.paper.specs.Calls.{State}
 use Rattle.paper.specs.Open.{everything}
-use Rattle.cases.specs.Answers.{Call, enters, lists, same-state, meets, failing}
+use Rattle.cases.specs.Answers.{Call, enters, lists, agreeing, same-state, meets, failing}
 
 -- a text refused with 4 or 5, with place and end: nothing changes
 unfoldable pub refuses-at : List ℕ → State → ℕ → ℕ → ℕ → Call
@@ -25,7 +25,7 @@ lists-not n s output number = lists n s output number 0 output
 
 -- name bytes, all of them used, with their count; room for values; store bytes, of which some are used
 unfoldable pub over : List ℕ → ℕ → ℕ → List ℕ → ℕ → State
-over ns count room store used = record { names = ns; name-size = length ns; name-count = count; values = replicate room 0; store = store; used = used }
+over ns count room store used = agreeing ns (length ns) count (replicate room 0) store used
 
 -- no names, and no room for any; a store that is used to its end
 unfoldable pub storing : List ℕ → State
@@ -33,7 +33,7 @@ storing store = over [] 0 0 store (length store)
 
 -- no names, no lines, and this much room for names, values and store
 unfoldable pub roomy : ℕ → ℕ → ℕ → State
-roomy names values store = record { names = replicate names 0; name-size = 0; name-count = 0; values = replicate values 0; store = replicate store 0; used = 0 }
+roomy names values store = record { names = replicate names 0; name-size = 0; name-count = 0; values = replicate values 0; store = replicate store 0; used = 0; line-count = 0; greatest = 0 }
 
 -- these names, with values of 8 bytes each, and room for a line of 6 bytes
 unfoldable pub naming : String → ℕ → State
@@ -111,7 +111,7 @@ of-rooms =
     ∷ refuses (bytes "10 NEXT AB") (roomy 1 8 7) 6
     -- value bytes
     ∷ refuses (bytes "10 NEXT AB") (roomy 2 7 7) 6
-    ∷ enters (bytes "10 NEXT AB") (roomy 3 9 8) 0 0 0 1 (record { names = hex "41 C2 00"; name-size = 2; name-count = 1; values = replicate 9 0; store = hex "0A 00 07 07 09 80 16 00"; used = 7 })
+    ∷ enters (bytes "10 NEXT AB") (roomy 3 9 8) 0 0 0 1 (record { names = hex "41 C2 00"; name-size = 2; name-count = 1; values = replicate 9 0; store = hex "0A 00 07 07 09 80 16 00"; used = 7; line-count = 1; greatest = 10 })
     -- store bytes
     ∷ refuses (bytes "10 NEXT AB") (roomy 2 8 6) 8
     -- no name is new: no room is needed for any
@@ -119,7 +119,7 @@ of-rooms =
     -- a name that stands twice in the text is one name
     ∷ enters (bytes "10 A=A") (roomy 1 8 9) 0 0 0 1 (over (hex "C1") 1 8 (hex "0A 00 09 09 36 80 2D 80 16") 9)
     -- two names: just room; one short
-    ∷ enters (bytes "10 A$=B$") (roomy 4 16 9) 0 0 0 2 (record { names = hex "41 A4 42 A4"; name-size = 4; name-count = 2; values = hex "80 00 00 00 00 00 00 00 80 01 00 00 00 00 00 00"; store = hex "0A 00 09 09 36 80 2E 81 16"; used = 9 })
+    ∷ enters (bytes "10 A$=B$") (roomy 4 16 9) 0 0 0 2 (record { names = hex "41 A4 42 A4"; name-size = 4; name-count = 2; values = hex "80 00 00 00 00 00 00 00 80 01 00 00 00 00 00 00"; store = hex "0A 00 09 09 36 80 2E 81 16"; used = 9; line-count = 1; greatest = 10 })
     ∷ refuses (bytes "10 A$=B$") (roomy 3 16 9) 6
     ∷ refuses (bytes "10 A$=B$") (roomy 4 15 9) 6
     -- the room of the line that is replaced is free
@@ -230,9 +230,9 @@ of-names =
     ∷ refuses (bytes "10") (over (hex "C1 C1") 2 16 [] 0) 1
     ∷ refuses (bytes "10") (over (hex "C1 41 A4 41 A8") 3 24 [] 0) 9
     -- name bytes past the lent ones; none used of some
-    ∷ refuses (bytes "10") (record { names = hex "C1"; name-size = 2; name-count = 1; values = replicate 8 0; store = []; used = 0 }) 1
-    ∷ refuses (bytes "10") (record { names = hex "41"; name-size = 0; name-count = 0; values = []; store = []; used = 0 }) 9
-    ∷ refuses (bytes "10") (record { names = hex "41 C2"; name-size = 1; name-count = 1; values = replicate 8 0; store = []; used = 0 }) 1
+    ∷ refuses (bytes "10") (record { names = hex "C1"; name-size = 2; name-count = 1; values = replicate 8 0; store = []; used = 0; line-count = 0; greatest = 0 }) 1
+    ∷ refuses (bytes "10") (record { names = hex "41"; name-size = 0; name-count = 0; values = []; store = []; used = 0; line-count = 0; greatest = 0 }) 9
+    ∷ refuses (bytes "10") (record { names = hex "41 C2"; name-size = 1; name-count = 1; values = replicate 8 0; store = []; used = 0; line-count = 0; greatest = 0 }) 1
     -- room for values: just room; one short, in entering and in listing
     ∷ refuses (bytes "10") (over (hex "C1 C2") 2 16 [] 0) 9
     ∷ refuses (bytes "10") (over (hex "C1 C2") 2 15 [] 0) 1
@@ -365,8 +365,8 @@ of-lines =
 -- 128 names, and room for one more
 unfoldable pub of-many-names : List Call
 of-many-names =
-    enters (bytes "10 NEXT Z") (record { names = two-byte-names 0 127 ++ 0 ∷ []; name-size = 254; name-count = 127; values = replicate 1024 0; store = replicate 7 0; used = 0 }) 0 0 0 1 (record { names = two-byte-names 0 127 ++ 0xda ∷ []; name-size = 255; name-count = 128; values = replicate 1017 0 ++ 127 ∷ replicate 6 0; store = hex "0A 00 07 07 09 FF 16"; used = 7 })
-    ∷ refuses (bytes "10 NEXT Z") (record { names = two-byte-names 0 128 ++ 0 ∷ []; name-size = 256; name-count = 128; values = replicate 1032 0; store = replicate 7 0; used = 0 }) 6
+    enters (bytes "10 NEXT Z") (record { names = two-byte-names 0 127 ++ 0 ∷ []; name-size = 254; name-count = 127; values = replicate 1024 0; store = replicate 7 0; used = 0; line-count = 0; greatest = 0 }) 0 0 0 1 (record { names = two-byte-names 0 127 ++ 0xda ∷ []; name-size = 255; name-count = 128; values = replicate 1017 0 ++ 127 ∷ replicate 6 0; store = hex "0A 00 07 07 09 FF 16"; used = 7; line-count = 1; greatest = 10 })
+    ∷ refuses (bytes "10 NEXT Z") (record { names = two-byte-names 0 128 ++ 0 ∷ []; name-size = 256; name-count = 128; values = replicate 1032 0; store = replicate 7 0; used = 0; line-count = 0; greatest = 0 }) 6
     ∷ enters (bytes "10 NEXT M7") (over (two-byte-names 0 128) 128 1024 (replicate 7 0) 0) 0 0 0 0 (over (two-byte-names 0 128) 128 1024 (hex "0A 00 07 07 09 FF 16") 7)
     ∷ refuses (bytes "10") (over (two-byte-names 0 129) 129 1032 [] 0) 1
     ∷ []
@@ -384,5 +384,5 @@ of-the-greatest-store =
 
 -- the definitions give the answer of each of them
 pub limits : failing 0 (of-texts ++ of-rooms ++ of-pairs ++ of-names ++ of-stores ++ of-lines ++ of-many-names ++ of-the-greatest-store) ≡ []
-unfolding everything refuses-at refuses lists-not over storing roomy naming ten-end remark padded ones one-tokens two-byte-names long-lines of-texts of-rooms unsound not-well-formed of-pairs of-names of-stores line-lists line-not of-lines of-many-names nearly-full of-the-greatest-store same-state meets failing
+unfolding everything agreeing refuses-at refuses lists-not over storing roomy naming ten-end remark padded ones one-tokens two-byte-names long-lines of-texts of-rooms unsound not-well-formed of-pairs of-names of-stores line-lists line-not of-lines of-many-names nearly-full of-the-greatest-store same-state meets failing
 limits = refl

@@ -8,7 +8,7 @@ use Rattle.paper.specs.Bytes.{bytes}
 use Rattle.paper.specs.Hex.{hex}
 use Rattle.paper.specs.Calls.{State}
 use Rattle.paper.specs.Open.{everything}
-use Rattle.cases.specs.Answers.{Call, enters, lists, same-state, meets, failing}
+use Rattle.cases.specs.Answers.{Call, enters, lists, agreeing, same-state, meets, failing}
 use Rattle.cases.specs.Limits.{refuses-at, refuses, over, storing, roomy}
 
 -- a text without names that just fills the store with this line
@@ -31,7 +31,7 @@ of-quotes =
     fills 9 "10 ?\"A" "0A 00 09 09 28 0F 01 41 16"
     ∷ fills 11 "10 ?\"A  " "0A 00 0B 0B 28 0F 03 41 20 20 16"
     ∷ fills 8 "10 ?\"" "0A 00 08 08 28 0F 00 16"
-    ∷ enters (bytes "10 A$=\"X") (roomy 2 8 11) 0 0 0 1 (record { names = hex "41 A4"; name-size = 2; name-count = 1; values = hex "80 00 00 00 00 00 00 00"; store = hex "0A 00 0B 0B 36 80 2E 0F 01 58 16"; used = 11 })
+    ∷ enters (bytes "10 A$=\"X") (roomy 2 8 11) 0 0 0 1 (record { names = hex "41 A4"; name-size = 2; name-count = 1; values = hex "80 00 00 00 00 00 00 00"; store = hex "0A 00 0B 0B 36 80 2E 0F 01 58 16"; used = 11; line-count = 1; greatest = 10 })
     -- the token of the closed string
     ∷ fills 9 "10 ?\"A\"" "0A 00 09 09 28 0F 01 41 16"
     -- all that stands after the quote is string
@@ -71,5 +71,5 @@ of-quotes =
 
 -- the definitions give each of them so
 pub quotes : failing 0 of-quotes ≡ []
-unfolding everything refuses-at refuses over storing roomy fills longest-open longest-line longest-listing of-quotes same-state meets failing
+unfolding everything agreeing refuses-at refuses over storing roomy fills longest-open longest-line longest-listing of-quotes same-state meets failing
 quotes = refl

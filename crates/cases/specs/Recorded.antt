@@ -6,11 +6,11 @@ use mathlib.Core.List.{List, [], _∷_}
 use Rattle.paper.specs.Hex.{hex}
 use Rattle.paper.specs.Calls.{State}
 use Rattle.paper.specs.Open.{everything}
-use Rattle.cases.specs.Answers.{Call, enters, lists, same-state, meets, failing}
+use Rattle.cases.specs.Answers.{Call, enters, lists, agreeing, same-state, meets, failing}
 
--- names, their bytes and count, values, store and the bytes used
+-- names, their bytes and count, values, store and the bytes used, all bytes in hexadecimal
 unfoldable pub state : String → ℕ → ℕ → String → String → ℕ → State
-state ns nb nc vs st u = record { names = hex ns; name-size = nb; name-count = nc; values = hex vs; store = hex st; used = u }
+state ns nb nc vs st u = agreeing (hex ns) nb nc (hex vs) (hex st) u
 
 unfoldable pub calls-0 : List Call
 calls-0 =
@@ -37,7 +37,7 @@ calls-0 =
     ∷ []
 
 pub agree-0 : failing 0 calls-0 ≡ []
-unfolding everything state same-state meets failing calls-0
+unfolding everything agreeing state same-state meets failing calls-0
 agree-0 = refl
 
 unfoldable pub calls-1 : List Call
@@ -65,7 +65,7 @@ calls-1 =
     ∷ []
 
 pub agree-1 : failing 20 calls-1 ≡ []
-unfolding everything state same-state meets failing calls-1
+unfolding everything agreeing state same-state meets failing calls-1
 agree-1 = refl
 
 unfoldable pub calls-2 : List Call
@@ -93,7 +93,7 @@ calls-2 =
     ∷ []
 
 pub agree-2 : failing 40 calls-2 ≡ []
-unfolding everything state same-state meets failing calls-2
+unfolding everything agreeing state same-state meets failing calls-2
 agree-2 = refl
 
 unfoldable pub calls-3 : List Call
@@ -121,7 +121,7 @@ calls-3 =
     ∷ []
 
 pub agree-3 : failing 60 calls-3 ≡ []
-unfolding everything state same-state meets failing calls-3
+unfolding everything agreeing state same-state meets failing calls-3
 agree-3 = refl
 
 unfoldable pub calls-4 : List Call
@@ -149,7 +149,7 @@ calls-4 =
     ∷ []
 
 pub agree-4 : failing 80 calls-4 ≡ []
-unfolding everything state same-state meets failing calls-4
+unfolding everything agreeing state same-state meets failing calls-4
 agree-4 = refl
 
 unfoldable pub calls-5 : List Call
@@ -177,7 +177,7 @@ calls-5 =
     ∷ []
 
 pub agree-5 : failing 100 calls-5 ≡ []
-unfolding everything state same-state meets failing calls-5
+unfolding everything agreeing state same-state meets failing calls-5
 agree-5 = refl
 
 unfoldable pub calls-6 : List Call
@@ -205,7 +205,7 @@ calls-6 =
     ∷ []
 
 pub agree-6 : failing 120 calls-6 ≡ []
-unfolding everything state same-state meets failing calls-6
+unfolding everything agreeing state same-state meets failing calls-6
 agree-6 = refl
 
 unfoldable pub calls-7 : List Call
@@ -233,7 +233,7 @@ calls-7 =
     ∷ []
 
 pub agree-7 : failing 140 calls-7 ≡ []
-unfolding everything state same-state meets failing calls-7
+unfolding everything agreeing state same-state meets failing calls-7
 agree-7 = refl
 
 unfoldable pub calls-8 : List Call
@@ -261,7 +261,7 @@ calls-8 =
     ∷ []
 
 pub agree-8 : failing 160 calls-8 ≡ []
-unfolding everything state same-state meets failing calls-8
+unfolding everything agreeing state same-state meets failing calls-8
 agree-8 = refl
 
 unfoldable pub calls-9 : List Call
@@ -272,5 +272,5 @@ calls-9 =
     ∷ []
 
 pub agree-9 : failing 180 calls-9 ≡ []
-unfolding everything state same-state meets failing calls-9
+unfolding everything agreeing state same-state meets failing calls-9
 agree-9 = refl

@@ -15,9 +15,9 @@ use Rattle.paper.specs.Grammar.{Gives, look-in-range, start}
 use Rattle.paper.specs.Line.{line-bytes, lawful-number?}
 use Rattle.paper.specs.WellFormed.{tokens-of, well-formed?}
 use Rattle.paper.specs.Listing.{listing}
-use Rattle.paper.specs.Store.{lines-in, sound-store, room, stored?, line-at, put-line, take-out, overwritten}
+use Rattle.paper.specs.Store.{lines-in, greatest-number, sound-store, room, stored?, line-at, put-line, take-out, overwritten}
 
--- the lent buffers and counts
+-- the lent buffers and counts; the last two are how many lines are stored, and their greatest number (document 02, §6)
 pub record State : Type 0 where
   pub names : List ℕ
   pub name-size : ℕ
@@ -25,6 +25,8 @@ pub record State : Type 0 where
   pub values : List ℕ
   pub store : List ℕ
   pub used : ℕ
+  pub line-count : ℕ
+  pub greatest : ℕ
 
 -- the names of a state
 unfoldable pub names-of : State → List (List ℕ)
@@ -34,9 +36,17 @@ names-of s = names-in (take (s .name-size) (s .names))
 unfoldable pub lines-of : State → List (List ℕ)
 lines-of s = lines-in (take (s .used) (s .store))
 
--- the whole of what is lent is sound: names, room for their values, store
+-- the tables are sound: names, room for their values, store
+unfoldable pub sound-tables : State → Bool
+sound-tables s = sound-table (s .names) (s .name-size) (s .name-count) && (leb (8 * s .name-count) (length (s .values)) && sound-store (s .store) (s .used))
+
+-- the record agrees with the store: a walk over the lines finds its count and its greatest number (document 02, §6)
+unfoldable pub agrees : State → Bool
+agrees s = eqb (s .line-count) (length (lines-of s)) && eqb (s .greatest) (greatest-number (lines-of s))
+
+-- the whole of what is lent is sound
 unfoldable pub sound-state : State → Bool
-sound-state s = sound-table (s .names) (s .name-size) (s .name-count) && (leb (8 * s .name-count) (length (s .values)) && sound-store (s .store) (s .used))
+sound-state s = sound-tables s && agrees s
 
 -- what a call to enter answers: number, place with its end (document 02, §8), names added; and the state afterwards, with the bytes used
 pub record Entered : Type 0 where
@@ -88,6 +98,8 @@ stored s ns ls =
       values = overwritten (take (8 * s .name-count) (s .values) ++ value-entries (s .name-count) new-names) (s .values);
       store = overwritten lines (s .store);
       used = length lines;
+      line-count = length ls;
+      greatest = greatest-number ls;
     }
 
 -- 6: names would pass 128, or lack name or value room; never when no name is new

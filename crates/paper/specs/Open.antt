@@ -59,11 +59,11 @@ unfolding Listing′.decimal Listing′.operator-text Listing′.token-text List
 all-Listing = tt
 
 unfoldable pub all-Store : Unit {0}
-unfolding Store′.lines-from Store′.lines-in Store′.whole-line? Store′.rising-above Store′.rising Store′.sound-lines Store′.room Store′.sound-store Store′.lines-below Store′.lines-not-below Store′.first-is? Store′.stored? Store′.first-line Store′.line-at Store′.lines-above Store′.put-line Store′.take-out Store′.overwritten
+unfolding Store′.lines-from Store′.lines-in Store′.whole-line? Store′.rising-above Store′.rising Store′.sound-lines Store′.greatest-number Store′.room Store′.sound-store Store′.lines-below Store′.lines-not-below Store′.first-is? Store′.stored? Store′.first-line Store′.line-at Store′.lines-above Store′.put-line Store′.take-out Store′.overwritten
 all-Store = tt
 
 unfoldable pub all-Calls : Unit {0}
-unfolding Calls′.names-of Calls′.lines-of Calls′.sound-state Calls′.refusal Calls′.place-of Calls′.outcome Calls′.translate Calls′.stored Calls′.lacks-room Calls′.accept Calls′.answered Calls′.delete Calls′.head-of Calls′.at-head Calls′.enter-sound Calls′.enter Calls′.not-listed Calls′.list-sound Calls′.list
+unfolding Calls′.names-of Calls′.lines-of Calls′.sound-tables Calls′.agrees Calls′.sound-state Calls′.refusal Calls′.place-of Calls′.outcome Calls′.translate Calls′.stored Calls′.lacks-room Calls′.accept Calls′.answered Calls′.delete Calls′.head-of Calls′.at-head Calls′.enter-sound Calls′.enter Calls′.not-listed Calls′.list-sound Calls′.list
 all-Calls = tt
 
 unfoldable pub all-Hex : Unit {0}

@@ -35,6 +35,11 @@ rising (l ∷ ls) = rising-above (line-number l) ls
 unfoldable pub sound-lines : List (List ℕ) → Bool
 sound-lines ls = every whole-line? ls && rising ls
 
+-- the greatest number of some lines; 0 if there is none (document 02, §6)
+unfoldable pub greatest-number : List (List ℕ) → ℕ
+greatest-number [] = 0
+greatest-number (l ∷ ls) = let g = greatest-number ls in pick (leb g (line-number l)) (line-number l) g
+
 -- store room: the smaller of the lent length and 65,535
 unfoldable pub room : List ℕ → ℕ
 room store = pick (leb (length store) 65535) (length store) 65535

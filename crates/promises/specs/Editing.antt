@@ -221,7 +221,7 @@ after-any P text s h k = go (enter text s) (answer text s)
     go e (drops-line t b st) = k e (edited-so text s e (drops-line t b st) refl)
 
 -- the state after an edit is sound
-sound-after : (text : List ℕ) (s : State) (e : Entered) → Edited text s e → T (sound-state (e .after))
+pub sound-after : (text : List ℕ) (s : State) (e : Entered) → Edited text s e → T (sound-state (e .after))
 sound-after text s e (line-put ts new lawful names added k put wf) = k .sound
 sound-after text s e (line-gone b added k out) = k .sound
 

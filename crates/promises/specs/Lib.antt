@@ -35,6 +35,7 @@ pub mod Entering
 pub mod States
 pub mod Editing
 pub mod Growing
+pub mod Agreeing
 pub mod WellFormedLines
 pub mod ReEntry
 pub mod Tested

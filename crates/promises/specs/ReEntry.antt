@@ -104,7 +104,7 @@ put-same n ls t = same-go n ls (lines-not-below n ls) refl t
 
 store-same : (s : State) → T (sound-state s) → with-lines s (lines-of s) ≡ s
 unfolding with-lines overwritten
-store-same s o = rw (used-bytes s o, length-take-le (s .used) (s .store) (used-in s o), take-append-drop (s .used) (s .store))
+store-same s o = rw (used-bytes s o, length-take-le (s .used) (s .store) (used-in s o), take-append-drop (s .used) (s .store), sym (state-says s o .agrees .counted), sym (state-says s o .agrees .greatest))
 
 size-there : (n : ℕ) (s : State) → T (stored? n (lines-of s)) → old-size n s ≡ length (line-at n (lines-of s))
 unfolding old-size

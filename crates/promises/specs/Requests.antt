@@ -8,8 +8,11 @@ use lib.ListN.{length}
 use Rattle.paper.specs.Bytes.{every}
 use Rattle.paper.specs.Tokens.{string, unreadable}
 use Rattle.paper.specs.Items.{item, item-at, string-byte?}
+use Rattle.paper.specs.Calls.{State, enter, list}
 use Rattle.laws.specs.Runs.{all-every}
+use Rattle.promises.specs.Terms.{Agrees, Reached}
 use Rattle.promises.specs.Strings as Strings′
+use Rattle.promises.specs.Agreeing as Agreeing′
 
 -- ---- §2 A quote left open
 
@@ -24,3 +27,18 @@ closed-string first p t rest h = Strings′.closed-string first p t rest (all-ev
 -- A 9B in it, before any quote that could close it, makes it no item: one that begins at the opening quote, ends before the 9B and fits nowhere.
 pub marked-string : (first : Bool) (p : ℕ) (t rest : List ℕ) → T (every string-byte? t) → item-at first p (34 ∷ t ++ 0x9b ∷ rest) ≡ item p (length (34 ∷ t)) unreadable
 marked-string first p t rest h = Strings′.marked-string first p t rest (all-every string-byte? t h)
+
+-- ---- §6 Line count and last number kept
+
+-- In every record reached from an empty one by calls, the count of lines and the greatest number are what a walk of the store finds.
+pub record-agrees : (s : State) → Reached s → Agrees s
+record-agrees s r = Agreeing′.reached-agrees s r
+
+-- A record that disagrees with the store is refused with 1, before any other number, whatever is entered. (`Main.text-exactly` says when 1 is answered, and
+-- `Main.refused-text` that nothing changes.)
+pub disagreeing-text : (text : List ℕ) (s : State) → (Agrees s → ⊥) → (enter text s) .number ≡ 1
+disagreeing-text text s h = Agreeing′.text-refused text s h
+
+-- and whatever is listed
+pub disagreeing-listing : (n : ℕ) (s : State) (output : List ℕ) → (Agrees s → ⊥) → (list n s output) .number ≡ 1
+disagreeing-listing n s output h = Agreeing′.listing-refused n s output h

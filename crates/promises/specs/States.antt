@@ -2,7 +2,7 @@
 use Prim.Native.Nat.{ℕ, suc, _+_, _*_, _≤_}
 use native.Mathlib.Omega.{arith}
 use mathlib.Core.Path.{_≡_, refl, subst, sym, ap, ap₂, _∙_}
-use mathlib.Core.Bool.{true, false, _||_}
+use mathlib.Core.Bool.{Bool, true, false, _||_}
 use mathlib.Core.List.{List, [], _∷_, _++_}
 use lib.Dec.{T, leb, ltb, eqb, leb→le, le→leb, eqb→eq, eqb-refl}
 use lib.ListN.{length, take, drop, length-append}
@@ -10,19 +10,35 @@ use lib.Seq.{drop-append-seam}
 use borrow.Author.Tests.{ltb-false, lt-ltb, eq-eqb}
 use Rattle.paper.specs.Bytes.{every, same, joined}
 use Rattle.paper.specs.Names.{names-in, name-bytes, name?, all-different, most-names, sound-names, sound-table, value-entries}
-use Rattle.paper.specs.Store.{room, sound-store, overwritten}
-use Rattle.paper.specs.Calls.{State, names-of, lines-of, sound-state, stored, lacks-room}
+use Rattle.paper.specs.Store.{greatest-number, room, sound-store, overwritten}
+use Rattle.paper.specs.Calls.{State, names-of, lines-of, sound-tables, agrees, sound-state, stored, lacks-room}
 use Rattle.laws.specs.Tests.{and-left, and-right, and-both, as-T, is-true}
 use Rattle.laws.specs.Names.{same-self, same-eq, name-bytes-append}
-use Rattle.promises.specs.Terms.{SoundState, Kept}
+use Rattle.promises.specs.Terms.{Agrees, SoundState, Kept}
 use Rattle.promises.specs.Lists.{or-false-left, or-false-right}
 use Rattle.promises.specs.NameTable.{NamesGood, names-back}
 use Rattle.promises.specs.Stored.{Extended, extended, over-past, Holds}
 
+-- what the test of the pair says
+pub pair-says : (s : State) → T (agrees s) → Agrees s
+unfolding agrees
+pair-says s t =
+    let count : Bool = eqb (s .line-count) (length (lines-of s)) in
+    record {
+      counted = eqb→eq (s .line-count) (length (lines-of s)) (and-left count _ t);
+      greatest = eqb→eq (s .greatest) (greatest-number (lines-of s)) (and-right count _ t);
+    }
+
+-- and the other way round
+says-pair : (s : State) → Agrees s → T (agrees s)
+unfolding agrees
+says-pair s a = and-both (eqb (s .line-count) (length (lines-of s))) _ (as-T _ (eq-eqb _ _ (a .counted))) (as-T _ (eq-eqb _ _ (a .greatest)))
+
 -- what the test of soundness says
 pub state-says : (s : State) → T (sound-state s) → SoundState s
-unfolding sound-state sound-table sound-store names-of lines-of
-state-says s t =
+unfolding sound-state sound-tables sound-table sound-store names-of lines-of
+state-says s both =
+    let t = and-left (sound-tables s) (agrees s) both in
     let bs : List ℕ = take (s .name-size) (s .names) in
     let a = and-left (sound-table (s .names) (s .name-size) (s .name-count)) _ t in
     let b = and-right (leb (s .name-size) (length (s .names))) _ a in
@@ -37,18 +53,21 @@ state-says s t =
       values-fit = leb→le (8 * s .name-count) (length (s .values)) (and-left (leb (8 * s .name-count) (length (s .values))) _ d);
       used-fits = leb→le (s .used) (room (s .store)) (and-left (leb (s .used) (room (s .store))) _ e);
       lines = and-right (leb (s .used) (room (s .store))) _ e;
+      agrees = pair-says s (and-right (sound-tables s) (agrees s) both);
     }
 
 -- and the other way round
 pub says-state : (s : State) → SoundState s → T (sound-state s)
-unfolding sound-state sound-table sound-store names-of lines-of
+unfolding sound-state sound-tables sound-table sound-store names-of lines-of
 says-state s o =
     let bs : List ℕ = take (s .name-size) (s .names) in
-    and-both (sound-table (s .names) (s .name-size) (s .name-count)) _
+    and-both (sound-tables s) (agrees s)
+    (and-both (sound-table (s .names) (s .name-size) (s .name-count)) _
     (and-both (leb (s .name-size) (length (s .names))) _ (le→leb _ _ (o .table-fits))
     (and-both (same (name-bytes (names-in bs)) bs) _ (as-T _ (ap (λ (z : List ℕ). same z bs) (o .bytes) ∙ same-self bs))
     (and-both (eqb (length (names-in bs)) (s .name-count)) _ (as-T _ (eq-eqb _ _ (o .count))) (o .names))))
-    (and-both (leb (8 * s .name-count) (length (s .values))) _ (le→leb _ _ (o .values-fit)) (and-both (leb (s .used) (room (s .store))) _ (le→leb _ _ (o .used-fits)) (o .lines)))
+    (and-both (leb (8 * s .name-count) (length (s .values))) _ (le→leb _ _ (o .values-fit)) (and-both (leb (s .used) (room (s .store))) _ (le→leb _ _ (o .used-fits)) (o .lines))))
+    (says-pair s (o .agrees))
 
 -- ---- names of a sound table
 
@@ -113,6 +132,8 @@ made s new ls =
       values = overwritten (take (8 * s .name-count) (s .values) ++ value-entries (s .name-count) new) (s .values);
       store = overwritten (joined ls) (s .store);
       used = length (joined ls);
+      line-count = length ls;
+      greatest = greatest-number ls;
     }
 
 -- it is the same state
@@ -145,7 +166,7 @@ table-sound s new o g r out e l =
 
 -- new names that are good and have room, and sound lines that have room, leave a sound state
 pub kept : (s : State) (new ls : List (List ℕ)) → SoundState s → NamesGood (names-of s ++ new) → Room s new → Holds ls (s .store) → Kept s (made s new ls) new
-unfolding made names-of lines-of sound-state
+unfolding made names-of lines-of sound-state sound-tables
 kept s new ls o g r h =
     let n : Extended (s .name-size) (name-bytes new) (s .names) = extended (s .name-size) (name-bytes new) (s .names) (r .bytes) in
     let es : List ℕ = value-entries (s .name-count) new in
@@ -156,9 +177,11 @@ kept s new ls o g r h =
     let fits : 8 * length (names-of s ++ new) ≤ length (s .values) = omega (arith, r .values, length-append (names-of s) new) in
     record {
       sound =
-          and-both (sound-table (overwritten (take (s .name-size) (s .names) ++ name-bytes new) (s .names)) (s .name-size + length (name-bytes new)) (length (names-of s ++ new))) _ (t .1)
+          and-both (sound-tables (made s new ls)) (agrees (made s new ls))
+          (and-both (sound-table (overwritten (take (s .name-size) (s .names) ++ name-bytes new) (s .names)) (s .name-size + length (name-bytes new)) (length (names-of s ++ new))) _ (t .1)
           (and-both (leb (8 * length (names-of s ++ new)) (length (overwritten (take (8 * s .name-count) (s .values) ++ es) (s .values)))) _
-          (le→leb (8 * length (names-of s ++ new)) _ (subst (λ (z : ℕ). 8 * length (names-of s ++ new) ≤ z) (sym (v .same-size)) fits)) (h .sound));
+          (le→leb (8 * length (names-of s ++ new)) _ (subst (λ (z : ℕ). 8 * length (names-of s ++ new) ≤ z) (sym (v .same-size)) fits)) (h .sound)))
+          (says-pair (made s new ls) (record { counted = ap length (sym (h .lines)); greatest = ap greatest-number (sym (h .lines)) }));
       names = t .0;
       old-names = n .kept;
       old-values = v .kept;

@@ -14,8 +14,8 @@ use Rattle.paper.specs.Items.{Item, Span, span-of, no-span, size-at, items}
 use Rattle.paper.specs.Line.{line-bytes, line-number}
 use Rattle.paper.specs.WellFormed.{Lawful, WellFormed}
 use Rattle.paper.specs.Listing.{listing}
-use Rattle.paper.specs.Store.{sound-lines, room, stored?, line-at, overwritten}
-use Rattle.paper.specs.Calls.{State, names-of, lines-of, sound-state, Entered, Listed}
+use Rattle.paper.specs.Store.{greatest-number, sound-lines, room, stored?, line-at, overwritten}
+use Rattle.paper.specs.Calls.{State, names-of, lines-of, sound-state, Entered, enter, Listed}
 
 -- ---- a text's number and items
 
@@ -103,8 +103,13 @@ pub record Exactly (cs : List (ℕ × Type 0)) (number : ℕ) : Type 1 where
   pub each : (k : ℕ) → (number ≡ k) ↔ FirstHolding cs k
   pub done : (number ≡ 0) ↔ NoneHolds cs
 
+-- The record agrees with the store: it has the count of the stored lines, and their greatest number (document 02, §6).
+pub record Agrees (s : State) : Type 0 where
+  pub counted : s .line-count ≡ length (lines-of s)
+  pub greatest : s .greatest ≡ greatest-number (lines-of s)
+
 -- Sound tables and store, in the parts that document 01 ("Tables") lists: the counted names end exactly at the byte count given, and are sound;
--- the values have room for all; the bytes used are within the room, and are sound lines.
+-- the values have room for all; the bytes used are within the room, and are sound lines. And the record agrees with the store.
 pub record SoundState (s : State) : Type 0 where
   pub table-fits : s .name-size ≤ length (s .names)
   pub bytes : name-bytes (names-of s) ≡ take (s .name-size) (s .names)
@@ -113,8 +118,9 @@ pub record SoundState (s : State) : Type 0 where
   pub values-fit : 8 * s .name-count ≤ length (s .values)
   pub used-fits : s .used ≤ room (s .store)
   pub lines : T (sound-lines (lines-of s))
+  pub agrees : Agrees s
 
--- 1: tables or store are unsound
+-- 1: tables or store are unsound, or the record disagrees with the store
 abbrev pub Unsound : State → Type 0
 Unsound s = SoundState s → ⊥
 
@@ -258,6 +264,14 @@ pub record Written (n : ℕ) (s : State) (output : List ℕ) (e : Listed) : Type
   pub past : drop (e .written) (e .output) ≡ drop (e .written) output
   pub same-size : length (e .output) ≡ length output
 
+-- ---- the record
+
+-- A record that is reached from an empty one by calls, whatever they answer. An empty record has no bytes used and two zeros; nothing is asked of
+-- its tables.
+pub data Reached : State → Type 0 where
+  empty-record : (s : State) → s .used ≡ 0 → s .line-count ≡ 0 → s .greatest ≡ 0 → Reached s
+  after-text : (text : List ℕ) (s : State) → Reached s → Reached ((enter text s) .after)
+
 -- ---- constants
 
 -- The six bytes of a value v * 10 ^ u / 10 ^ d that is not zero. The first is k + 15, which is 64 + e where k = e + 49. The other five are the
@@ -278,7 +292,7 @@ pub record CutTo (v u d : ℕ) : Type 0 where
 -- the state with these lines in the store, and nothing else changed
 unfoldable pub with-lines : State → List (List ℕ) → State
 with-lines s ls =
-    record { names = s .names; name-size = s .name-size; name-count = s .name-count; values = s .values; store = overwritten (joined ls) (s .store); used = length (joined ls) }
+    record { names = s .names; name-size = s .name-size; name-count = s .name-count; values = s .values; store = overwritten (joined ls) (s .store); used = length (joined ls); line-count = length ls; greatest = greatest-number ls }
 
 -- the answer of a text that is accepted and adds no name
 unfoldable pub accepted-with : State → Entered

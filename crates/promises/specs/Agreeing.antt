@@ -1,0 +1,47 @@
+-- The record's count of lines and greatest number (document 02, §6): what every call leaves agrees with the store, and a record that does not is refused.
+use Prim.Native.Nat.{ℕ}
+use mathlib.Core.Path.{_≡_, refl, ap, sym, _∙_}
+use mathlib.Core.Bool.{Bool, true, false}
+use mathlib.Core.List.{List}
+use lib.ListN.{length, take}
+use Rattle.paper.specs.Store.{lines-in, lines-from, greatest-number}
+use Rattle.paper.specs.Calls.{State, lines-of, sound-state, Entered, refusal, enter, not-listed, list}
+use Rattle.laws.specs.Tests.{as-T}
+use Rattle.promises.specs.Terms.{Agrees, Edited, Reached, empty-record, after-text}
+use Rattle.promises.specs.States.{state-says}
+use Rattle.promises.specs.Editing.{sound-after, after-any}
+
+-- an empty record agrees
+empty-agrees : (s : State) → s .used ≡ 0 → s .line-count ≡ 0 → s .greatest ≡ 0 → Agrees s
+unfolding lines-of lines-in lines-from greatest-number
+empty-agrees s u n g =
+    let none = ap (λ (k : ℕ). lines-in (take k (s .store))) u in
+    record { counted = n ∙ ap length (sym none); greatest = g ∙ ap greatest-number (sym none) }
+
+-- what an edit leaves agrees
+edit-agrees : (text : List ℕ) (s : State) (e : Entered) → Edited text s e → Agrees (e .after)
+edit-agrees text s e d = state-says (e .after) (sound-after text s e d) .agrees
+
+-- a record reached from an empty one agrees
+pub reached-agrees : (s : State) → Reached s → Agrees s
+reached-agrees s (empty-record t u n g) = empty-agrees t u n g
+reached-agrees s (after-text text t r) = after-any Agrees text t (reached-agrees t r) (edit-agrees text t)
+
+-- ---- a record that disagrees
+
+not-sound : (s : State) → (Agrees s → ⊥) → sound-state s ≡ false
+not-sound s h = go (sound-state s) refl
+  where
+    go : (b : Bool) → sound-state s ≡ b → b ≡ false
+    go true e = absurd (h (state-says s (as-T (sound-state s) e) .agrees))
+    go false e = refl
+
+-- its text is refused with 1
+pub text-refused : (text : List ℕ) (s : State) → (Agrees s → ⊥) → (enter text s) .number ≡ 1
+unfolding enter refusal
+text-refused text s h = rw (not-sound s h) refl
+
+-- and so is its listing
+pub listing-refused : (n : ℕ) (s : State) (output : List ℕ) → (Agrees s → ⊥) → (list n s output) .number ≡ 1
+unfolding list not-listed
+listing-refused n s output h = rw (not-sound s h) refl
