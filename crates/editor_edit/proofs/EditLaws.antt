@@ -50,7 +50,7 @@ unfolding delete
 taken-out s o n h = sym (rw (h, tables-stay s o (take-out n (lines-of s))))
 
 -- a line that is not
-pub not-there : (s : State) (n : ℕ) → stored? n (lines-of s) ≡ false → _≡_ {A = Outcome} (record { number = 9; place = 0; added = 0; after = s }) (delete s n)
+pub not-there : (s : State) (n : ℕ) → stored? n (lines-of s) ≡ false → _≡_ {A = Outcome} (record { number = 9; place = no-span; added = 0; after = s }) (delete s n)
 unfolding delete refusal
 not-there s n h = sym (rw (h))
 
