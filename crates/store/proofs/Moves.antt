@@ -1,12 +1,17 @@
 -- Bytes moved inside one list, one at a time: down from the first on, or up from the last on.
-use mathlib.Core.Path.{_≡_, sym, ap, _∙_, subst}
+use mathlib.Core.Path.{_≡_, refl, sym, ap, _∙_, subst}
+use mathlib.Core.Bool.{Bool, true, false}
 use mathlib.Core.List.{List, [], _∷_, _++_, append-assoc}
 use Prim.Native.Nat.{ℕ, suc, _+_, _-_, _≤_, _<_}
 use native.Mathlib.Nat.{add-suc, suc-add, le-of-lt}
 use native.Mathlib.Numerals.{add-one}
 use native.Mathlib.Omega.{arith}
 use lib.ListN.{length, getD, set, take, drop, length-drop, length-append, take-append-drop, List·getD-append}
+use lib.Dec.{eqb}
 use lib.Seq.{paste, paste-zero, paste-suc, drop-paste, length-paste, length-take-le, take-suc, drop-cons, set-at, append-snoc, getD-drop, getD-take, drop-drop}
+use borrow.Author.Tests.{eqb-true}
+use Rattle.paper.specs.Bytes.{pick}
+use Rattle.store.specs.Moves.{bytes-moved}
 
 -- ---- what a copy leaves as it was
 
@@ -43,9 +48,19 @@ paste-same d at n =
     ∙ ap (λ (x : List ℕ). take at d ++ x) (take-append-drop n (drop at d))
     ∙ take-append-drop at d)
 
--- so with two gaps of one size
-pub paste-still : (d : List ℕ) (at old new n : ℕ) → old ≡ new → d ≡ paste d (at + new) (drop (at + old) d) n
+-- so where a gap of one size becomes one of the same size
+paste-still : (d : List ℕ) (at old new n : ℕ) → old ≡ new → d ≡ paste d (at + new) (drop (at + old) d) n
 paste-still d at old new n e = subst (λ (k : ℕ). d ≡ paste d (at + new) (drop (at + k) d) n) (sym e) (paste-same d (at + new) n)
+
+tail-go : (d : List ℕ) (at old new n : ℕ) (b : Bool) → eqb old new ≡ b → paste d (at + new) (drop (at + old) d) (pick b 0 n) ≡ paste d (at + new) (drop (at + old) d) n
+tail-go d at old new n true e = sym (paste-zero d (at + new) (drop (at + old) d)) ∙ paste-still d at old new n (eqb-true old new e)
+tail-go d at old new n false e = refl
+
+-- the bytes that a resize moves are enough: all that stands after the gap is then in its place
+pub tail-placed : (d l : List ℕ) (at old new used r : ℕ) → (r ≡ bytes-moved at old new used) × (l ≡ paste d (at + new) (drop (at + old) d) r)
+    → l ≡ paste d (at + new) (drop (at + old) d) (used - (at + old))
+unfolding bytes-moved
+tail-placed d l at old new used r e = e .1 ∙ ap (paste d (at + new) (drop (at + old) d)) (e .0) ∙ tail-go d at old new (used - (at + old)) (eqb old new) refl
 
 -- ---- down
 
@@ -102,10 +117,10 @@ turn-up l d at from n i h g p q e =
     ap (λ (z : List ℕ). set z (at + (i - 1)) (getD z (from + (i - 1)) 0)) (e ∙ ap (λ (k : ℕ). paste d (at + k) (drop (from + k) d) (n - k)) s)
     ∙ up-go d at from n (i - 1) h (omega arith) g
 
--- all bytes
-pub up-end : (l d : List ℕ) (at from n i : ℕ) → i ≤ 0 → l ≡ paste d (at + i) (drop (from + i) d) (n - i) → l ≡ paste d at (drop from d) n
-up-end l d at from n i z e =
+-- all bytes, as many as are counted
+pub up-end : (l d : List ℕ) (at from n i r : ℕ) → i ≤ 0 → r + i ≡ n → l ≡ paste d (at + i) (drop (from + i) d) (n - i) → l ≡ paste d at (drop from d) r
+up-end l d at from n i r z c e =
     let a : at + i ≡ at = omega arith in
     let f : from + i ≡ from = omega arith in
-    let m : n - i ≡ n = omega arith in
+    let m : n - i ≡ r = omega arith in
     e ∙ ap (λ (k : ℕ). paste d k (drop (from + i) d) (n - i)) a ∙ ap (λ (k : ℕ). paste d at (drop k d) (n - i)) f ∙ ap (paste d at (drop from d)) m

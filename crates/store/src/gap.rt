@@ -8,7 +8,7 @@ ghost use Rattle.store.specs.Moves.{bytes-moved};
 // Moves `n` bytes at `from` down to `at`, the first of them first.
 fn move_down(s: &mut [u8], at: usize, from: usize, n: usize) -> usize
     requires { ⌜ (at ≤ from) × (from + n ≤ length (now s)) ⌝ }
-    ensures { λ r. ⌜ (now (s .exit) ≡ paste (now (s .entry)) at (drop from (now (s .entry))) n) × (r ≡ n) ⌝ }
+    ensures { λ r. ⌜ (r ≡ n) × (now (s .exit) ≡ paste (now (s .entry)) at (drop from (now (s .entry))) r) ⌝ }
 {
     let mut closed: usize = 0;
     let mut i: usize = 0;
@@ -23,7 +23,7 @@ fn move_down(s: &mut [u8], at: usize, from: usize, n: usize) -> usize
 // Moves `n` bytes at `from` up to `at`, the last of them first.
 fn move_up(s: &mut [u8], at: usize, from: usize, n: usize) -> usize
     requires { ⌜ (from ≤ at) × (at + n ≤ length (now s)) ⌝ }
-    ensures { λ r. ⌜ (now (s .exit) ≡ paste (now (s .entry)) at (drop from (now (s .entry))) n) × (r ≡ n) ⌝ }
+    ensures { λ r. ⌜ (r ≡ n) × (now (s .exit) ≡ paste (now (s .entry)) at (drop from (now (s .entry))) r) ⌝ }
 {
     let mut opened: usize = 0;
     let mut i = n;
@@ -35,19 +35,26 @@ fn move_up(s: &mut [u8], at: usize, from: usize, n: usize) -> usize
     opened
 }
 
+// How many bytes move where `new` bytes take the place of `old` ones at `at`: those after these, up to `used`, and none when the two counts are equal.
+fn to_move(at: usize, old: usize, new: usize, used: usize) -> usize
+    requires { ⌜ at + old ≤ used ⌝ }
+    ensures { λ r. ⌜ (r ≡ bytes-moved at old new used) × (r ≤ used - (at + old)) ⌝ }
+{
+    let tail = used - (at + old);
+    if old == new { 0 } else { tail }
+}
+
 // Makes room for `new` bytes at `at` in the place of `old` ones: the bytes after these, up to `used`, move once, and not at all when the two counts are equal.
 pub(crate) fn resize(s: &mut [u8], at: usize, old: usize, new: usize, used: usize) -> usize
     requires { ⌜ (at + old ≤ used) × (used ≤ length (now s)) × (used - old + new ≤ length (now s)) ⌝ }
-    ensures { λ r. ⌜ (now (s .exit) ≡ paste (now (s .entry)) (at + new) (drop (at + old) (now (s .entry))) (used - (at + old))) × (r ≡ bytes-moved at old new used) ⌝ }
+    ensures { λ r. ⌜ (r ≡ bytes-moved at old new used) × (now (s .exit) ≡ paste (now (s .entry)) (at + new) (drop (at + old) (now (s .entry))) r) ⌝ }
 {
     let from = at + old;
     let to = at + new;
-    let n = used - from;
+    let n = to_move(at, old, new, used);
     if new < old {
         move_down(s, to, from, n)
-    } else if old < new {
-        move_up(s, to, from, n)
     } else {
-        0
+        move_up(s, to, from, n)
     }
 }

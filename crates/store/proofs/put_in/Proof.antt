@@ -1,7 +1,9 @@
 use native.Mathlib.Omega.{arith}
+use lib.ListN.{length}
 use Rattle.paper.specs.Line.{line-number}
 use Rattle.laws.specs.Lines.{used-of, room-lent}
 use Rattle.store.specs.Places.{place-within}
+use Rattle.store.proofs.Moves.{tail-placed}
 use Rattle.store.proofs.Edits.{put-refused, put-done}
 use borrow.Author.Needs.{needs}
 use Rattle.store.proofs.put_in.Statement.{statement}
@@ -30,4 +32,5 @@ put-in-spec =
     (λ c. search needs)
     (λ c. let args = c .before .before .before .before .before .before .before .before .before .before .before .before .before .args in
     let given = c .before .before .before .before .before .before .before .before .before .before .before .before .before .pre in
-    put-done (args .store .now) (args .used) (args .line .now) (given .0) (args .place) (given .1) (omega (arith, c .before .before .before .before .before .before .before .before .before .room-of .ensures)) _ _ (c .before .before .before .before .before .before .resize .ensures .0) (c .before .before .copy .ensures)))
+    put-done (args .store .now) (args .used) (args .line .now) (given .0) (args .place) (given .1) (omega (arith, c .before .before .before .before .before .before .before .before .before .room-of .ensures)) _ _
+    (tail-placed (args .store .now) _ (args .place .at) (args .place .size) (length (args .line .now)) (args .used) _ (c .before .before .before .before .before .before .resize .ensures)) (c .before .before .copy .ensures)))

@@ -1,6 +1,7 @@
 use native.Mathlib.Omega.{arith}
 use Rattle.laws.specs.Lines.{used-of}
 use Rattle.store.specs.Places.{place-within}
+use Rattle.store.proofs.Moves.{tail-placed}
 use Rattle.store.proofs.Edits.{out-refused, out-done}
 use borrow.Author.Needs.{needs}
 use Rattle.store.proofs.take_out.Statement.{statement}
@@ -24,4 +25,5 @@ take-out-spec =
     (λ c. search needs)
     (λ c. let args = c .before .before .before .before .before .before .args in
     let given = c .before .before .before .before .before .before .pre in
-    out-done (args .store .now) (args .used) (args .place .number) (given .0) (args .place) (given .1) (c .before .before .before .before .if1 .left) _ (c .before .before .resize .ensures .0)))
+    out-done (args .store .now) (args .used) (args .place .number) (given .0) (args .place) (given .1) (c .before .before .before .before .if1 .left) _
+    (tail-placed (args .store .now) _ (args .place .at) (args .place .size) 0 (args .used) _ (c .before .before .resize .ensures))))

@@ -1,5 +1,5 @@
 -- `store::gap::move_down` meets its contract. The invariant: the first `i` bytes are moved, and counted.
-use mathlib.Core.Path.{_≡_, refl, ap, _∙_}
+use mathlib.Core.Path.{_≡_, refl, sym, ap, _∙_}
 use Prim.Native.Nat.{_-_, _≤_}
 use native.Mathlib.Omega.{arith}
 use lib.ListN.{drop}
@@ -42,5 +42,4 @@ move-down-spec =
     moved-length (turn .s) (args .s .now) (args .at) (args .from) (turn .i) (omega arith) (omega arith) (turn .inv .1))
     (λ c. let turn = c .before .loop in
     let args = c .before .before .args in
-    let e : turn .i ≡ args .n = omega arith in
-    (turn .inv .1 ∙ ap (paste (args .s .now) (args .at) (drop (args .from) (args .s .now))) e, omega arith)))
+    (omega arith, turn .inv .1 ∙ ap (paste (args .s .now) (args .at) (drop (args .from) (args .s .now))) (sym (turn .inv .2)))))

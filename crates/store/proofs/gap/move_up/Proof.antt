@@ -42,4 +42,4 @@ move-up-spec =
     moved-length (turn .s) (args .s .now) (args .at + turn .i) (args .from + turn .i) (args .n - turn .i) (omega arith) (omega arith) (turn .inv .1))
     (λ c. let turn = c .before .loop in
     let args = c .before .before .args in
-    (up-end (turn .s) (args .s .now) (args .at) (args .from) (args .n) (turn .i) (omega arith) (turn .inv .1), omega arith)))
+    (omega arith, up-end (turn .s) (args .s .now) (args .at) (args .from) (args .n) (turn .i) (turn .opened) (omega arith) (turn .inv .2) (turn .inv .1))))
