@@ -1,7 +1,7 @@
 // The check of one piece: whether it is right, and fits where it stands.
 use grammar::Step;
-use list_pieces::FIRST_VARIABLE;
 use list_pieces::Piece;
+use list_pieces::VariableToken;
 use tokens::StatementToken;
 use tokens::class;
 ghost use mathlib.Core.Path.{_≡_};
@@ -93,24 +93,16 @@ fn first_class(kind: u8) -> u8
 
 // LET without its word, and the variable that comes first.
 fn check_target(
-    line: &[u8],
-    at: usize,
-    token: u8,
+    variable: VariableToken,
     names: &[u8],
     size: usize,
     frames: &mut [u8],
     depth: usize,
 ) -> Fit
-    requires { ⌜ (at < length (now line)) × (depth + 24 ≤ length (now frames)) × Sound (now names) size ⌝ }
-    ensures { λ r. ⌜ Checked (names-in (take size (now (names .entry)))) (now (line .entry)) at (Target token) (now (frames .entry)) depth r (now (frames .exit)) ⌝ }
+    requires { ⌜ (depth + 24 ≤ length (now frames)) × Sound (now names) size ⌝ }
+    ensures { λ r. ⌜ ((l : List ℕ) (at : ℕ) → at < length l → Checked (names-in (take size (now (names .entry)))) l at (Target variable) (now (frames .entry)) depth r (now (frames .exit))) ⌝ }
 {
-    if line.len() - at < 3 {
-        return Fit::Fails;
-    }
-    if token < FIRST_VARIABLE {
-        return Fit::Fails;
-    }
-    let number = (token - FIRST_VARIABLE) as usize;
+    let number = variable.number as usize;
     let name = names_numbered::name_at(names, size, number);
     if name.end == name.from {
         return Fit::Fails;
@@ -124,12 +116,18 @@ fn check_target(
     }
 }
 
-// The variable with a number.
-fn check_variable(number: u8, names: &[u8], size: usize, frames: &mut [u8], depth: usize) -> Fit
+// A variable.
+fn check_variable(
+    variable: VariableToken,
+    names: &[u8],
+    size: usize,
+    frames: &mut [u8],
+    depth: usize,
+) -> Fit
     requires { ⌜ (depth + 24 ≤ length (now frames)) × Sound (now names) size ⌝ }
-    ensures { λ r. ⌜ ((l : List ℕ) (at : ℕ) → at < length l → Checked (names-in (take size (now (names .entry)))) l at (Variable number) (now (frames .entry)) depth r (now (frames .exit))) ⌝ }
+    ensures { λ r. ⌜ ((l : List ℕ) (at : ℕ) → at < length l → Checked (names-in (take size (now (names .entry)))) l at (Variable variable) (now (frames .entry)) depth r (now (frames .exit))) ⌝ }
 {
-    let name = names_numbered::name_at(names, size, number as usize);
+    let name = names_numbered::name_at(names, size, variable.number as usize);
     if name.end == name.from {
         return Fit::Fails;
     }
@@ -224,8 +222,9 @@ pub fn check_piece(
     match piece {
         Piece::Word(token) => check_word(line, at, token, frames, depth),
         Piece::Text(token, n) => check_text(line, at, token, n, frames, depth),
-        Piece::Target(token) => check_target(line, at, token, names, size, frames, depth),
-        Piece::Variable(number) => check_variable(number, names, size, frames, depth),
+        Piece::Target(variable) => check_target(variable, names, size, frames, depth),
+        Piece::NoTarget => Fit::Fails,
+        Piece::Variable(variable) => check_variable(variable, names, size, frames, depth),
         Piece::Constant => check_constant(line, at, frames, depth),
         Piece::Quoted(n) => check_quoted(line, at, n, frames, depth),
         Piece::Operator(token) => check_operator(token, frames, depth),

@@ -21,7 +21,6 @@ use Rattle.paper.specs.Calls.{not-listed}
 use Rattle.laws.specs.Tests.{is-true, as-T}
 use Rattle.buffers.specs.Sets.{sets-append}
 use Rattle.list_pieces.specs.declared.Piece.{Piece}
-use Rattle.list_pieces.specs.declared.Piece.the-variants as Piece′
 use Rattle.list_line.specs.declared.Outcome.the-variants as Outcome′
 use Rattle.list_line.specs.declared.first.Measure.{Measure}
 use Rattle.list_line.specs.declared.first.Measure.the-variants as Measure′
@@ -297,17 +296,6 @@ module _ {ns : List (List ℕ)} {l old : List ℕ} {n₀ at end n : ℕ} {out : 
 pub body-fits : (ns : List (List ℕ)) (l : List ℕ) {first old : List ℕ} {n : ℕ} → Writes (decimal 5 (line-number l) ++ blank ∷ []) 0 first n old → length old ≡ length first → length (listing ns l) ≤ length first
     → n + length (body-text (tokens-at ns l 3 3)) ≤ length old
 body-fits ns l w e h = omega (arith, w .size, ap length (head-listing ns l), length-append (decimal 5 (line-number l) ++ blank ∷ []) (body-text (tokens-at ns l 3 3)))
-
--- every piece has a byte
-pub size-some : (c : Piece) → 1 ≤ size-of c
-unfolding size-of
-size-some (Piece′.Word t) = omega arith
-size-some (Piece′.Text t n) = omega arith
-size-some (Piece′.Target v) = omega arith
-size-some (Piece′.Variable v) = omega arith
-size-some Piece′.Constant = omega arith
-size-some (Piece′.Quoted n) = omega arith
-size-some (Piece′.Operator t) = omega arith
 
 -- ---- the answer
 
