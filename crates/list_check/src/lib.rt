@@ -11,8 +11,6 @@ ghost use lib.ListN.{length, take};
 ghost use Rattle.paper.specs.Names.{names-in};
 ghost use Rattle.laws.specs.Counts.{class-count};
 ghost use Rattle.list_pieces.specs.declared.Piece.the-variants.{Word, Text, Target, Variable, Constant, Quoted, Operator};
-ghost use Rattle.list_pieces.specs.Given.{given-operator};
-ghost use Rattle.grammar.specs.Stack.{gives-of};
 ghost use Rattle.list_check.specs.Passes.{Ended, Checked};
 ghost use Rattle.list_pieces.specs.Rest.{Numbered, Sound};
 
@@ -170,24 +168,6 @@ fn check_quoted(line: &[u8], at: usize, size: u8, frames: &mut [u8], depth: usiz
     }
 }
 
-// How far the operators for strings stand behind those that are read.
-const TO_STRINGS: usize = tokens::TO_STRINGS as usize;
-
-// How far the prefix operators stand behind those that are read.
-const TO_PREFIX: usize = tokens::TO_PREFIX as usize;
-
-// The operator that is given for the operator `read`, by the number of what is given.
-fn given_operator(gives: u8, read: u8) -> usize
-    ensures { λ r. ⌜ r ≡ given-operator (gives-of gives) read ⌝ }
-{
-    match gives {
-        0 => read as usize,
-        1 => read as usize + TO_STRINGS,
-        2 => read as usize + TO_PREFIX,
-        _ => gives as usize,
-    }
-}
-
 // An operator or function: the one that the grammar gives for what it is read as.
 fn check_operator(token: u8, frames: &mut [u8], depth: usize) -> Fit
     requires { ⌜ depth + 24 ≤ length (now frames) ⌝ }
@@ -196,7 +176,7 @@ fn check_operator(token: u8, frames: &mut [u8], depth: usize) -> Fit
     let read = tokens::read_as(token);
     match grammar::take_item(frames, depth, tokens::operator_class(read)) {
         Step::Took(gives, d) => {
-            if given_operator(gives, read) == token as usize {
+            if grammar::given_operator(gives, read) == token {
                 Fit::Fits(d)
             } else {
                 Fit::Fails

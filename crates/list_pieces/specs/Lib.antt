@@ -1,7 +1,6 @@
 pub mod Variables
 pub mod Pieces
 pub mod Rest
-pub mod Given
 pub mod Written
 pub mod VariableLaws
 pub mod Decoded

@@ -4,24 +4,24 @@ use native.Mathlib.Omega.{arith}
 use mathlib.Core.Path.{_≡_, refl, subst, sym, ap, ap₂, _∙_}
 use mathlib.Core.Bool.{Bool, true, false, not}
 use mathlib.Core.List.{List, [], _∷_, _++_}
-use lib.Dec.{T, eqb, eqb→eq, ltb→lt, lt→ltb}
+use lib.Dec.{T, eqb, ltb→lt, lt→ltb}
 use lib.ListN.{length, take, drop, getD, length-append, length-drop, take-append-drop}
 use lib.Seq.{drop-drop, length-take-le, getD-drop, drop-cons}
 use borrow.Author.Tests.{eqb-true, eqb-false}
 use Rattle.paper.specs.Bytes.{pick, run, every}
 use Rattle.paper.specs.Tokens.{Token, statement, assigned, operator, variable, constant, string, raw}
-use Rattle.paper.specs.Constants.{right-constant?}
 use Rattle.paper.specs.Names.{number-of, known?}
 use Rattle.paper.specs.Items.{raw-byte?}
 use Rattle.paper.specs.Line.{own-bytes, begins?, variable-bytes, raw-statement?}
 use Rattle.paper.specs.WellFormed.{right-token?}
 use Rattle.laws.specs.Tests.{and-left, and-right, and-both, as-T}
+use Rattle.laws.specs.Constants.{six-long}
 use Rattle.buffers.specs.Runs.{run-within}
 use Rattle.list_pieces.specs.declared.Piece.{Piece}
 use Rattle.list_pieces.specs.declared.VariableToken.{VariableToken}
 use Rattle.list_pieces.specs.declared.Piece.the-variants.{Word, Text, Target, NoTarget, Variable, Constant, Quoted, Operator}
 use Rattle.list_pieces.specs.Variables.{variable-at}
-use Rattle.list_pieces.specs.VariableLaws.{bytes-some, written-read, read-there, read-written}
+use Rattle.list_pieces.specs.VariableLaws.{bytes-some, none-low, written-read, read-there, read-written}
 use Rattle.list_pieces.specs.Pieces.{piece-at, size-of, end-after, Holds}
 use Rattle.list_pieces.specs.Rest.{Numbered, Written}
 use Rattle.list_pieces.specs.Written.{head-is, within, within-up, begun, begun-up}
@@ -37,7 +37,7 @@ Is p end s NoTarget = variable-at (drop 2 s) .size ≡ 0
 Is p end s (Variable v) = (v ≡ variable-at s) × (v .size ≡ 0 → ⊥)
 Is p end s Constant = getD s 0 0 ≡ 0x0e
 Is p end s (Quoted n) = (getD s 0 0 ≡ 0x0f) × (n ≡ getD s 1 0)
-Is p end s (Operator t) = t ≡ getD s 0 0
+Is p end s (Operator t) = (t ≡ getD s 0 0) × (variable-at s .size ≡ 0)
 
 target-is : (p end : ℕ) (s : List ℕ) (x : Bool) → let v = variable-at (drop 2 s) in p ≡ end → getD s 1 0 ≡ 0x36 → eqb (v .size) 0 ≡ x → Is p end s (pick x NoTarget (Target v))
 target-is p end s true e h k = eqb-true (variable-at (drop 2 s) .size) 0 k
@@ -54,7 +54,7 @@ within-is : (p end : ℕ) (s : List ℕ) (x y z : Bool) → let v = variable-at 
 within-is p end s false y z h k l = (refl, eqb-false (variable-at s .size) 0 h)
 within-is p end s true true z h k l = eqb-true (getD s 0 0) 0x0e k
 within-is p end s true false true h k l = (eqb-true (getD s 0 0) 0x0f l, refl)
-within-is p end s true false false h k l = refl
+within-is p end s true false false h k l = (refl, eqb-true (variable-at s .size) 0 h)
 
 is-go : (p end : ℕ) (s : List ℕ) (x : Bool) (c d : Piece) → (x ≡ true → Is p end s c) → Is p end s d → Is p end s (pick x c d)
 is-go p end s true c d f g = f refl
@@ -95,6 +95,10 @@ target-long p end s v e =
     let i = subst (Is p end s) e (piece-is p end s) in
     let m = ap (λ (z : VariableToken). z .size) (i .2) in
     omega (arith, m, i .3, read-there (drop 2 s) (λ z. i .3 (m ∙ z)), length-drop 2 s)
+
+-- an operator is below 128
+pub operator-below : (p end : ℕ) (s : List ℕ) (t : ℕ) → piece-at p end s ≡ Operator t → t < 128
+operator-below p end s t e = let i = subst (Is p end s) e (piece-is p end s) in subst (λ (z : ℕ). z < 128) (sym (i .0)) (none-low s (i .1))
 
 -- ---- runs
 
@@ -195,10 +199,6 @@ module _ (ns : List (List ℕ)) (p end b : ℕ) (s : List ℕ) (gs : List Token)
       let k : v .number ≡ number-of ns n = ap (λ (z : VariableToken). z .number) e in
       let m : v .size ≡ length o = ap (λ (z : VariableToken). z .size) e in
       (subst (λ (z : ℕ). z < length ns) (sym k) (number-there n (r .is-right)), omega arith, subst (λ (z : ℕ). Written ns (p + z) end (drop z (b ∷ s)) gs) (sym m) (r .others))
-
-  pub six-long : (c : List ℕ) → T (right-constant? c) → length c ≡ 6
-  unfolding right-constant?
-  six-long c t = eqb→eq (length c) 6 (and-left (eqb (length c) 6) _ t)
 
   pub less-constant : Written ns p end (b ∷ s) (constant (take 6 s) ∷ gs) → Left Constant
   unfolding own-bytes begins? size-of end-after right-token?
@@ -307,7 +307,7 @@ module _ (ns : List (List ℕ)) (d : Numbered ns) (p end b : ℕ) (s : List ℕ)
   pub more-constant : Is p end (b ∷ s) Constant → Holds ns (b ∷ s) Constant → Later Constant → Written ns p end (b ∷ s) (constant (take 6 s) ∷ gs)
   unfolding own-bytes begins? size-of end-after right-token?
   more-constant i h w =
-      let l : length (take 6 s) ≡ 6 = six-long ns p end b s gs (take 6 s) h in
+      let l : length (take 6 s) ≡ 6 = six-long (take 6 s) h in
       let m : suc (length (take 6 s)) ≡ 7 = ap suc l in
       within-up ns (constant (take 6 s)) gs p end (b ∷ s) refl (record {
         is-right = h;

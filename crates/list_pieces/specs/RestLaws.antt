@@ -72,7 +72,7 @@ module _ (ns : List (List ℕ)) (p end b : ℕ) (s : List ℕ) where
   less (Variable v) i w = less-variable ns p end b s _ v i w
   less Constant i w = less-constant ns p end b s _ w
   less (Quoted n) i w = less-quoted ns p end b s _ n i w
-  less (Operator t) i w = subst (λ (z : ℕ). Written ns p end (b ∷ s) (all ns p end (b ∷ s) (Operator z)) → Left ns p end b s (next (Operator z)) (Operator z)) (sym i) (λ v. less-operator ns p end b s _ b v .1) w
+  less (Operator t) i w = subst (λ (z : ℕ). Written ns p end (b ∷ s) (all ns p end (b ∷ s) (Operator z)) → Left ns p end b s (next (Operator z)) (Operator z)) (sym (i .0)) (λ v. less-operator ns p end b s _ b v .1) w
 
   more : (d : Numbered ns) (c : Piece) → Is p end (b ∷ s) c → Holds ns (b ∷ s) c → Later ns d p end b s (next c) c → Written ns p end (b ∷ s) (all ns p end (b ∷ s) c)
   unfolding tokens-of-piece
@@ -83,7 +83,7 @@ module _ (ns : List (List ℕ)) (p end b : ℕ) (s : List ℕ) where
   more d (Variable v) i h w = more-variable ns d p end b s _ v i h w
   more d Constant i h w = more-constant ns d p end b s _ i h w
   more d (Quoted n) i h w = more-quoted ns d p end b s _ n i h w
-  more d (Operator t) i h w = subst (λ (z : ℕ). Later ns d p end b s (next (Operator z)) (Operator z) → Written ns p end (b ∷ s) (all ns p end (b ∷ s) (Operator z))) (sym i) (λ v. more-operator ns d p end b s _ v) w
+  more d (Operator t) i h w = subst (λ (z : ℕ). Later ns d p end b s (next (Operator z)) (Operator z) → Written ns p end (b ∷ s) (all ns p end (b ∷ s) (Operator z))) (sym (i .0)) (λ v. more-operator ns d p end b s _ v) w
 
   cons-here : (fs : List ℕ) → Rest ns fs p end (b ∷ s) → Here ns p end (b ∷ s) fs (piece-at p end (b ∷ s))
   cons-here fs r =

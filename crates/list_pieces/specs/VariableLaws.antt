@@ -1,12 +1,12 @@
 -- A variable's token that is read is the one that is written, and names what the bytes name.
-use Prim.Native.Nat.{ℕ, _+_, _-_, _≤_}
+use Prim.Native.Nat.{ℕ, _+_, _-_, _≤_, _<_}
 use native.Mathlib.Omega.{arith}
 use mathlib.Core.Path.{_≡_, refl, sym, ap, _∙_}
 use mathlib.Core.Bool.{Bool, true, false}
 use mathlib.Core.List.{List, [], _∷_, _++_}
 use lib.Dec.{leb}
 use lib.ListN.{length, drop, getD}
-use borrow.Author.Tests.{le-leb, leb-true}
+use borrow.Author.Tests.{le-leb, leb-true, leb-false}
 use Rattle.paper.specs.Names.{number-of}
 use Rattle.paper.specs.Line.{variable-bytes}
 use Rattle.list_pieces.specs.Variables.{token-by, variable-at}
@@ -15,6 +15,15 @@ use Rattle.list_pieces.specs.Variables.{token-by, variable-at}
 pub bytes-some : (ns : List (List ℕ)) (n : List ℕ) → 1 ≤ length (variable-bytes ns n)
 unfolding variable-bytes
 bytes-some ns n = omega arith
+
+-- where no token is read stands a byte below 128
+none-go : (b : ℕ) (x : Bool) → leb 0x80 b ≡ x → token-by x b .size ≡ 0 → b < 128
+none-go b true e n = absurd (omega arith)
+none-go b false e n = leb-false 0x80 b e
+
+pub none-low : (s : List ℕ) → variable-at s .size ≡ 0 → getD s 0 0 < 128
+unfolding variable-at
+none-low s n = none-go (getD s 0 0) (leb 0x80 (getD s 0 0)) refl n
 
 front-read : (k : ℕ) (r : List ℕ) → variable-at ((0x80 + k) ∷ r) ≡ record { number = k; size = 1 }
 unfolding variable-at
