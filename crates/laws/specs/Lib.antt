@@ -5,3 +5,6 @@ pub mod Classes
 pub mod Runs
 pub mod Lines
 pub mod Names
+pub mod Constants
+pub mod Given
+pub mod Tables

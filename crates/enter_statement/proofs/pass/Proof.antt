@@ -1,8 +1,8 @@
 use native.Mathlib.Omega.{arith}
-use mathlib.Core.Path.{sym, ap, _∙_}
+use mathlib.Core.Path.{sym, _∙_}
 use mathlib.Core.Bool.{false}
 use Rattle.enter_statement.specs.Stacks.{fine-own, fine-sign}
-use Rattle.enter_statement.specs.Moves.{given-byte, passes-constant, passes-other, given-itself, took-given}
+use Rattle.enter_statement.specs.Moves.{passes-constant, passes-other, given-itself, took-given}
 use borrow.Author.Needs.{needs}
 use Rattle.enter_statement.proofs.pass.Statement.{statement}
 use Rattle.enter_statement.proofs.pass.Tie as tie
@@ -16,8 +16,8 @@ quoted-requires c κs = (c .before .before .before .before .before .before .befo
 variable-requires : tie.Need-variable-requires
 variable-requires c κs = (c .before .before .before .before .before .before .before .before .before .pre .0, (c .before .before .before .before .before .before .before .before .before .pre .1) .sees, omega (arith, fine-own _ _ (c .before .before .before .before .before .before .before .before .before .pre .2) (c .before .before .if1 .taken) .0, (c .before .before .before .before .before .before .before .before .before .pre .1) .class, c .before .before .before .match .rest .0 .1, c .before .before .before .match .rest .1), omega (arith, (c .before .before .before .before .before .before .before .before .before .pre .1) .class, c .before .before .if1 .taken))
 
-given-byte-requires : tie.Need-given-byte-requires
-given-byte-requires c κs = search needs
+given-operator-requires : tie.Need-given-operator-requires
+given-operator-requires c κs = search needs
 
 token-requires : tie.Need-token-requires
 token-requires c κs = search needs
@@ -53,7 +53,7 @@ same-length-7 : tie.Need-same-length-7
 same-length-7 c = search needs
 
 returns-4 : tie.Need-returns-4
-returns-4 c = passes-other (λ e. c .before .before .before .before .before .before .match .rest .0 .1 ((c .before .before .before .before .before .before .before .before .before .before .before .before .pre .1) .class ∙ e)) (took-given _ _ (fine-sign _ _ (c .before .before .before .before .before .before .before .before .before .before .before .before .pre .2) (c .before .before .before .before .before .if1 .left)) (c .before .before .before .before .before .before .before .before .before .before .before .before .pre .0) ((c .before .before .before .before .before .before .before .before .before .before .before .before .pre .1) .next _ _) (sym ((c .before .before .before .before .before .before .before .before .before .before .before .before .pre .1) .class)) (c .before .before .before .given-byte .ensures ∙ ap (given-byte _) ((c .before .before .before .before .before .before .before .before .before .before .before .before .pre .1) .own)) (c .before .before .token .ensures .0) (c .before .before .token .ensures .1))
+returns-4 c = passes-other (λ e. c .before .before .before .before .before .before .match .rest .0 .1 ((c .before .before .before .before .before .before .before .before .before .before .before .before .pre .1) .class ∙ e)) (took-given _ _ _ (fine-sign _ _ (c .before .before .before .before .before .before .before .before .before .before .before .before .pre .2) (c .before .before .before .before .before .if1 .left)) (c .before .before .before .before .before .before .before .before .before .before .before .before .pre .0) ((c .before .before .before .before .before .before .before .before .before .before .before .before .pre .1) .next _ _) (sym ((c .before .before .before .before .before .before .before .before .before .before .before .before .pre .1) .class)) ((c .before .before .before .before .before .before .before .before .before .before .before .before .pre .1) .own) (c .before .before .before .given-operator .ensures) (c .before .before .token .ensures .0) (c .before .before .token .ensures .1))
 
 pub pass-spec : {M : Type 1} → statement M
 pass-spec =
@@ -62,7 +62,7 @@ pass-spec =
     constant-requires
     quoted-requires
     variable-requires
-    given-byte-requires
+    given-operator-requires
     token-requires
     same-length
     same-length-2
