@@ -5,6 +5,8 @@ use buffers::Run;
 use buffers::decimal;
 use buffers::put;
 use buffers::run_end;
+use enter_item::LINE_ROOM;
+use enter_item::NAMES_ROOM;
 use enter_item::Spot;
 use enter_item::Step;
 use statements::low_byte;
@@ -56,7 +58,13 @@ fn head_of(text: &[u8]) -> Head
 
 // Reads a text of at most 120 bytes over the first `size` bytes of a name table. An accepted line is written to the front of `line`, and the
 // names that are new in it to the front of `fresh`; what they hold after any other answer is scratch.
-pub fn read(text: &[u8], names: &[u8], size: usize, line: &mut [u8], fresh: &mut [u8]) -> Reading
+pub fn read(
+    text: &[u8],
+    names: &[u8],
+    size: usize,
+    line: &mut [u8; LINE_ROOM],
+    fresh: &mut [u8; NAMES_ROOM],
+) -> Reading
     requires { ⌜ (length (now text) ≤ 120) × (size ≤ length (now names)) × (240 ≤ length (now fresh)) ⌝ }
     ensures { λ r. ⌜ Told (names-in (take size (now (names .entry)))) (now (text .entry)) (now (line .entry)) (now (fresh .entry)) (now (line .exit)) (now (fresh .exit)) r ⌝ }
 {

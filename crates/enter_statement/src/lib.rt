@@ -1,4 +1,6 @@
 // What follows the first item of a statement, up to its end: items are taken by the grammar's table, terms by their own reader.
+use enter_item::LINE_ROOM;
+use enter_item::NAMES_ROOM;
 use enter_item::Seen;
 use enter_item::Spot;
 use enter_item::Step;
@@ -58,9 +60,9 @@ fn pass(
     seen: Seen,
     gives: u8,
     q: Spot,
-    line: &mut [u8],
+    line: &mut [u8; LINE_ROOM],
     names: &[u8],
-    fresh: &mut [u8],
+    fresh: &mut [u8; NAMES_ROOM],
 ) -> Step
     requires { ⌜ (Asks (env (now part) offset (now names)) q (mem (now line) (now fresh))) × (Shows (now part) (q .at) false seen) × (T (fine? (seen .class) (gives-of gives))) ⌝ }
     ensures { λ r. ⌜ Passes (now (part .entry)) offset (now (names .entry)) seen (gives-of gives) q (mem (now (line .entry)) (now (fresh .entry))) (mem (now (line .exit)) (now (fresh .exit))) r ⌝ }
@@ -86,9 +88,9 @@ fn after_then(
     part: &[u8],
     offset: usize,
     q: Spot,
-    line: &mut [u8],
+    line: &mut [u8; LINE_ROOM],
     names: &[u8],
-    fresh: &mut [u8],
+    fresh: &mut [u8; NAMES_ROOM],
     frames: &mut [u8],
 ) -> Moved
     requires { ⌜ (Asks (env (now part) offset (now names)) q (mem (now line) (now fresh))) × (1 ≤ length (now frames)) ⌝ }
@@ -117,9 +119,9 @@ fn taken(
     seen: Seen,
     gives: u8,
     q: Spot,
-    line: &mut [u8],
+    line: &mut [u8; LINE_ROOM],
     names: &[u8],
-    fresh: &mut [u8],
+    fresh: &mut [u8; NAMES_ROOM],
     frames: &mut [u8],
     depth: usize,
 ) -> Moved
@@ -173,9 +175,9 @@ fn advance(
     part: &[u8],
     offset: usize,
     q: Spot,
-    line: &mut [u8],
+    line: &mut [u8; LINE_ROOM],
     names: &[u8],
-    fresh: &mut [u8],
+    fresh: &mut [u8; NAMES_ROOM],
     frames: &mut [u8],
     depth: usize,
     nested: bool,
@@ -205,9 +207,9 @@ pub fn follow(
     part: &[u8],
     offset: usize,
     start: Spot,
-    line: &mut [u8],
+    line: &mut [u8; LINE_ROOM],
     names: &[u8],
-    fresh: &mut [u8],
+    fresh: &mut [u8; NAMES_ROOM],
     frames: &mut [u8],
     wanted: usize,
 ) -> Ended
