@@ -2,6 +2,7 @@ pub mod Answers
 pub mod Worked
 pub mod Recorded
 pub mod Limits
+pub mod Quotes
 pub mod Kinds
 pub mod Following
 pub mod Coverage

@@ -135,8 +135,8 @@ worked =
     ∷ refuses "10 IF A THEN -5" 4 13
     ∷ refuses "10 IF A THEN 5+1" 4 14
     ∷ refuses "10 IF A THEN10" 4 8
-    ∷ refuses "10 A=\"X" 4 5
-    ∷ refuses "10 A$=\"X" 4 6
+    ∷ refuses "10 A=\"X" 4 7
+    ∷ stores "10 A$=\"X" "0A 00 0B 0B 36 80 2E 0F 01 58 16" "41 A4" "10 A$=\"X\""
     ∷ refuses "10 PRINT #1" 4 9
     ∷ refuses "10 A=?" 4 5
     ∷ refuses "10 A=1..2" 4 7

@@ -197,7 +197,7 @@ is-number Bad s size first h e = absurd (omega arith)
 -- a quoted string, as the text and the kind have it
 pub record IsQuoted (k : Kind) (s : List ℕ) (size : ℕ) (first : Bool) : Type 0 where
   pub token : token-of k s first ≡ string (take (quoted-length k) (drop 1 s))
-  pub there : size ≡ suc (suc (quoted-length k))
+  pub there : suc (quoted-length k) ≤ size
 
 pick-four : (b : Bool) (x y : ℕ) → 5 ≤ x → 5 ≤ y → pick b x y ≡ 4 → ⊥
 pick-four true x y h k e = omega arith

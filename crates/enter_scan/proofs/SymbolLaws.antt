@@ -1,7 +1,7 @@
 -- Quoted strings and symbols, as the code finds them in a text.
 use Prim.Native.Nat.{ℕ, suc, _+_, _-_}
 use native.Mathlib.Omega.{arith}
-use mathlib.Core.Path.{_≡_, refl, sym, ap, _∙_}
+use mathlib.Core.Path.{_≡_, refl, sym, ap, ap₂, _∙_}
 use mathlib.Core.Bool.{true, false}
 use mathlib.Core.List.{List, [], _∷_}
 use lib.Dec.{eqb}
@@ -16,7 +16,7 @@ use Rattle.tokens.specs.declared.Symbol.{Symbol}
 use Rattle.tokens.specs.declared.Symbol.the-variants.{Two, One, Nothing}
 use Rattle.tokens.specs.Tables.{pair-found, symbol-found}
 use Rattle.enter_scan.specs.declared.Kind.the-variants.{Quoted, Operator, Bad}
-use Rattle.enter_scan.specs.Kinds.{shape, string-shape, symbol-kind, symbol-shape, item-with}
+use Rattle.enter_scan.specs.Kinds.{Shape, shape, string-ended, string-shape, symbol-kind, symbol-shape, item-with}
 
 -- ---- strings
 
@@ -29,21 +29,32 @@ module _ (s : List ℕ) (at : ℕ) {quote : ℕ} (e : quote ≡ at + 1 + run str
       let i : at + suc (run string-byte? (drop 1 (drop at s))) ≡ quote = omega (arith, run-of) in
       getD-drop at s (suc (run string-byte? (drop 1 (drop at s)))) 0 ∙ ap (λ (k : ℕ). getD s k 0) i
 
-  pub string-closed : {b : ℕ} → b ≡ getD s quote 0 → b ≡ 34 → record { kind = Quoted (quote - (at + 1)); at = at; end = quote + 1 } ≡ item-with (string-shape (drop at s)) at
-  unfolding item-with string-shape
-  string-closed {b} p q =
-      let n = run string-byte? (drop 1 (drop at s)) in
-      let t : eqb (getD (drop at s) (suc n) 0) 34 ≡ true = eq-eqb (getD (drop at s) (suc n) 0) 34 (quote-byte ∙ sym p ∙ q) in
-      let k : quote - (at + 1) ≡ n = omega (arith, run-of) in
-      let m : quote + 1 ≡ at + suc (suc n) = omega (arith, run-of) in
-      rw (t, k) (ap (λ (j : ℕ). record { kind = Quoted n; at = at; end = j }) m)
+  ended-by : (b : ℕ) → b ≡ getD s quote 0 → (x : Shape) → string-ended (quote - (at + 1)) b ≡ x → item-with x at ≡ item-with (string-shape (drop at s)) at
+  unfolding string-shape
+  ended-by b p x h =
+      let k : quote - (at + 1) ≡ run string-byte? (drop 1 (drop at s)) = omega (arith, run-of) in
+      ap (λ (y : Shape). item-with y at) (sym h ∙ ap₂ string-ended k (p ∙ sym quote-byte))
 
-  pub string-open : {b : ℕ} → b ≡ getD s quote 0 → (b ≡ 34 → ⊥) → record { kind = Bad; at = at; end = at + 1 } ≡ item-with (string-shape (drop at s)) at
-  unfolding item-with string-shape
-  string-open {b} p q =
-      let n = run string-byte? (drop 1 (drop at s)) in
-      let t : eqb (getD (drop at s) (suc n) 0) 34 ≡ false = ne-eqb (getD (drop at s) (suc n) 0) 34 (λ z. q (p ∙ sym quote-byte ∙ z)) in
-      rw t
+  pub string-closed : {b : ℕ} → b ≡ getD s quote 0 → b ≡ 34 → record { kind = Quoted (quote - (at + 1)); at = at; end = quote + 1 } ≡ item-with (string-shape (drop at s)) at
+  unfolding item-with string-ended
+  string-closed {b} p q =
+      let n = quote - (at + 1) in
+      let m : quote + 1 ≡ at + suc (suc n) = omega (arith) in
+      ap (λ (j : ℕ). record { kind = Quoted n; at = at; end = j }) m ∙ ended-by b p (shape (Quoted n) (suc (suc n))) (rw (eq-eqb b 34 q))
+
+  pub string-marked : {b : ℕ} → b ≡ getD s quote 0 → b ≡ 0x9b → record { kind = Bad; at = at; end = quote } ≡ item-with (string-shape (drop at s)) at
+  unfolding item-with string-ended
+  string-marked {b} p q =
+      let n = quote - (at + 1) in
+      let m : quote ≡ at + suc n = omega (arith) in
+      ap (λ (j : ℕ). record { kind = Bad; at = at; end = j }) m ∙ ended-by b p (shape Bad (suc n)) (rw (ne-eqb b 34 (λ z. omega (arith, z, q)), eq-eqb b 0x9b q))
+
+  pub string-open : {b : ℕ} → b ≡ getD s quote 0 → (b ≡ 34 → ⊥) → (b ≡ 0x9b → ⊥) → record { kind = Quoted (quote - (at + 1)); at = at; end = quote } ≡ item-with (string-shape (drop at s)) at
+  unfolding item-with string-ended
+  string-open {b} p q r =
+      let n = quote - (at + 1) in
+      let m : quote ≡ at + suc n = omega (arith) in
+      ap (λ (j : ℕ). record { kind = Quoted n; at = at; end = j }) m ∙ ended-by b p (shape (Quoted n) (suc n)) (rw (ne-eqb b 34 q, ne-eqb b 0x9b r))
 
 -- ---- symbols
 

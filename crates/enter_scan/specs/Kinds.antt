@@ -91,9 +91,13 @@ number-shape s = let a = run digit? s in number-with s a (power-at s (digits-siz
 
 -- ---- strings and symbols
 
--- a closed quoted string without 9B at the front of a text
+-- a quoted string of n bytes, by the byte that ends it: a quote, a 9B, or none at the text's end
+unfoldable pub string-ended : ℕ → ℕ → Shape
+string-ended n b = pick (eqb b 34) (shape (Quoted n) (suc (suc n))) (pick (eqb b 0x9b) (shape Bad (suc n)) (shape (Quoted n) (suc n)))
+
+-- a quoted string at the front of a text
 unfoldable pub string-shape : List ℕ → Shape
-string-shape s = let n = run string-byte? (drop 1 s) in pick (eqb (getD s (suc n) 0) 34) (shape (Quoted n) (suc (suc n))) (shape Bad 1)
+string-shape s = let n = run string-byte? (drop 1 s) in string-ended n (getD s (suc n) 0)
 
 -- a symbol if one was found
 unfoldable pub symbol-kind : ℕ → Found → Shape → Shape

@@ -1,21 +1,23 @@
 -- A shape is the item that the definitions have at the front of a text.
 use Prim.Native.Nat.{ℕ, suc, _+_}
 use native.Mathlib.Omega.{arith}
-use mathlib.Core.Path.{_≡_, refl, ap, _∙_}
+use mathlib.Core.Path.{_≡_, refl, sym, ap, _∙_}
 use mathlib.Core.Bool.{Bool, true, false, not, _&&_, _||_}
 use mathlib.Core.List.{List, [], _∷_, _++_, append-nil}
 use lib.Dec.{ltb, eqb}
 use lib.ListN.{take, drop, getD}
+use borrow.Author.Tests.{eqb-true, ne-eqb}
 use Rattle.paper.specs.Bytes.{pick, digit?, letter?, letter-or-digit?, run}
 use Rattle.paper.specs.Words.{Found, found, nowhere, find-word, statements, operators}
 use Rattle.paper.specs.Tokens.{statement, operator, string, unreadable}
 use Rattle.paper.specs.Constants.{value, constant-of}
 use Rattle.paper.specs.Items.{Item, item, statement-or, operator-or, variable-at, name-token, name-at, sign-size, power-size, with-power, number-at, string-byte?, string-at, symbol-or, symbol-at, item-at}
+use Rattle.tokens.specs.Same.{no-bool}
 use Rattle.constant_bytes.specs.Numerals.{digits-in, numeral-token}
 use Rattle.enter_scan.specs.declared.Kind.{Kind}
 use Rattle.enter_scan.specs.declared.Kind.the-variants.{Numeric, Text, Array, Number, Quoted, Operator, Function, Statement, Bad}
 use Rattle.enter_scan.specs.Token.{token-of}
-use Rattle.enter_scan.specs.Kinds.{Shape, shape, name-size, variable-kind, statement-kind, reserved-kind, name-kind, name-shape, fraction-size, digits-size, no-power, power-at, number-with, number-shape, string-shape, symbol-kind, symbol-shape, shape-at}
+use Rattle.enter_scan.specs.Kinds.{Shape, shape, name-size, variable-kind, statement-kind, reserved-kind, name-kind, name-shape, fraction-size, digits-size, no-power, power-at, number-with, number-shape, string-ended, string-shape, symbol-kind, symbol-shape, shape-at}
 
 -- the item of a shape at the front of a text that stands at the place p
 abbrev pub item-of : Bool → ℕ → List ℕ → Shape → Item
@@ -96,15 +98,21 @@ number-item first p s = let a = run digit? s in number-go first p a (run digit? 
 
 -- ---- strings and symbols
 
-string-go : (first : Bool) (p n : ℕ) (s : List ℕ) (closed : Bool)
-    → item-of first p s (pick closed (shape (Quoted n) (suc (suc n))) (shape Bad 1)) ≡ pick closed (item p (suc (suc n)) (string (take n (drop 1 s)))) (item p 1 unreadable)
+string-go : (first : Bool) (p n : ℕ) (s : List ℕ) (closed marked : Bool) → (closed ≡ true → marked ≡ false)
+    → item-of first p s (pick closed (shape (Quoted n) (suc (suc n))) (pick marked (shape Bad (suc n)) (shape (Quoted n) (suc n))))
+    ≡ item p (pick closed (suc (suc n)) (suc n)) (pick marked unreadable (string (take n (drop 1 s))))
 unfolding token-of
-string-go first p n s true = refl
-string-go first p n s false = refl
+string-go first p n s true true h = no-bool (sym (h refl))
+string-go first p n s true false h = refl
+string-go first p n s false true h = refl
+string-go first p n s false false h = refl
 
 pub string-item : (first : Bool) (p b : ℕ) (t : List ℕ) → item-of first p (b ∷ t) (string-shape (b ∷ t)) ≡ string-at p (b ∷ t)
-unfolding string-shape string-at
-string-item first p b t = let n = run string-byte? t in string-go first p n (b ∷ t) (eqb (getD t n 0) 34)
+unfolding string-shape string-ended string-at
+string-item first p b t =
+    let n = run string-byte? t in
+    let c = getD t n 0 in
+    string-go first p n (b ∷ t) (eqb c 34) (eqb c 0x9b) (λ h. ne-eqb c 0x9b (λ e. omega (arith, eqb-true c 34 h)))
 
 symbol-go : (first : Bool) (p n : ℕ) (s : List ℕ) (f : Found) (x : Shape) (i : Item) → item-of first p s x ≡ i → item-of first p s (symbol-kind n f x) ≡ symbol-or p n f i
 unfolding symbol-kind symbol-or token-of

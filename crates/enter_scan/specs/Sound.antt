@@ -25,7 +25,7 @@ use Rattle.enter_scan.specs.declared.Exponent.{Exponent}
 use Rattle.enter_scan.specs.declared.Kind.{Kind}
 use Rattle.enter_scan.specs.declared.Kind.the-variants.{Numeric, Text, Array, Quoted, Operator, Function, Statement, Bad}
 use Rattle.enter_scan.specs.Token.{token-of}
-use Rattle.enter_scan.specs.Kinds.{Shape, shape, name-size, variable-kind, statement-kind, reserved-kind, name-kind, name-shape, fraction-size, digits-size, no-power, power-at, number-with, number-shape, string-shape, symbol-kind, symbol-shape, shape-at, class-of}
+use Rattle.enter_scan.specs.Kinds.{Shape, shape, name-size, variable-kind, statement-kind, reserved-kind, name-kind, name-shape, fraction-size, digits-size, no-power, power-at, number-with, number-shape, string-ended, string-shape, symbol-kind, symbol-shape, shape-at, class-of}
 use Rattle.enter_scan.specs.Sees.{low?, Holds}
 
 -- the shape x is right at the front of the text s
@@ -378,21 +378,23 @@ bad-sound : (first : Bool) (s : List ℕ) → 0 < length s → Sound first s (sh
 bad-sound first s l = bare-sound first s 1 l (omega arith) bare-bad
 
 pub string-sound : (first : Bool) (s : List ℕ) → 0 < length s → Sound first s (string-shape s)
-unfolding string-shape token-of class class-of
-string-sound first s l = go (eqb (getD s (suc n) 0) 34) refl
+unfolding string-shape string-ended token-of class class-of
+string-sound first s l = go (eqb (getD s (suc n) 0) 34) refl (eqb (getD s (suc n) 0) 0x9b)
   where
     n : ℕ
     n = run string-byte? (drop 1 s)
 
-    go : (u : Bool) → eqb (getD s (suc n) 0) 34 ≡ u → Sound first s (pick u (shape (Quoted n) (suc (suc n))) (shape Bad 1))
-    go true e = record {
-      fits = in-text s (suc n) (omega (arith, eqb-true (getD s (suc n) 0) 34 e));
-      some = λ z. omega arith;
-      classed = refl;
-      inner = λ z e. omega arith;
-      holds = refl;
-    }
-    go false e = bad-sound first s l
+    there : suc n ≤ length s
+    there = omega (arith, l, run-within string-byte? (drop 1 s), length-drop 1 s)
+
+    quoted-sound : (size : ℕ) → size ≤ length s → suc n ≤ size → Sound first s (shape (Quoted n) size)
+    quoted-sound size f h = record { fits = f; some = λ z. omega (arith, h); classed = refl; inner = λ z e. omega arith; holds = h }
+
+    go : (closed : Bool) → eqb (getD s (suc n) 0) 34 ≡ closed → (marked : Bool)
+        → Sound first s (pick closed (shape (Quoted n) (suc (suc n))) (pick marked (shape Bad (suc n)) (shape (Quoted n) (suc n))))
+    go true e marked = quoted-sound (suc (suc n)) (in-text s (suc n) (omega (arith, eqb-true (getD s (suc n) 0) 34 e))) (omega arith)
+    go false e true = bare-sound first s (suc n) there (omega arith) bare-bad
+    go false e false = quoted-sound (suc n) there (omega arith)
 
 -- no word has a 0 for its second byte
 second-bytes : T (every (λ w. ltb 0 (getD (w .spelling) 1 1)) operators)

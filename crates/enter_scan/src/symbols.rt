@@ -13,24 +13,32 @@ ghost use lib.ListN.{length, getD, drop};
 ghost use Rattle.paper.specs.Bytes.{letter?};
 ghost use Rattle.enter_scan.specs.Kinds.{string-shape, symbol-shape, item-with};
 
-// The item of a quote: a closed string without 9B, or a byte that starts no item.
+// The item of a quote: a string to its closing quote or, with none, to the text's end; with a 9B in it, no item.
 pub(crate) fn string_item(part: &[u8], at: usize) -> Item
     requires { ⌜ at < length (now part) ⌝ }
     ensures { λ r. ⌜ r ≡ item-with (string-shape (drop at (now (part .entry)))) at ⌝ }
 {
     let from = at + 1;
-    let quote = run_end(part, from, Run::StringBytes);
-    if byte_at(part, quote) == b'"' {
+    let end = run_end(part, from, Run::StringBytes);
+    let last = byte_at(part, end);
+    if last == b'"' {
         return Item {
-            kind: Kind::Quoted(quote - from),
+            kind: Kind::Quoted(end - from),
             at,
-            end: quote + 1,
+            end: end + 1,
+        };
+    }
+    if last == 0x9B {
+        return Item {
+            kind: Kind::Bad,
+            at,
+            end,
         };
     }
     Item {
-        kind: Kind::Bad,
+        kind: Kind::Quoted(end - from),
         at,
-        end: from,
+        end,
     }
 }
 

@@ -17,6 +17,7 @@ pub mod Closed
 pub mod WordReading
 pub mod WordReads
 pub mod NameReads
+pub mod Strings
 pub mod Reading
 pub mod Decoding
 pub mod Shaped
@@ -40,3 +41,4 @@ pub mod Tested
 pub mod OnePlace
 pub mod Exactly
 pub mod Main
+pub mod Requests

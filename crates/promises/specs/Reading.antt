@@ -30,6 +30,7 @@ use Rattle.promises.specs.Closed.{closed, end-class?}
 use Rattle.promises.specs.WordReading.{read-tokens, ends-name, after, Next, scan-item, at-each, OperatorReads, StatementNext, StatementReads, after-statement}
 use Rattle.promises.specs.WordReads.{operators-read, statements-read}
 use Rattle.promises.specs.NameReads.{name-next}
+use Rattle.promises.specs.Strings.{run-whole, take-whole, closed-string}
 
 -- ---- what `apart` says
 
@@ -471,15 +472,9 @@ one-more t ts c p x y ex ey n r =
     ∙ ap (λ (b : Bool). t ∷ read-tokens (scan 0 b (n .at) (body-text ts))) (sym ey) ∙ ap (λ (l : List Token). t ∷ l) (r (n .at))
 
 -- strings
-string-item : (first : Bool) (p : ℕ) (t ys : List ℕ) → All string-byte? t → item-at first p (34 ∷ (t ++ 34 ∷ []) ++ ys) ≡ item p (length (34 ∷ t ++ 34 ∷ [])) (string t)
-unfolding item-at string-at letter? digit? string-byte?
-string-item first p t ys a =
-    let l : length (t ++ 34 ∷ []) ≡ suc (length t) = length-append t (34 ∷ []) ∙ omega arith in
-    rw (append-assoc t (34 ∷ []) ys, run-all string-byte? t (34 ∷ ys) a refl, seam t (34 ∷ ys), take-append-seam t (34 ∷ ys), l)
-
 string-next : (first : Bool) (b ys : List ℕ) (p : ℕ) → T (every string-byte? b) → Next first p (token-text (string b)) (string b) false ys
 unfolding token-text class opens blank?
-string-next first b ys p t = scan-item 34 (b ++ 34 ∷ []) ys first p (string b) refl (string-item first p b ys (all-every string-byte? b t)) refl
+string-next first b ys p t = scan-item 34 (b ++ 34 ∷ []) ys first p (string b) refl (closed-string first p b ys (all-every string-byte? b t)) refl
 
 -- constants
 digit-blank : (x : ℕ) → digit? x ≡ true → blank? x ≡ false
@@ -496,20 +491,11 @@ unfolding after
 after-number x t = t
 
 -- raw text
-all-take-whole : (b : List ℕ) → take (length b) b ≡ b
-all-take-whole [] = refl
-all-take-whole (x ∷ b) = ap (λ (l : List ℕ). x ∷ l) (all-take-whole b)
-
-run-whole : (q : ℕ → Bool) (b : List ℕ) → All q b → run q b ≡ length b
-unfolding run
-run-whole q [] a = refl
-run-whole q (x ∷ b) a = rw (a .0) (ap suc (run-whole q b (a .1)))
-
 raw-read : (p : ℕ) (b : List ℕ) → All raw-byte? b → read-tokens (raw-from p b) ≡ raw b ∷ operator 0x9b ∷ []
 unfolding raw-from read-tokens item
 raw-read p b a =
     let n : run raw-byte? b ≡ length b = run-whole raw-byte? b a in
-    rw (n, eq-eqb (length b) (length b) refl, all-take-whole b)
+    rw (n, eq-eqb (length b) (length b) refl, take-whole b)
 
 raw-end-text : operator-text 0x9b ≡ []
 unfolding all-Listing all-Words all-Bytes

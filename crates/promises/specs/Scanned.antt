@@ -231,11 +231,20 @@ every-run q (x ∷ s) = go (q x) refl (every-run q s)
 
 string-inner : (p : ℕ) (s : List ℕ) → Inner (string-at p s)
 unfolding string-at class scanned-right? end-class?
-string-inner p s =
-    let t : List ℕ = drop 1 s in
-    let n : ℕ = run string-byte? t in
-    pick-inner (eqb (getD t n 0) 34) (item p (suc (suc n)) (string (take n t))) (item p 1 unreadable)
-    (λ h. inner p (suc (suc n)) (string (take n t)) (record { right = every-run string-byte? t; no-end = tt })) (no-item p 1)
+string-inner p s = go (eqb (getD t n 0) 0x9b)
+  where
+    t : List ℕ
+    t = drop 1 s
+
+    n : ℕ
+    n = run string-byte? t
+
+    m : ℕ
+    m = pick (eqb (getD t n 0) 34) (suc (suc n)) (suc n)
+
+    go : (marked : Bool) → Inner (item p m (pick marked unreadable (string (take n t))))
+    go true = no-item p m
+    go false = inner p m (string (take n t)) (record { right = every-run string-byte? t; no-end = tt })
 
 or-symbol : (s : List ℕ) (p n : ℕ) (f : Found) → find-word operators s ≡ f → (i : Item) → Inner i → Inner (symbol-or p n f i)
 unfolding symbol-or

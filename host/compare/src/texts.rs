@@ -149,7 +149,7 @@ pub fn line_number_text(random: &mut Random) -> Vec<u8> {
     text
 }
 
-/// A text that the grammar has a reading for, unless a constant is out of range.
+/// A text that the grammar has a reading for, unless a constant is out of range. The last quote is sometimes left off.
 pub fn lawful_text(random: &mut Random, names: &[Vec<u8>]) -> Vec<u8> {
     let text = line_number_text(random);
     let aim = match random.below(10) {
@@ -166,6 +166,9 @@ pub fn lawful_text(random: &mut Random, names: &[Vec<u8>]) -> Vec<u8> {
         blanks,
     };
     maker.statements();
+    if maker.text.last() == Some(&b'"') && maker.random.chance(40) {
+        maker.text.pop();
+    }
     if maker.random.chance(10) {
         maker.some_blanks();
     }

@@ -10,8 +10,8 @@ pub enum Kind {
     Name { dollar: bool, opened: bool },
     /// A constant; None if its value is out of range.
     Number(Option<Constant>),
-    /// A closed string; the item holds both its quotes.
-    Quoted,
+    /// A string of `length` bytes after its quote; a closing quote, if there is one, belongs to the item.
+    Quoted { length: usize },
     /// A symbol, with its operator token (`=` and `(` always with 22 and 2B).
     Symbol(u8),
     /// The symbol `?`.
@@ -73,11 +73,13 @@ fn read_number(rest: &[u8]) -> (Kind, usize) {
     }
 }
 
-/// Reads a quoted string, which must be closed and hold no 9B.
+/// Reads a quoted string: up to its closing quote, or to the text's end where none closes it. With a 9B in it, it starts no item and ends there.
 fn read_quoted(rest: &[u8]) -> (Kind, usize) {
-    match rest[1..].iter().position(|b| *b == b'"' || *b == TEXT_END) {
-        Some(count) if rest[1 + count] == b'"' => (Kind::Quoted, count + 2),
-        _ => (Kind::Unknown, 1),
+    let inner = &rest[1..];
+    match inner.iter().position(|b| *b == b'"' || *b == TEXT_END) {
+        None => (Kind::Quoted { length: inner.len() }, rest.len()),
+        Some(length) if inner[length] == b'"' => (Kind::Quoted { length }, length + 2),
+        Some(length) => (Kind::Unknown, length + 1),
     }
 }
 

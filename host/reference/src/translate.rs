@@ -679,7 +679,7 @@ impl Reader<'_> {
     /// Says whether an S can begin with the item in view.
     fn starts_string(&self) -> bool {
         match self.item.kind {
-            Kind::Quoted => true,
+            Kind::Quoted { .. } => true,
             Kind::Name { .. } => match self.meaning() {
                 Some(Meaning::Variable(variable)) => variable == Variable::String,
                 Some(Meaning::Function(token)) => {
@@ -693,8 +693,8 @@ impl Reader<'_> {
 
     /// S: a quoted string, a string variable perhaps with subscripts, STR$ or CHR$.
     fn string(&mut self) -> Read {
-        if self.item.kind == Kind::Quoted {
-            let inner = &self.text[self.item.start + 1..self.item.end - 1];
+        if let Kind::Quoted { length } = self.item.kind {
+            let inner = &self.text[self.item.start + 1..][..length];
             self.line.put(operator::STRING);
             self.line.put(inner.len() as u8);
             self.line.put_all(inner);

@@ -71,7 +71,6 @@ fn words() {
 
 #[test]
 fn strings_numbers_and_symbols() {
-    refuses(b"10 PRINT \"A", 4, 9);
     refuses(b"10 PRINT \"A\x9B\"", 4, 9);
     gives("10 PRINT \"\"", "0A 00 08 08 20 0F 00 16");
     refuses(b"10 PRINT \"\"\"\"", 4, 11);
