@@ -1,4 +1,4 @@
-pub mod Powers
+pub mod Quotients
 pub mod Values
 pub mod TenDigits
 pub mod Places

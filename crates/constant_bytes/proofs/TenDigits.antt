@@ -13,9 +13,10 @@ use borrow.Author.Tests.{lt-leb, le-leb, lt-ltb, le-ltb, ne-eqb, eqb-true, eqb-f
 use Rattle.laws.specs.Runs.{All, all-drop}
 use Rattle.paper.specs.Bytes.{pick, run, digit?}
 use Rattle.paper.specs.Constants.{value, in-range, six, five, decimal-byte}
+use Rattle.laws.specs.Constants.{pow-add, ten-pos, six-is, pairs-apart}
 use Rattle.constant_bytes.specs.declared.Six.{Six}
 use Rattle.constant_bytes.specs.Numerals.{digit-at, pair-at, nought?, bytes-with, six-from, zeros-if, six-if, six-of}
-use Rattle.constant_bytes.proofs.Powers.{pow-add, ten-pos, quotient-is, six-is}
+use Rattle.constant_bytes.proofs.Quotients.{quotient-is}
 use Rattle.constant_bytes.proofs.Values.{digit-most, value-below, value-least, value-skip, skipped, cut, cut-is}
 
 -- ---- digits at places
@@ -55,11 +56,6 @@ cut-eight a i ds =
 
 -- ---- ten digits as five bytes
 
--- five pairs below 100 come apart again
-apart : (m1 m2 m3 m4 m5 q : ℕ) → m1 < 100 → m2 < 100 → m3 < 100 → m4 < 100 → m5 < 100 → q ≡ (((m1 * 100 + m2) * 100 + m3) * 100 + m4) * 100 + m5
-    → (q / 100000000 % 100 ≡ m1) × (q / 1000000 % 100 ≡ m2) × (q / 10000 % 100 ≡ m3) × (q / 100 % 100 ≡ m4) × (q % 100 ≡ m5)
-apart m1 m2 m3 m4 m5 q h1 h2 h3 h4 h5 e = (omega arith, omega arith, omega arith, omega arith, omega arith)
-
 tens-most : (ds : List ℕ) (i : ℕ) → All digit? ds → tens ds i < 100
 unfolding tens
 tens-most ds i a = omega (arith, digit-at-most ds i a, digit-at-most ds (i + 1) a)
@@ -76,7 +72,7 @@ one-byte y h = omega arith
 five-is : (m i q : ℕ) (ds : List ℕ) → All digit? ds → m < 100 → q ≡ cut 8 m (drop i ds) → five q ≡ decimal-byte m ∷ pair-at ds i ∷ pair-at ds (i + 2) ∷ pair-at ds (i + 4) ∷ pair-at ds (i + 6) ∷ []
 unfolding five
 five-is m i q ds a h e =
-    let p = apart m (tens ds i) (tens ds (i + 2)) (tens ds (i + 4)) (tens ds (i + 6)) q h (tens-most ds i a) (tens-most ds (i + 2) a) (tens-most ds (i + 4) a) (tens-most ds (i + 6) a) (e ∙ cut-eight m i ds) in
+    let p = pairs-apart m (tens ds i) (tens ds (i + 2)) (tens ds (i + 4)) (tens ds (i + 6)) q h (tens-most ds i a) (tens-most ds (i + 2) a) (tens-most ds (i + 4) a) (tens-most ds (i + 6) a) (e ∙ cut-eight m i ds) in
     rw (p .0, p .1, p .2, p .3, p .4, tens-byte ds i a, tens-byte ds (i + 2) a, tens-byte ds (i + 4) a, tens-byte ds (i + 6) a)
 
 -- ---- the range

@@ -13,7 +13,7 @@ use Rattle.laws.specs.Runs.{All}
 use Rattle.paper.specs.Bytes.{pick, run, digit?}
 use Rattle.paper.specs.Constants.{value}
 use Rattle.constant_bytes.specs.Numerals.{nought?}
-use Rattle.constant_bytes.proofs.Powers.{ten-pos}
+use Rattle.laws.specs.Constants.{ten-pos}
 
 -- a digit is at most 9
 pub digit-most : (x : ℕ) → digit? x ≡ true → x - 48 ≤ 9

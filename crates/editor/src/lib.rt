@@ -7,6 +7,8 @@ use editor_edit::refused;
 use editor_list::Listed;
 use editor_list::list_stored;
 use editor_list::not_listed;
+use enter_item::LINE_ROOM;
+use enter_item::NAMES_ROOM;
 use readings::asked;
 use readings::edit;
 use readings::read;
@@ -39,8 +41,8 @@ pub fn enter_sound(
     requires { ⌜ T (sound-state (state (now names) (now values) (now store) e)) ⌝ }
     ensures { λ r. ⌜ entered r (now (names .exit)) (now (values .exit)) (now (store .exit)) ≡ enter-sound (now (text .entry)) (state (now (names .entry)) (now (values .entry)) (now (store .entry)) e) ⌝ }
 {
-    let mut line = [0u8; 255];
-    let mut fresh = [0u8; 240];
+    let mut line = [0u8; LINE_ROOM];
+    let mut fresh = [0u8; NAMES_ROOM];
     let reading = read(text, names, e, &mut line, &mut fresh);
     let place = store::find_sound(store, e.used, asked(reading));
     edit(reading, place, &line, &fresh, names, values, store, e)
@@ -58,8 +60,8 @@ pub fn enter(
     ensures { λ r. ⌜ entered r (now (names .exit)) (now (values .exit)) (now (store .exit)) ≡ enter-call (now (text .entry)) (state (now (names .entry)) (now (values .entry)) (now (store .entry)) e) ⌝ }
 {
     if names_sound::sound(names, e.name_bytes, e.name_count, values.len()) {
-        let mut line = [0u8; 255];
-        let mut fresh = [0u8; 240];
+        let mut line = [0u8; LINE_ROOM];
+        let mut fresh = [0u8; NAMES_ROOM];
         let reading = read(text, names, e, &mut line, &mut fresh);
         match store::find(store, e.used, asked(reading)) {
             Found::Unsound => refused(1, e),

@@ -3,6 +3,8 @@ use buffers::front;
 use editor_edit::Editor;
 use editor_edit::Entered;
 use editor_edit::refused_at;
+use enter_item::LINE_ROOM;
+use enter_item::NAMES_ROOM;
 use enter_line::Reading;
 use store::Place;
 ghost use mathlib.Core.Path.{_≡_};
@@ -21,8 +23,8 @@ pub(crate) fn read(
     text: &[u8],
     names: &[u8],
     e: Editor,
-    line: &mut [u8],
-    fresh: &mut [u8],
+    line: &mut [u8; LINE_ROOM],
+    fresh: &mut [u8; NAMES_ROOM],
 ) -> Reading
     requires { ⌜ (e .«name_bytes» ≤ length (now names)) × (255 ≤ length (now line)) × (240 ≤ length (now fresh)) ⌝ }
     ensures { λ r. ⌜ Prepared (now (names .entry)) e (now (text .entry)) (now (line .exit)) (now (fresh .exit)) r ⌝ }
@@ -48,8 +50,8 @@ pub(crate) fn asked(reading: Reading) -> usize
 pub(crate) fn edit(
     reading: Reading,
     place: Place,
-    line: &[u8],
-    fresh: &[u8],
+    line: &[u8; LINE_ROOM],
+    fresh: &[u8; NAMES_ROOM],
     names: &mut [u8],
     values: &mut [u8],
     store: &mut [u8],

@@ -23,6 +23,12 @@ ghost use Rattle.enter_item.specs.Sees.{Shows};
 ghost use Rattle.enter_item.specs.Tests.{compares?};
 ghost use Rattle.enter_item.specs.TookLaws.{shifted};
 
+// How much scratch the readers have for a line: as many bytes as a stored line may have.
+pub const LINE_ROOM: usize = 255;
+
+// How much scratch they have for the names new in a line: two bytes for each byte of the longest text.
+pub const NAMES_ROOM: usize = 240;
+
 // Where a reader stands: its place in the part, how many bytes of the line are written, and how many bytes of new names.
 pub struct Spot {
     pub at: usize,

@@ -5,6 +5,8 @@ use buffers::Run;
 use buffers::decimal;
 use buffers::put;
 use buffers::run_end;
+use enter_item::LINE_ROOM;
+use enter_item::NAMES_ROOM;
 use enter_item::Spot;
 use enter_item::Step;
 use enter_scan::item_at;
@@ -65,7 +67,13 @@ fn refused(text: &[u8], number: u8, place: usize) -> Reading
 
 // Reads a text of at most 120 bytes over the first `size` bytes of a name table. An accepted line is written to the front of `line`, and the
 // names that are new in it to the front of `fresh`; what they hold after any other answer is scratch.
-pub fn read(text: &[u8], names: &[u8], size: usize, line: &mut [u8], fresh: &mut [u8]) -> Reading
+pub fn read(
+    text: &[u8],
+    names: &[u8],
+    size: usize,
+    line: &mut [u8; LINE_ROOM],
+    fresh: &mut [u8; NAMES_ROOM],
+) -> Reading
     requires { ⌜ (length (now text) ≤ 120) × (size ≤ length (now names)) × (240 ≤ length (now fresh)) ⌝ }
     ensures { λ r. ⌜ Told (names-in (take size (now (names .entry)))) (now (text .entry)) (now (line .entry)) (now (fresh .entry)) (now (line .exit)) (now (fresh .exit)) r ⌝ }
 {

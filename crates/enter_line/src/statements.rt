@@ -1,4 +1,6 @@
 // Statements, one after another: the first item of each, its rest, and its offset.
+use enter_item::LINE_ROOM;
+use enter_item::NAMES_ROOM;
 use enter_item::Spot;
 use enter_item::Step;
 use enter_item::name_number;
@@ -41,9 +43,9 @@ fn raw(
     part: &[u8],
     offset: usize,
     q: Spot,
-    line: &mut [u8],
+    line: &mut [u8; LINE_ROOM],
     names: &[u8],
-    fresh: &mut [u8],
+    fresh: &mut [u8; NAMES_ROOM],
 ) -> Ended
     requires { ⌜ Asks (env (now part) offset (now names)) q (mem (now line) (now fresh)) ⌝ }
     ensures { λ r. ⌜ Reads (want-raw-text ∷ want-raw-end ∷ []) (raw-at (offset + q .at) (drop (q .at) (now (part .entry)))) (env (now (part .entry)) offset (now (names .entry))) q (mem (now (line .entry)) (now (fresh .entry))) (mem (now (line .exit)) (now (fresh .exit))) r ⌝ }
@@ -72,9 +74,9 @@ fn rest(
     offset: usize,
     found: u8,
     q: Spot,
-    line: &mut [u8],
+    line: &mut [u8; LINE_ROOM],
     names: &[u8],
-    fresh: &mut [u8],
+    fresh: &mut [u8; NAMES_ROOM],
     frames: &mut [u8],
     depth: usize,
 ) -> Ended
@@ -95,9 +97,9 @@ fn begin(
     found: u8,
     own: u8,
     q: Spot,
-    line: &mut [u8],
+    line: &mut [u8; LINE_ROOM],
     names: &[u8],
-    fresh: &mut [u8],
+    fresh: &mut [u8; NAMES_ROOM],
 ) -> Spot
     requires { ⌜ (Asks (env (now text) 0 (now names)) q (mem (now line) (now fresh))) × (Sees (now text) (q .at) true it) × (found ≡ class (token-at (now text) true it)) × (own ≡ own-of (token-at (now text) true it)) × (found < 30 → (8 ≤ found) × (found ≤ 10)) ⌝ }
     ensures { λ r. ⌜ Began (env (now (text .entry)) 0 (now (names .entry))) q (mem (now (line .entry)) (now (fresh .entry))) (token-at (now (text .entry)) true it) (it .end) r (mem (now (line .exit)) (now (fresh .exit))) ⌝ }
@@ -125,7 +127,13 @@ fn begin(
 }
 
 // One statement: its first item, the rest of it, and then its offset from the line's start.
-fn statement(text: &[u8], q: Spot, line: &mut [u8], names: &[u8], fresh: &mut [u8]) -> Ended
+fn statement(
+    text: &[u8],
+    q: Spot,
+    line: &mut [u8; LINE_ROOM],
+    names: &[u8],
+    fresh: &mut [u8; NAMES_ROOM],
+) -> Ended
     requires { ⌜ Asks (env (now text) 0 (now names)) q (mem (now line) (now fresh)) ⌝ }
     ensures { λ r. ⌜ States (env (now (text .entry)) 0 (now (names .entry))) q (mem (now (line .entry)) (now (fresh .entry))) (mem (now (line .exit)) (now (fresh .exit))) r ⌝ }
 {
@@ -180,7 +188,13 @@ fn statement(text: &[u8], q: Spot, line: &mut [u8], names: &[u8], fresh: &mut [u
 }
 
 // All statements from a place on.
-pub fn statements(text: &[u8], q: Spot, line: &mut [u8], names: &[u8], fresh: &mut [u8]) -> Step
+pub fn statements(
+    text: &[u8],
+    q: Spot,
+    line: &mut [u8; LINE_ROOM],
+    names: &[u8],
+    fresh: &mut [u8; NAMES_ROOM],
+) -> Step
     requires { ⌜ Asks (env (now text) 0 (now names)) q (mem (now line) (now fresh)) ⌝ }
     ensures { λ r. ⌜ Tells (env (now (text .entry)) 0 (now (names .entry))) q (mem (now (line .entry)) (now (fresh .entry))) (mem (now (line .exit)) (now (fresh .exit))) r ⌝ }
 {

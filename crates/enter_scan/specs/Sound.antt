@@ -15,6 +15,7 @@ use Rattle.paper.specs.Tokens.{constant, out-of-range, by-kind, operator-class,
 use Rattle.paper.specs.Constants.{value, in-range, six, constant-of}
 use Rattle.paper.specs.Items.{sign-size, power-size, variable-at, string-byte?}
 use Rattle.laws.specs.Tests.{is-true}
+use Rattle.laws.specs.Names.{every-append}
 use Rattle.buffers.specs.Runs.{run-on, run-within}
 use Rattle.tokens.specs.Same.{no-bool}
 use Rattle.tokens.specs.Words.{found-spelling, found-token}
@@ -55,15 +56,6 @@ pub every-run : (q : ℕ → Bool) (s : List ℕ) → every q (take (run q s) s)
 unfolding run every
 every-run q [] = refl
 every-run q (x ∷ s) = every-go q x s (q x) refl (every-run q s)
-
-pub every-append : (q : ℕ → Bool) (xs ys : List ℕ) → every q xs ≡ true → every q ys ≡ true → every q (xs ++ ys) ≡ true
-unfolding every
-every-append q [] ys a b = b
-every-append q (x ∷ xs) ys a b = go (q x) (every q xs) a (λ h. every-append q xs ys h b)
-  where
-    go : (u v : Bool) → (u && v) ≡ true → (v ≡ true → every q (xs ++ ys) ≡ true) → (u && every q (xs ++ ys)) ≡ true
-    go true v e f = f e
-    go false v e f = e
 
 every-more : (q r : ℕ → Bool) → ((x : ℕ) → q x ≡ true → r x ≡ true) → (xs : List ℕ) → every q xs ≡ true → every r xs ≡ true
 unfolding every

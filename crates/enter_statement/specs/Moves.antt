@@ -7,22 +7,22 @@ use mathlib.Core.List.{List, [], _∷_, append-nil}
 use lib.Dec.{T, eqb}
 use borrow.Author.Tests.{ne-eqb}
 use lib.ListN.{getD, set}
-use Rattle.paper.specs.Bytes.{pick, same, among}
+use Rattle.paper.specs.Bytes.{same, among}
 use Rattle.paper.specs.Classes.{line-end, colon, then-word, number}
 use Rattle.paper.specs.Frames.{want-statement, want-after-then, want-end, want-operand}
-use Rattle.paper.specs.Tokens.{Token, out-of-range?, class}
+use Rattle.paper.specs.Tokens.{Token, operator, out-of-range?, class}
 use Rattle.paper.specs.Items.{Item, opens}
 use Rattle.paper.specs.Machine.{take, took, step-act, step}
-use Rattle.paper.specs.Grammar.{Gives, itself, for-strings, as-prefix, put, look, look-in-range}
+use Rattle.paper.specs.Grammar.{Gives, itself, given, look, look-in-range}
 use Rattle.laws.specs.Classes.{class-low}
 use Rattle.laws.specs.Counts.{class-count}
 use Rattle.enter_scan.specs.Sees.{token-at}
 use Rattle.grammar.specs.Stack.{stack, gives-of}
 use Rattle.grammar.specs.declared.Step.the-variants as act
-use Rattle.enter_item.specs.ClassLaws.{own-of, in-range-by-class}
+use Rattle.enter_item.specs.ClassLaws.{own-of, in-range-by-class, operator-by-class, small-operator}
 use Rattle.enter_item.specs.Says.{Env, env, Mem, mem, spot, items-at, item-of, Asks, Next, Took, Says, Counts}
 use Rattle.enter_item.specs.Sees.{Shows}
-use Rattle.enter_item.specs.TookLaws.{sign?, shifted, took-put, took-own, took-prefix, took-compare}
+use Rattle.enter_item.specs.TookLaws.{calm?, calm-end, next-calm, sign?, sign, passed-operator}
 use Rattle.enter_item.specs.declared.Spot.{Spot}
 use Rattle.enter_item.specs.declared.Seen.{Seen}
 use Rattle.enter_item.specs.declared.Step.{Step}
@@ -37,10 +37,6 @@ use Rattle.enter_statement.specs.declared.Moved.{Moved}
 use Rattle.enter_statement.specs.declared.Moved.the-variants as moved
 
 -- ---- an item that is taken, written
-
--- the byte that is given for an operator's own, by the number of what is given
-unfoldable pub given-byte : ℕ → ℕ → ℕ
-given-byte g own = pick (eqb g 0) own (pick (eqb g 1) (shifted 0x12 own) (pick (eqb g 2) (shifted 0x10 own) g))
 
 -- the token of an item that is seen within a statement
 abbrev pub token-of : List ℕ → Seen → Token
@@ -77,17 +73,15 @@ pub given-itself : {E : Env} {q q′ : Spot} {m m′ : Mem} {i : Item} {g : Give
 given-itself {E} {q} {q′} {m} {m′} {i} h x = subst (λ (g : Gives). Took E false q m g i false q′ m′) (sym h) x
 
 -- a symbol or a word, written as what is given for it
-pub took-given : {E : Env} {q q′ : Spot} {m : Mem} {t : Token} {a e : ℕ} {new : List ℕ} {b : ℕ} (g c : ℕ) → sign? c ≡ true → Asks E q m → Next E false (q .at) t a e → class t ≡ c
-    → b ≡ given-byte g (own-of t) → new ≡ set (m .line) (q .written) b → q′ ≡ spot e (q .written + 1) (q .named) → Took E false q m (gives-of g) (item-of E t a e) false q′ (mem new (m .fresh))
-unfolding given-byte gives-of
-took-given {E} {q} {q′} {m} {t} {a} {e} {new} {b} g c k ask s h w n st = go (eqb g 0) (eqb g 1) (eqb g 2) w
-  where
-    go : (x y z : Bool) → b ≡ pick x (own-of t) (pick y (shifted 0x12 (own-of t)) (pick z (shifted 0x10 (own-of t)) g))
-        → Took E false q m (pick x itself (pick y for-strings (pick z as-prefix (put g)))) (item-of E t a e) false q′ (mem new (m .fresh))
-    go true y z u = took-own c k ask s h u n st
-    go false true z u = took-compare c k ask s h u n st
-    go false false true u = took-prefix c k ask s h u n st
-    go false false false u = took-put c g k ask s h (n ∙ ap (set (m .line) (q .written)) u) st
+pub took-given : {E : Env} {q q′ : Spot} {m : Mem} {t : Token} {a e : ℕ} {new : List ℕ} {b : ℕ} (g c own : ℕ) → sign? c ≡ true → Asks E q m → Next E false (q .at) t a e → class t ≡ c → own ≡ own-of t
+    → (own < 128 → operator b ≡ given (gives-of g) (operator own)) → new ≡ set (m .line) (q .written) b → q′ ≡ spot e (q .written + 1) (q .named) → Took E false q m (gives-of g) (item-of E t a e) false q′ (mem new (m .fresh))
+took-given {t = t} {b = b} g c own k ask s h o w n st =
+    let x = sign c k in
+    let cm : calm? (class t) ≡ true = ap calm? h ∙ x .calm in
+    let u : t ≡ operator (own-of t) = operator-by-class t (omega (arith, x .low)) (omega (arith, x .high)) in
+    let low = small-operator (own-of t) (subst (λ (z : Token). 3 ≤ class z) u (omega (arith, x .low))) in
+    let v : given (gives-of g) t ≡ operator b = ap (given (gives-of g)) (u ∙ ap operator (sym o)) ∙ sym (w (omega (arith, low, o))) in
+    passed-operator (gives-of g) ask s (next-calm s cm) (s .moves (calm-end (class t) cm)) v n st
 
 -- ---- what a step says
 

@@ -1,16 +1,17 @@
 // What follows the first item of a statement, up to its end: items are taken by the grammar's table, terms by their own reader.
+use enter_item::LINE_ROOM;
+use enter_item::NAMES_ROOM;
 use enter_item::Seen;
 use enter_item::Spot;
 use enter_item::Step;
 use enter_item::constant;
-use enter_item::prefix_operator;
 use enter_item::quoted;
 use enter_item::see;
-use enter_item::string_operator;
 use enter_item::token;
 use enter_item::variable;
 use enter_term::term;
 use grammar::Step as Act;
+use grammar::given_operator;
 use tokens::class;
 ghost use mathlib.Core.Path.{_≡_};
 ghost use mathlib.Core.Bool.{true, false};
@@ -26,7 +27,7 @@ ghost use Rattle.enter_item.specs.Says.{env, mem, Asks};
 ghost use Rattle.enter_item.specs.Sees.{Shows};
 ghost use Rattle.enter_statement.specs.Ends.{Ends};
 ghost use Rattle.enter_statement.specs.Stacks.{good?, fine?};
-ghost use Rattle.enter_statement.specs.Moves.{given-byte, Passes, Moves};
+ghost use Rattle.enter_statement.specs.Moves.{Passes, Moves};
 
 // What a reader of a statement's rest answers: where the next statement begins, where the line's bytes end, or a refusal's number and place.
 pub enum Ended {
@@ -52,18 +53,6 @@ const WANT_END: u8 = 2;
 // As long as the deepest stack of frames that a text of 120 bytes can need: no item needs more than nine frames for each of its bytes.
 pub const DEEPEST: usize = 1104;
 
-// The byte that is given for an operator's own, by the number of what is given.
-fn given_byte(gives: u8, own: u8) -> u8
-    ensures { λ r. ⌜ r ≡ given-byte gives own ⌝ }
-{
-    match gives {
-        0 => own,
-        1 => string_operator(own),
-        2 => prefix_operator(own),
-        _ => gives,
-    }
-}
-
 // An item that a frame takes, written as is given for it; or refusal 5.
 fn pass(
     part: &[u8],
@@ -71,9 +60,9 @@ fn pass(
     seen: Seen,
     gives: u8,
     q: Spot,
-    line: &mut [u8],
+    line: &mut [u8; LINE_ROOM],
     names: &[u8],
-    fresh: &mut [u8],
+    fresh: &mut [u8; NAMES_ROOM],
 ) -> Step
     requires { ⌜ (Asks (env (now part) offset (now names)) q (mem (now line) (now fresh))) × (Shows (now part) (q .at) false seen) × (T (fine? (seen .class) (gives-of gives))) ⌝ }
     ensures { λ r. ⌜ Passes (now (part .entry)) offset (now (names .entry)) seen (gives-of gives) q (mem (now (line .entry)) (now (fresh .entry))) (mem (now (line .exit)) (now (fresh .exit))) r ⌝ }
@@ -88,7 +77,7 @@ fn pass(
             if found <= class::ARRAY {
                 Step::Done(variable(part, offset, it, q, line, names, fresh))
             } else {
-                Step::Done(token(line, q, end, given_byte(gives, seen.own)))
+                Step::Done(token(line, q, end, given_operator(gives, seen.own)))
             }
         }
     }
@@ -99,9 +88,9 @@ fn after_then(
     part: &[u8],
     offset: usize,
     q: Spot,
-    line: &mut [u8],
+    line: &mut [u8; LINE_ROOM],
     names: &[u8],
-    fresh: &mut [u8],
+    fresh: &mut [u8; NAMES_ROOM],
     frames: &mut [u8],
 ) -> Moved
     requires { ⌜ (Asks (env (now part) offset (now names)) q (mem (now line) (now fresh))) × (1 ≤ length (now frames)) ⌝ }
@@ -130,9 +119,9 @@ fn taken(
     seen: Seen,
     gives: u8,
     q: Spot,
-    line: &mut [u8],
+    line: &mut [u8; LINE_ROOM],
     names: &[u8],
-    fresh: &mut [u8],
+    fresh: &mut [u8; NAMES_ROOM],
     frames: &mut [u8],
     depth: usize,
 ) -> Moved
@@ -186,9 +175,9 @@ fn advance(
     part: &[u8],
     offset: usize,
     q: Spot,
-    line: &mut [u8],
+    line: &mut [u8; LINE_ROOM],
     names: &[u8],
-    fresh: &mut [u8],
+    fresh: &mut [u8; NAMES_ROOM],
     frames: &mut [u8],
     depth: usize,
     nested: bool,
@@ -218,9 +207,9 @@ pub fn follow(
     part: &[u8],
     offset: usize,
     start: Spot,
-    line: &mut [u8],
+    line: &mut [u8; LINE_ROOM],
     names: &[u8],
-    fresh: &mut [u8],
+    fresh: &mut [u8; NAMES_ROOM],
     frames: &mut [u8],
     wanted: usize,
 ) -> Ended

@@ -1,4 +1,6 @@
 // Readers of expressions, terms, strings and subscripts: each reads on in a part of the text, writes tokens to the line and adds names.
+use enter_item::LINE_ROOM;
+use enter_item::NAMES_ROOM;
 use enter_item::Seen;
 use enter_item::Spot;
 use enter_item::Step;
@@ -41,9 +43,9 @@ fn expression(
     part: &[u8],
     offset: usize,
     q: Spot,
-    line: &mut [u8],
+    line: &mut [u8; LINE_ROOM],
     names: &[u8],
-    fresh: &mut [u8],
+    fresh: &mut [u8; NAMES_ROOM],
 ) -> Step
     requires { ⌜ Asks (env (now part) offset (now names)) q (mem (now line) (now fresh)) ⌝ }
     ensures { λ r. ⌜ Says (want-operand ∷ want-more-terms ∷ []) (env (now (part .entry)) offset (now (names .entry))) q (mem (now (line .entry)) (now (fresh .entry))) (mem (now (line .exit)) (now (fresh .exit))) r ⌝ }
@@ -72,9 +74,9 @@ fn enclosed(
     part: &[u8],
     offset: usize,
     q: Spot,
-    line: &mut [u8],
+    line: &mut [u8; LINE_ROOM],
     names: &[u8],
-    fresh: &mut [u8],
+    fresh: &mut [u8; NAMES_ROOM],
 ) -> Step
     requires { ⌜ Asks (env (now part) offset (now names)) q (mem (now line) (now fresh)) ⌝ }
     ensures { λ r. ⌜ Says (want-operand ∷ want-more-terms ∷ want-close ∷ []) (env (now (part .entry)) offset (now (names .entry))) q (mem (now (line .entry)) (now (fresh .entry))) (mem (now (line .exit)) (now (fresh .exit))) r ⌝ }
@@ -97,9 +99,9 @@ fn subscripts(
     part: &[u8],
     offset: usize,
     q: Spot,
-    line: &mut [u8],
+    line: &mut [u8; LINE_ROOM],
     names: &[u8],
-    fresh: &mut [u8],
+    fresh: &mut [u8; NAMES_ROOM],
 ) -> Step
     requires { ⌜ Asks (env (now part) offset (now names)) q (mem (now line) (now fresh)) ⌝ }
     ensures { λ r. ⌜ Says (want-operand ∷ want-more-terms ∷ want-second ∷ []) (env (now (part .entry)) offset (now (names .entry))) q (mem (now (line .entry)) (now (fresh .entry))) (mem (now (line .exit)) (now (fresh .exit))) r ⌝ }
@@ -115,9 +117,9 @@ fn second(
     part: &[u8],
     offset: usize,
     q: Spot,
-    line: &mut [u8],
+    line: &mut [u8; LINE_ROOM],
     names: &[u8],
-    fresh: &mut [u8],
+    fresh: &mut [u8; NAMES_ROOM],
 ) -> Step
     requires { ⌜ Asks (env (now part) offset (now names)) q (mem (now line) (now fresh)) ⌝ }
     ensures { λ r. ⌜ Says (want-second ∷ []) (env (now (part .entry)) offset (now (names .entry))) q (mem (now (line .entry)) (now (fresh .entry))) (mem (now (line .exit)) (now (fresh .exit))) r ⌝ }
@@ -143,9 +145,9 @@ fn argument(
     part: &[u8],
     offset: usize,
     q: Spot,
-    line: &mut [u8],
+    line: &mut [u8; LINE_ROOM],
     names: &[u8],
-    fresh: &mut [u8],
+    fresh: &mut [u8; NAMES_ROOM],
 ) -> Step
     requires { ⌜ Asks (env (now part) offset (now names)) q (mem (now line) (now fresh)) ⌝ }
     ensures { λ r. ⌜ Says (want-function-open ∷ want-operand ∷ want-more-terms ∷ want-close ∷ []) (env (now (part .entry)) offset (now (names .entry))) q (mem (now (line .entry)) (now (fresh .entry))) (mem (now (line .exit)) (now (fresh .exit))) r ⌝ }
@@ -168,9 +170,9 @@ fn string_argument(
     part: &[u8],
     offset: usize,
     q: Spot,
-    line: &mut [u8],
+    line: &mut [u8; LINE_ROOM],
     names: &[u8],
-    fresh: &mut [u8],
+    fresh: &mut [u8; NAMES_ROOM],
 ) -> Step
     requires { ⌜ Asks (env (now part) offset (now names)) q (mem (now line) (now fresh)) ⌝ }
     ensures { λ r. ⌜ Says (want-function-open ∷ want-string ∷ want-close ∷ []) (env (now (part .entry)) offset (now (names .entry))) q (mem (now (line .entry)) (now (fresh .entry))) (mem (now (line .exit)) (now (fresh .exit))) r ⌝ }
@@ -203,9 +205,9 @@ fn element(
     part: &[u8],
     offset: usize,
     q: Spot,
-    line: &mut [u8],
+    line: &mut [u8; LINE_ROOM],
     names: &[u8],
-    fresh: &mut [u8],
+    fresh: &mut [u8; NAMES_ROOM],
 ) -> Step
     requires { ⌜ Asks (env (now part) offset (now names)) q (mem (now line) (now fresh)) ⌝ }
     ensures { λ r. ⌜ Says (want-array-open ∷ want-operand ∷ want-more-terms ∷ want-second ∷ []) (env (now (part .entry)) offset (now (names .entry))) q (mem (now (line .entry)) (now (fresh .entry))) (mem (now (line .exit)) (now (fresh .exit))) r ⌝ }
@@ -228,9 +230,9 @@ fn substring(
     part: &[u8],
     offset: usize,
     q: Spot,
-    line: &mut [u8],
+    line: &mut [u8; LINE_ROOM],
     names: &[u8],
-    fresh: &mut [u8],
+    fresh: &mut [u8; NAMES_ROOM],
 ) -> Step
     requires { ⌜ Asks (env (now part) offset (now names)) q (mem (now line) (now fresh)) ⌝ }
     ensures { λ r. ⌜ Says (want-substring ∷ []) (env (now (part .entry)) offset (now (names .entry))) q (mem (now (line .entry)) (now (fresh .entry))) (mem (now (line .exit)) (now (fresh .exit))) r ⌝ }
@@ -254,9 +256,9 @@ fn comparison(
     part: &[u8],
     offset: usize,
     q: Spot,
-    line: &mut [u8],
+    line: &mut [u8; LINE_ROOM],
     names: &[u8],
-    fresh: &mut [u8],
+    fresh: &mut [u8; NAMES_ROOM],
 ) -> Step
     requires { ⌜ Asks (env (now part) offset (now names)) q (mem (now line) (now fresh)) ⌝ }
     ensures { λ r. ⌜ Says (want-string-comparison ∷ []) (env (now (part .entry)) offset (now (names .entry))) q (mem (now (line .entry)) (now (fresh .entry))) (mem (now (line .exit)) (now (fresh .exit))) r ⌝ }
@@ -279,9 +281,9 @@ fn compared(
     part: &[u8],
     offset: usize,
     q: Spot,
-    line: &mut [u8],
+    line: &mut [u8; LINE_ROOM],
     names: &[u8],
-    fresh: &mut [u8],
+    fresh: &mut [u8; NAMES_ROOM],
 ) -> Step
     requires { ⌜ Asks (env (now part) offset (now names)) q (mem (now line) (now fresh)) ⌝ }
     ensures { λ r. ⌜ Says (want-string ∷ want-string-comparison ∷ []) (env (now (part .entry)) offset (now (names .entry))) q (mem (now (line .entry)) (now (fresh .entry))) (mem (now (line .exit)) (now (fresh .exit))) r ⌝ }
@@ -297,9 +299,9 @@ fn string(
     part: &[u8],
     offset: usize,
     q: Spot,
-    line: &mut [u8],
+    line: &mut [u8; LINE_ROOM],
     names: &[u8],
-    fresh: &mut [u8],
+    fresh: &mut [u8; NAMES_ROOM],
 ) -> Step
     requires { ⌜ Asks (env (now part) offset (now names)) q (mem (now line) (now fresh)) ⌝ }
     ensures { λ r. ⌜ Says (want-string ∷ []) (env (now (part .entry)) offset (now (names .entry))) q (mem (now (line .entry)) (now (fresh .entry))) (mem (now (line .exit)) (now (fresh .exit))) r ⌝ }
@@ -330,9 +332,9 @@ fn operand(
     offset: usize,
     seen: Seen,
     q: Spot,
-    line: &mut [u8],
+    line: &mut [u8; LINE_ROOM],
     names: &[u8],
-    fresh: &mut [u8],
+    fresh: &mut [u8; NAMES_ROOM],
 ) -> Step
     requires { ⌜ (Asks (env (now part) offset (now names)) q (mem (now line) (now fresh))) × (Shows (now part) (q .at) false seen) × (seen .class ≡ plus-minus → ⊥) × (seen .class ≡ not-word → ⊥) ⌝ }
     ensures { λ r. ⌜ Says (want-operand ∷ []) (env (now (part .entry)) offset (now (names .entry))) q (mem (now (line .entry)) (now (fresh .entry))) (mem (now (line .exit)) (now (fresh .exit))) r ⌝ }
@@ -372,9 +374,9 @@ pub fn term(
     part: &[u8],
     offset: usize,
     q: Spot,
-    line: &mut [u8],
+    line: &mut [u8; LINE_ROOM],
     names: &[u8],
-    fresh: &mut [u8],
+    fresh: &mut [u8; NAMES_ROOM],
 ) -> Step
     requires { ⌜ Asks (env (now part) offset (now names)) q (mem (now line) (now fresh)) ⌝ }
     ensures { λ r. ⌜ Says (want-operand ∷ []) (env (now (part .entry)) offset (now (names .entry))) q (mem (now (line .entry)) (now (fresh .entry))) (mem (now (line .exit)) (now (fresh .exit))) r ⌝ }

@@ -1,12 +1,15 @@
 // The grammar as a table, and the stack of frames that reads items by it.
 mod rows;
 
+use tokens::TO_PREFIX;
+use tokens::TO_STRINGS;
 ghost use mathlib.Core.Path.{_≡_};
 ghost use Prim.Native.Nat.{_+_, _≤_, _<_};
 ghost use lib.Dec.{T};
 ghost use lib.ListN.{length};
-ghost use Rattle.grammar.specs.Stack.{stack, Acts, Steps};
-ghost use Rattle.paper.specs.Grammar.{look};
+ghost use Rattle.grammar.specs.Stack.{stack, gives-of, Acts, Steps};
+ghost use Rattle.paper.specs.Tokens.{operator};
+ghost use Rattle.paper.specs.Grammar.{given, look};
 ghost use Rattle.laws.specs.Counts.{class-count};
 ghost use Rattle.grammar.specs.Tables.{fits?, unpacked, says?};
 ghost use Rattle.grammar.specs.Rows.{words};
@@ -102,4 +105,16 @@ pub fn take_item(frames: &mut [u8], depth: usize, class: u8) -> Step
         }
     }
     Step::Refused
+}
+
+// The operator that is given for the operator `own`, by the number of what is given: for those below 128, as all are but the end of raw text.
+pub fn given_operator(gives: u8, own: u8) -> u8
+    ensures { λ r. ⌜ (own < 128 → operator r ≡ given (gives-of gives) (operator own)) ⌝ }
+{
+    match gives {
+        0 => own,
+        1 => std::num::wrapping_add_u8(own, TO_STRINGS),
+        2 => std::num::wrapping_add_u8(own, TO_PREFIX),
+        _ => gives,
+    }
 }

@@ -6,3 +6,6 @@ pub mod Runs
 pub mod Lines
 pub mod Names
 pub mod Ends
+pub mod Constants
+pub mod Given
+pub mod Tables

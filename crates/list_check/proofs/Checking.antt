@@ -4,7 +4,7 @@ use native.Mathlib.Omega.{arith}
 use mathlib.Core.Path.{_≡_, refl, subst, sym, ap, _∙_}
 use mathlib.Core.Bool.{Bool, true, false, not, _&&_}
 use mathlib.Core.List.{List, [], _∷_, _++_}
-use lib.Dec.{T, T-not, eqb, eqb→eq}
+use lib.Dec.{T, T-not}
 use lib.ListN.{length, take, drop, length-take, length-drop}
 use lib.Seq.{drop-drop}
 use Rattle.paper.specs.Bytes.{pick, run, every}
@@ -15,6 +15,7 @@ use Rattle.paper.specs.Constants.{right-constant?}
 use Rattle.paper.specs.Items.{string-byte?}
 use Rattle.paper.specs.Machine.{took, step}
 use Rattle.laws.specs.Tests.{and-left, and-right, and-both, as-T}
+use Rattle.laws.specs.Constants.{six-long}
 use Rattle.paper.specs.Grammar.{Gives, given, look}
 use Rattle.list_pieces.specs.declared.Piece.{Piece}
 use Rattle.list_pieces.specs.declared.Piece.the-variants as Piece′
@@ -22,13 +23,13 @@ use Rattle.list_check.specs.declared.Fit.{Fit}
 use Rattle.list_check.specs.declared.Fit.the-variants.{Fits, Fails}
 use Rattle.grammar.specs.declared.Step.{Step}
 use Rattle.grammar.specs.declared.Step.the-variants as Step′
-use Rattle.list_pieces.specs.Given.{given-operator}
 use Rattle.list_pieces.specs.Pieces.{piece-at, tokens-of-piece, size-of, end-after, Holds}
 use Rattle.list_pieces.specs.Rest.{Takes, Rest, Numbered}
 use Rattle.grammar.specs.Stack.{stack, gives-of, Steps}
 use Rattle.list_check.specs.Passes.{Ended, Onward, Passes}
-use Rattle.list_pieces.specs.GivenLaws.{step-given, Plain, a-statement-plain, a-raw-plain, operator-given, raw-end-given}
-use Rattle.list_pieces.specs.ClassLaws.{raw-end-read, raw-end-class, raw-text-class, raw-text-read}
+use Rattle.list_pieces.specs.GivenLaws.{step-given, Plain, a-statement-plain, a-raw-plain, raw-end-given}
+use Rattle.list_pieces.specs.ClassLaws.{raw-end-read, raw-end-class, raw-text-class, raw-text-read, read-low}
+use Rattle.list_pieces.specs.PieceLaws.{operator-below}
 use Rattle.list_pieces.specs.RestLaws.{taken, takes, untaken, later, all, Here, rest-here, here-rest}
 
 -- a piece is checked at a place of a line, with a stack in a buffer that may be a new one afterwards
@@ -196,23 +197,26 @@ module _ {ns : List (List ℕ)} {l : List ℕ} {at end k : ℕ} {old : List ℕ}
   unfolding class as-read
   read-class = ap operator-class (sym er) ∙ sym ec
 
-  pub pass-operator : (g d : ℕ) → x ≡ Step′.Took g d → (j : ℕ) → j ≡ given-operator (gives-of g) r → j ≡ k → Passes ns l at end (Piece′.Operator k) old depth (Fits d) new
+  read-below : r < 128
+  read-below = subst (λ (z : ℕ). z < 128) (sym er) (read-low k (operator-below at end (drop at l) k (i .stands)))
+
+  pub pass-operator : (g d : ℕ) → x ≡ Step′.Took g d → (j : ℕ) → (r < 128 → operator j ≡ given (gives-of g) (operator r)) → j ≡ k → Passes ns l at end (Piece′.Operator k) old depth (Fits d) new
   unfolding tokens-of-piece size-of as-read
   pass-operator g d q j e f =
       let w = a .takes g d q in
-      let own : given (gives-of g) (operator (read-as k)) ≡ operator k = operator-given (gives-of g) (read-as k) ∙ ap (λ (z : ℕ). operator (given-operator (gives-of g) z)) (sym er) ∙ ap operator (sym e ∙ f) in
+      let own : given (gives-of g) (operator (read-as k)) ≡ operator k = ap (λ (z : ℕ). given (gives-of g) (operator z)) (sym er) ∙ sym (e read-below) ∙ ap operator f in
       let t = takes-on (stack old depth) (stack new d) (gives-of g) (operator k) (ap (step look (stack old depth)) read-class ∙ w .0) own in
       pass i d tt (omega (arith, i .inside)) (omega (arith, w .1)) (λ u. t .down _ u) (λ u. t .up _ u)
 
-  pub fail-given : (g d : ℕ) → x ≡ Step′.Took g d → (j : ℕ) → j ≡ given-operator (gives-of g) r → (j ≡ k → ⊥) → Passes ns l at end (Piece′.Operator k) old depth Fails new
+  pub fail-given : (g d : ℕ) → x ≡ Step′.Took g d → (j : ℕ) → (r < 128 → operator j ≡ given (gives-of g) (operator r)) → (j ≡ k → ⊥) → Passes ns l at end (Piece′.Operator k) old depth Fails new
   unfolding tokens-of-piece as-read
   fail-given g d q j e f =
       let w = a .takes g d q in
       fail i (λ t.
       let o = taken (stack old depth) (stack new d) (gives-of g) (operator k) _ (ap (step look (stack old depth)) read-class ∙ w .0) (t .taken) .0 in
-      let m : operator (given-operator (gives-of g) (read-as k)) ≡ operator k = sym (operator-given (gives-of g) (read-as k)) ∙ o in
-      let z : given-operator (gives-of g) (read-as k) ≡ k = cc in
-      f (e ∙ ap (given-operator (gives-of g)) er ∙ z))
+      let m : operator j ≡ operator k = e read-below ∙ ap (λ (z : ℕ). given (gives-of g) (operator z)) er ∙ o in
+      let z : j ≡ k = cc in
+      f z)
 
   pub fail-operator : x ≡ Step′.Refused → Passes ns l at end (Piece′.Operator k) old depth Fails new
   unfolding tokens-of-piece
@@ -284,7 +288,7 @@ pub right-holds : (ns : List (List ℕ)) (l : List ℕ) (at : ℕ) (b : Bool) �
 right-holds ns l at b r e = subst (λ (z : List ℕ). T (right-constant? z)) (sym (six-there l at)) (right-so b _ r e)
 
 pub right-long : (l : List ℕ) (at : ℕ) (b : Bool) → b ≡ right-constant? (take 6 (drop (at + 1) l)) → not b ≡ false → size-of Piece′.Constant ≤ length l - at
-unfolding size-of right-constant?
+unfolding size-of
 right-long l at b r e =
-    let six : length (take 6 (drop (at + 1) l)) ≡ 6 = eqb→eq (length (take 6 (drop (at + 1) l))) 6 (and-left (eqb (length (take 6 (drop (at + 1) l))) 6) _ (right-so b _ r e)) in
+    let six : length (take 6 (drop (at + 1) l)) ≡ 6 = six-long (take 6 (drop (at + 1) l)) (right-so b _ r e) in
     omega (arith, six, length-take 6 (drop (at + 1) l), length-drop (at + 1) l)

@@ -1,7 +1,7 @@
 // The check of one piece: whether it is right, and fits where it stands.
 use grammar::Step;
-use list_pieces::FIRST_VARIABLE;
 use list_pieces::Piece;
+use list_pieces::VariableToken;
 use tokens::StatementToken;
 use tokens::class;
 ghost use mathlib.Core.Path.{_≡_};
@@ -11,8 +11,6 @@ ghost use lib.ListN.{length, take};
 ghost use Rattle.paper.specs.Names.{names-in};
 ghost use Rattle.laws.specs.Counts.{class-count};
 ghost use Rattle.list_pieces.specs.declared.Piece.the-variants.{Word, Text, Target, Variable, Constant, Quoted, Operator};
-ghost use Rattle.list_pieces.specs.Given.{given-operator};
-ghost use Rattle.grammar.specs.Stack.{gives-of};
 ghost use Rattle.list_check.specs.Passes.{Ended, Checked};
 ghost use Rattle.list_pieces.specs.Rest.{Numbered, Sound};
 
@@ -93,24 +91,16 @@ fn first_class(kind: u8) -> u8
 
 // LET without its word, and the variable that comes first.
 fn check_target(
-    line: &[u8],
-    at: usize,
-    token: u8,
+    variable: VariableToken,
     names: &[u8],
     size: usize,
     frames: &mut [u8],
     depth: usize,
 ) -> Fit
-    requires { ⌜ (at < length (now line)) × (depth + 24 ≤ length (now frames)) × Sound (now names) size ⌝ }
-    ensures { λ r. ⌜ Checked (names-in (take size (now (names .entry)))) (now (line .entry)) at (Target token) (now (frames .entry)) depth r (now (frames .exit)) ⌝ }
+    requires { ⌜ (depth + 24 ≤ length (now frames)) × Sound (now names) size ⌝ }
+    ensures { λ r. ⌜ ((l : List ℕ) (at : ℕ) → at < length l → Checked (names-in (take size (now (names .entry)))) l at (Target variable) (now (frames .entry)) depth r (now (frames .exit))) ⌝ }
 {
-    if line.len() - at < 3 {
-        return Fit::Fails;
-    }
-    if token < FIRST_VARIABLE {
-        return Fit::Fails;
-    }
-    let number = (token - FIRST_VARIABLE) as usize;
+    let number = variable.number as usize;
     let name = names_numbered::name_at(names, size, number);
     if name.end == name.from {
         return Fit::Fails;
@@ -124,12 +114,18 @@ fn check_target(
     }
 }
 
-// The variable with a number.
-fn check_variable(number: u8, names: &[u8], size: usize, frames: &mut [u8], depth: usize) -> Fit
+// A variable.
+fn check_variable(
+    variable: VariableToken,
+    names: &[u8],
+    size: usize,
+    frames: &mut [u8],
+    depth: usize,
+) -> Fit
     requires { ⌜ (depth + 24 ≤ length (now frames)) × Sound (now names) size ⌝ }
-    ensures { λ r. ⌜ ((l : List ℕ) (at : ℕ) → at < length l → Checked (names-in (take size (now (names .entry)))) l at (Variable number) (now (frames .entry)) depth r (now (frames .exit))) ⌝ }
+    ensures { λ r. ⌜ ((l : List ℕ) (at : ℕ) → at < length l → Checked (names-in (take size (now (names .entry)))) l at (Variable variable) (now (frames .entry)) depth r (now (frames .exit))) ⌝ }
 {
-    let name = names_numbered::name_at(names, size, number as usize);
+    let name = names_numbered::name_at(names, size, variable.number as usize);
     if name.end == name.from {
         return Fit::Fails;
     }
@@ -172,24 +168,6 @@ fn check_quoted(line: &[u8], at: usize, size: u8, frames: &mut [u8], depth: usiz
     }
 }
 
-// How far the operators for strings stand behind those that are read.
-const TO_STRINGS: usize = tokens::TO_STRINGS as usize;
-
-// How far the prefix operators stand behind those that are read.
-const TO_PREFIX: usize = tokens::TO_PREFIX as usize;
-
-// The operator that is given for the operator `read`, by the number of what is given.
-fn given_operator(gives: u8, read: u8) -> usize
-    ensures { λ r. ⌜ r ≡ given-operator (gives-of gives) read ⌝ }
-{
-    match gives {
-        0 => read as usize,
-        1 => read as usize + TO_STRINGS,
-        2 => read as usize + TO_PREFIX,
-        _ => gives as usize,
-    }
-}
-
 // An operator or function: the one that the grammar gives for what it is read as.
 fn check_operator(token: u8, frames: &mut [u8], depth: usize) -> Fit
     requires { ⌜ depth + 24 ≤ length (now frames) ⌝ }
@@ -198,7 +176,7 @@ fn check_operator(token: u8, frames: &mut [u8], depth: usize) -> Fit
     let read = tokens::read_as(token);
     match grammar::take_item(frames, depth, tokens::operator_class(read)) {
         Step::Took(gives, d) => {
-            if given_operator(gives, read) == token as usize {
+            if grammar::given_operator(gives, read) == token {
                 Fit::Fits(d)
             } else {
                 Fit::Fails
@@ -224,8 +202,9 @@ pub fn check_piece(
     match piece {
         Piece::Word(token) => check_word(line, at, token, frames, depth),
         Piece::Text(token, n) => check_text(line, at, token, n, frames, depth),
-        Piece::Target(token) => check_target(line, at, token, names, size, frames, depth),
-        Piece::Variable(number) => check_variable(number, names, size, frames, depth),
+        Piece::Target(variable) => check_target(variable, names, size, frames, depth),
+        Piece::NoTarget => Fit::Fails,
+        Piece::Variable(variable) => check_variable(variable, names, size, frames, depth),
         Piece::Constant => check_constant(line, at, frames, depth),
         Piece::Quoted(n) => check_quoted(line, at, n, frames, depth),
         Piece::Operator(token) => check_operator(token, frames, depth),

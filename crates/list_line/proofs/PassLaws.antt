@@ -21,7 +21,6 @@ use Rattle.paper.specs.Calls.{not-listed}
 use Rattle.laws.specs.Tests.{is-true, as-T}
 use Rattle.buffers.specs.Sets.{sets-append}
 use Rattle.list_pieces.specs.declared.Piece.{Piece}
-use Rattle.list_pieces.specs.declared.Piece.the-variants as Piece′
 use Rattle.list_line.specs.declared.Outcome.the-variants as Outcome′
 use Rattle.list_line.specs.declared.first.Measure.{Measure}
 use Rattle.list_line.specs.declared.first.Measure.the-variants as Measure′
@@ -93,6 +92,16 @@ head-listing : (ns : List (List ℕ)) (l : List ℕ) → (decimal 5 (line-number
 unfolding listing listing-text line-tokens
 head-listing ns l = append-assoc (decimal 5 (line-number l)) (blank ∷ []) (body-text (tokens-at ns l 3 3))
 
+-- ---- a line that is not well-formed
+
+not-formed : (b : Bool) → (T b → ⊥) → b ≡ false
+not-formed true n = absurd (n tt)
+not-formed false n = refl
+
+not-measured : (ns : List (List ℕ)) (l : List ℕ) (room : ℕ) → (T (well-formed? ns l) → ⊥) → Measure′.NotWellFormed ≡ measured ns l room
+unfolding measured found
+not-measured ns l room n = sym (ap (λ (b : Bool). found b (capped room (length (listing ns l)))) (not-formed (well-formed? ns l) n))
+
 -- ---- the first pass
 
 -- before the piece at a place: the line is well-formed exactly if the rest is; so much was counted, and so much is left
@@ -142,14 +151,9 @@ module _ {ns : List (List ℕ)} {l : List ℕ} {room : ℕ} {frames : List ℕ} 
       } in
       subst (λ (z : ℕ). Measuring ns l room new (at + z) stop d more) (sym g) (subst (λ (z : ℕ). Measuring ns l room new (at + size-of c) z d more) (sym f) next)
 
-  not-so : (b : Bool) → (T b → ⊥) → b ≡ false
-  not-so true n = absurd (n tt)
-  not-so false n = refl
-
   -- the rest is not that of a well-formed line
   pub measuring-fails : (Rest ns (stack frames depth) at end (drop at l) → ⊥) → Measure′.NotWellFormed ≡ measured ns l room
-  unfolding measured found
-  measuring-fails n = sym (ap (λ (b : Bool). found b (capped room (length (listing ns l)))) (not-so (well-formed? ns l) (λ t. n (m .down t))))
+  measuring-fails n = not-measured ns l room (λ t. n (m .down t))
 
   ended : length l ≤ at → drop at l ≡ []
   ended h = drop-of-length-le l h
@@ -186,13 +190,8 @@ module _ {ns : List (List ℕ)} {l : List ℕ} {room : ℕ} {frames : List ℕ} 
 
 -- ---- a line whose head is not right
 
-not-formed : (b : Bool) → (T b → ⊥) → b ≡ false
-not-formed true n = absurd (n tt)
-not-formed false n = refl
-
-not-measured : (ns : List (List ℕ)) (l : List ℕ) (room : ℕ) → (Whole ns l → ⊥) → Measure′.NotWellFormed ≡ measured ns l room
-unfolding measured found
-not-measured ns l room n = sym (ap (λ (b : Bool). found b (capped room (length (listing ns l)))) (not-formed (well-formed? ns l) (λ t. n (passes-whole ns l t))))
+not-whole : (ns : List (List ℕ)) (l : List ℕ) (room : ℕ) → (Whole ns l → ⊥) → Measure′.NotWellFormed ≡ measured ns l room
+not-whole ns l room n = not-measured ns l room (λ t. n (passes-whole ns l t))
 
 empty-fails : (ns : List (List ℕ)) → Rest ns start 3 3 [] → ⊥
 unfolding tokens-from Takes start
@@ -205,17 +204,17 @@ short-go ns (a ∷ b ∷ []) h w = omega (arith, w .sized)
 short-go ns (a ∷ b ∷ c ∷ s) h w = omega arith
 
 pub short-line : (ns : List (List ℕ)) (l : List ℕ) (room : ℕ) → length l < 3 → Measure′.NotWellFormed ≡ measured ns l room
-short-line ns l room h = not-measured ns l room (short-go ns l h)
+short-line ns l room h = not-whole ns l room (short-go ns l h)
 
 pub wrong-length : (ns : List (List ℕ)) (l : List ℕ) (room : ℕ) → (getD l 2 0 ≡ length l → ⊥) → Measure′.NotWellFormed ≡ measured ns l room
-wrong-length ns l room n = not-measured ns l room (λ w. n (w .sized))
+wrong-length ns l room n = not-whole ns l room (λ w. n (w .sized))
 
 high-go : (l : List ℕ) → 127 < getD l 1 0 → T (lawful-number? (line-number l)) → ⊥
 unfolding lawful-number? line-number
 high-go l h t = omega (arith, leb→le (getD l 0 0 + 256 * getD l 1 0) 32767 t)
 
 pub high-number : (ns : List (List ℕ)) (l : List ℕ) (room : ℕ) → 127 < getD l 1 0 → Measure′.NotWellFormed ≡ measured ns l room
-high-number ns l room h = not-measured ns l room (λ w. high-go l h (w .lawful))
+high-number ns l room h = not-whole ns l room (λ w. high-go l h (w .lawful))
 
 pub right-head : (l : List ℕ) → 3 ≤ length l → getD l 2 0 ≡ length l → getD l 1 0 ≤ 127 → getD l 0 0 < 256 → Head l
 unfolding lawful-number? line-number
@@ -297,17 +296,6 @@ module _ {ns : List (List ℕ)} {l old : List ℕ} {n₀ at end n : ℕ} {out : 
 pub body-fits : (ns : List (List ℕ)) (l : List ℕ) {first old : List ℕ} {n : ℕ} → Writes (decimal 5 (line-number l) ++ blank ∷ []) 0 first n old → length old ≡ length first → length (listing ns l) ≤ length first
     → n + length (body-text (tokens-at ns l 3 3)) ≤ length old
 body-fits ns l w e h = omega (arith, w .size, ap length (head-listing ns l), length-append (decimal 5 (line-number l) ++ blank ∷ []) (body-text (tokens-at ns l 3 3)))
-
--- every piece has a byte
-pub size-some : (c : Piece) → 1 ≤ size-of c
-unfolding size-of
-size-some (Piece′.Word t) = omega arith
-size-some (Piece′.Text t n) = omega arith
-size-some (Piece′.Target v) = omega arith
-size-some (Piece′.Variable v) = omega arith
-size-some Piece′.Constant = omega arith
-size-some (Piece′.Quoted n) = omega arith
-size-some (Piece′.Operator t) = omega arith
 
 -- ---- the answer
 

@@ -3,11 +3,14 @@ use Prim.Native.Nat.{ℕ, _+_, _<_}
 use mathlib.Core.Path.{_≡_, refl}
 use mathlib.Core.Bool.{Bool, true, false}
 use mathlib.Core.List.{List, [], _∷_}
-use lib.Dec.{eqb, ltb, ltb→lt}
-use Rattle.paper.specs.Bytes.{pick}
+use lib.Dec.{T, eqb, ltb, ltb→lt}
+use Rattle.paper.specs.Bytes.{pick, every}
 use Rattle.paper.specs.Classes.{raw-end, raw-text, numeric-variable, string-variable, array, first-numeric, first-string, first-array}
-use Rattle.paper.specs.Tokens.{operator, variable, assigned, raw, class, by-kind, operator-class, as-read, read-as}
+use Rattle.paper.specs.Words.{Found, found, nowhere, find-word, word-of, operators}
+use Rattle.paper.specs.Tokens.{operator, variable, assigned, raw, class, by-kind, operator-class, as-read, read-as, found-or}
+use Rattle.paper.specs.Open.{all-Bytes, all-Words}
 use Rattle.laws.specs.Classes.{at-kind}
+use Rattle.tokens.specs.Words.{found-token}
 
 pub variable-low : (n : List ℕ) → class (variable n) < 40
 unfolding class
@@ -44,3 +47,23 @@ raw-text-class b = refl
 pub raw-text-read : (b : List ℕ) → as-read (raw b) ≡ raw b
 unfolding as-read
 raw-text-read b = refl
+
+-- ---- an operator below 128 is read as one below 128
+
+operators-low : T (every (λ w. ltb (w .token) 128) operators)
+unfolding all-Bytes all-Words
+operators-low = tt
+
+found-low : (s : List ℕ) (f : Found) → find-word operators s ≡ f → (k : ℕ) → k < 128 → found-or f k < 128
+unfolding found-or
+found-low s (found t) e k h = ltb→lt t 128 (found-token operators s (λ n. ltb n 128) operators-low t e)
+found-low s nowhere e k h = h
+
+read-go : (x y : Bool) (k f : ℕ) → k < 128 → f < 128 → pick x k (pick y k f) < 128
+read-go true y k f h l = h
+read-go false true k f h l = h
+read-go false false k f h l = l
+
+pub read-low : (k : ℕ) → k < 128 → read-as k < 128
+unfolding read-as
+read-low k h = read-go (eqb k 0x16) (eqb k 0x9b) k _ h (found-low ((word-of operators k) .spelling) (find-word operators ((word-of operators k) .spelling)) refl k h)

@@ -7,13 +7,13 @@ use mathlib.Core.Bool.{Bool, true, false}
 use mathlib.Core.List.{List, [], _∷_, _++_}
 use lib.Dec.{eqb, leb}
 use lib.ListN.{take, drop, getD}
-use lib.Seq.{getD-drop}
 use Rattle.paper.specs.Bytes.{pick, run}
 use Rattle.paper.specs.Tokens.{Token, statement, assigned, operator, variable, constant, string, raw}
 use Rattle.paper.specs.Items.{raw-byte?}
 use Rattle.paper.specs.Line.{variable-name, raw-statement?, tokens-from}
 use Rattle.list_pieces.specs.declared.Piece.{Piece}
-use Rattle.list_pieces.specs.declared.Piece.the-variants.{Word, Text, Target, Variable, Constant, Quoted, Operator}
+use Rattle.list_pieces.specs.declared.Piece.the-variants.{Word, Text, Target, NoTarget, Variable, Constant, Quoted, Operator}
+use Rattle.list_pieces.specs.Variables.{token-by, variable-at}
 use Rattle.list_pieces.specs.Pieces.{piece-at, tokens-of-piece, size-of, end-after}
 
 module _ (ns : List (List ℕ)) where
@@ -28,25 +28,28 @@ module _ (ns : List (List ℕ)) where
   abbrev after : ℕ → ℕ → List ℕ → Piece → List Token
   after p end s c = tokens-from ns 0 (p + size-of c) (end-after end s c) (drop (size-of c) s)
 
-  begun-go : (x y : Bool) (p end b : ℕ) (s : List ℕ)
+  begun-go : (x y z : Bool) (p end b : ℕ) (s : List ℕ)
       → pick x (assigned (variable-name ns (drop 1 s)) ∷ tokens-from ns 2 (suc p) b s)
       (pick y (statement (getD s 0 0) ∷ raw (take (run raw-byte? (drop 1 s)) (drop 1 s)) ∷ operator 0x9b ∷ tokens-from ns (2 + run raw-byte? (drop 1 s)) (suc p) b s)
       (statement (getD s 0 0) ∷ tokens-from ns 1 (suc p) b s))
-      ≡ (let c = pick x (Target (getD s 1 0)) (pick y (Text (getD s 0 0) (run raw-byte? (drop 1 s))) (Word (getD s 0 0))) in
+      ≡ (let v = token-by z (getD (drop 1 s) 0 0) in
+      let c = pick x (pick (eqb (v .size) 0) NoTarget (Target v)) (pick y (Text (getD s 0 0) (run raw-byte? (drop 1 s))) (Word (getD s 0 0))) in
       tokens-of-piece ns (b ∷ s) c ++ after p end (b ∷ s) c)
   unfolding tokens-of-piece size-of end-after variable-name
-  begun-go true y p end b s =
-      let e : getD (drop 1 s) 0 0 ≡ getD s 1 0 = getD-drop 1 s 0 0 in
+  begun-go true y true p end b s =
       let q : suc p + 2 ≡ p + 3 = omega arith in
-      rw e (ap (λ (l : List Token). assigned (getD ns (getD s 1 0 - 0x80) []) ∷ l) (skip 2 (suc p) b s ∙ ap (λ (z : ℕ). tokens-from ns 0 z b (drop 2 s)) q))
-  begun-go false true p end b s =
+      ap (λ (l : List Token). assigned (variable-name ns (drop 1 s)) ∷ l) (skip 2 (suc p) b s ∙ ap (λ (k : ℕ). tokens-from ns 0 k b (drop 2 s)) q)
+  begun-go true y false p end b s =
+      let q : suc p + 2 ≡ p + 3 = omega arith in
+      ap (λ (l : List Token). assigned (variable-name ns (drop 1 s)) ∷ l) (skip 2 (suc p) b s ∙ ap (λ (k : ℕ). tokens-from ns 0 k b (drop 2 s)) q)
+  begun-go false true z p end b s =
       let n : ℕ = run raw-byte? (drop 1 s) in
       let q : suc p + (2 + n) ≡ p + (3 + n) = omega arith in
       let m : suc (2 + n) ≡ 3 + n = omega arith in
       let r : drop (2 + n) s ≡ drop (3 + n) (b ∷ s) = ap (λ (k : ℕ). drop k (b ∷ s)) m in
       ap (λ (l : List Token). statement (getD s 0 0) ∷ raw (take n (drop 1 s)) ∷ operator 0x9b ∷ l)
       (skip (2 + n) (suc p) b s ∙ ap (λ (z : ℕ). tokens-from ns 0 z b (drop (2 + n) s)) q ∙ ap (tokens-from ns 0 (p + (3 + n)) b) r)
-  begun-go false false p end b s =
+  begun-go false false z p end b s =
       let q : suc p + 1 ≡ p + 2 = omega arith in
       ap (λ (l : List Token). statement (getD s 0 0) ∷ l) (skip 1 (suc p) b s ∙ ap (λ (z : ℕ). tokens-from ns 0 z b (drop 1 s)) q)
 
@@ -55,7 +58,8 @@ module _ (ns : List (List ℕ)) where
       (pick y (constant (take 6 s) ∷ tokens-from ns 6 (suc p) end s)
       (pick z (string (take (getD s 0 0) (drop 1 s)) ∷ tokens-from ns (suc (getD s 0 0)) (suc p) end s)
       (operator b ∷ tokens-from ns 0 (suc p) end s)))
-      ≡ (let c = pick x (Variable (b - 0x80)) (pick y Constant (pick z (Quoted (getD s 0 0)) (Operator b))) in
+      ≡ (let v = token-by x b in
+      let c = pick (eqb (v .size) 0) (pick y Constant (pick z (Quoted (getD s 0 0)) (Operator b))) (Variable v) in
       tokens-of-piece ns (b ∷ s) c ++ after p end (b ∷ s) c)
   unfolding tokens-of-piece size-of end-after variable-name
   within-go true y z p end b s =
@@ -79,8 +83,8 @@ module _ (ns : List (List ℕ)) where
   -- bytes that are there begin with their piece
   pub pieces : (p end b : ℕ) (s : List ℕ)
       → tokens-from ns 0 p end (b ∷ s) ≡ (let c = piece-at p end (b ∷ s) in tokens-of-piece ns (b ∷ s) c ++ tokens-from ns 0 (p + size-of c) (end-after end (b ∷ s) c) (drop (size-of c) (b ∷ s)))
-  unfolding tokens-from piece-at
+  unfolding tokens-from piece-at variable-at
   pieces p end b s =
       either (eqb p end) _ _ _ _ (λ c. tokens-of-piece ns (b ∷ s) c ++ after p end (b ∷ s) c)
-      (begun-go (eqb (getD s 0 0) 0x36) (raw-statement? (getD s 0 0)) p end b s)
+      (begun-go (eqb (getD s 0 0) 0x36) (raw-statement? (getD s 0 0)) (leb 0x80 (getD (drop 1 s) 0 0)) p end b s)
       (within-go (leb 0x80 b) (eqb b 0x0e) (eqb b 0x0f) p end b s)

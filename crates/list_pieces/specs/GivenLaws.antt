@@ -13,7 +13,6 @@ use Rattle.paper.specs.Grammar.{Gives, itself, for-strings, as-prefix, put, mov
 use Rattle.paper.specs.Open.{all-Bytes, all-Words, all-Machine, all-Grammar}
 use Rattle.laws.specs.Tests.{and-left, and-right, as-T}
 use Rattle.laws.specs.Classes.{word-passes, at-kind}
-use Rattle.list_pieces.specs.Given.{given-operator}
 
 -- ---- rows that put another operator are for three classes of symbols
 
@@ -133,15 +132,6 @@ a-string-plain b = record { moves-not = plain-go (string b) tt refl refl }
 pub a-raw-plain : (b : List ℕ) → Plain (raw b)
 unfolding given moved class replaced? among
 a-raw-plain b = record { moves-not = plain-go (raw b) tt refl refl }
-
--- ---- operators
-
-pub operator-given : (e : Gives) (j : ℕ) → given e (operator j) ≡ operator (given-operator e j)
-unfolding given moved given-operator
-operator-given itself j = refl
-operator-given for-strings j = refl
-operator-given as-prefix j = refl
-operator-given (put k) j = refl
 
 -- the end of raw text gives itself
 pub raw-end-given : (e : Gives) → T (gives-for? e raw-end) → given e (operator 0x9b) ≡ operator 0x9b

@@ -1,7 +1,8 @@
+pub mod Variables
 pub mod Pieces
 pub mod Rest
-pub mod Given
 pub mod Written
+pub mod VariableLaws
 pub mod Decoded
 pub mod GivenLaws
 pub mod PieceLaws

@@ -4,21 +4,24 @@ use native.Mathlib.Omega.{arith}
 use mathlib.Core.Path.{_≡_, refl, subst, sym, ap, ap₂, _∙_}
 use mathlib.Core.Bool.{Bool, true, false, not}
 use mathlib.Core.List.{List, [], _∷_, _++_}
-use lib.Dec.{T, eqb, leb, eqb→eq, ltb→lt, lt→ltb}
+use lib.Dec.{T, eqb, ltb→lt, lt→ltb}
 use lib.ListN.{length, take, drop, getD, length-append, length-drop, take-append-drop}
 use lib.Seq.{drop-drop, length-take-le, getD-drop, drop-cons}
-use borrow.Author.Tests.{eqb-true, leb-true}
+use borrow.Author.Tests.{eqb-true, eqb-false}
 use Rattle.paper.specs.Bytes.{pick, run, every}
 use Rattle.paper.specs.Tokens.{Token, statement, assigned, operator, variable, constant, string, raw}
-use Rattle.paper.specs.Constants.{right-constant?}
 use Rattle.paper.specs.Names.{number-of, known?}
 use Rattle.paper.specs.Items.{raw-byte?}
 use Rattle.paper.specs.Line.{own-bytes, begins?, variable-bytes, raw-statement?}
 use Rattle.paper.specs.WellFormed.{right-token?}
 use Rattle.laws.specs.Tests.{and-left, and-right, and-both, as-T}
+use Rattle.laws.specs.Constants.{six-long}
 use Rattle.buffers.specs.Runs.{run-within}
 use Rattle.list_pieces.specs.declared.Piece.{Piece}
-use Rattle.list_pieces.specs.declared.Piece.the-variants.{Word, Text, Target, Variable, Constant, Quoted, Operator}
+use Rattle.list_pieces.specs.declared.VariableToken.{VariableToken}
+use Rattle.list_pieces.specs.declared.Piece.the-variants.{Word, Text, Target, NoTarget, Variable, Constant, Quoted, Operator}
+use Rattle.list_pieces.specs.Variables.{variable-at}
+use Rattle.list_pieces.specs.VariableLaws.{bytes-some, none-low, written-read, read-there, read-written}
 use Rattle.list_pieces.specs.Pieces.{piece-at, size-of, end-after, Holds}
 use Rattle.list_pieces.specs.Rest.{Numbered, Written}
 use Rattle.list_pieces.specs.Written.{head-is, within, within-up, begun, begun-up}
@@ -29,23 +32,29 @@ use Rattle.list_pieces.specs.Written.{head-is, within, within-up, begun,
 abbrev pub Is : ℕ → ℕ → List ℕ → Piece → Type 0
 Is p end s (Word t) = (p ≡ end) × (t ≡ getD s 1 0)
 Is p end s (Text t n) = (p ≡ end) × (t ≡ getD s 1 0) × (n ≡ run raw-byte? (drop 2 s))
-Is p end s (Target v) = (p ≡ end) × (getD s 1 0 ≡ 0x36) × (v ≡ getD s 2 0)
-Is p end s (Variable v) = (v ≡ getD s 0 0 - 0x80) × (0x80 ≤ getD s 0 0)
+Is p end s (Target v) = (p ≡ end) × (getD s 1 0 ≡ 0x36) × (v ≡ variable-at (drop 2 s)) × (v .size ≡ 0 → ⊥)
+Is p end s NoTarget = variable-at (drop 2 s) .size ≡ 0
+Is p end s (Variable v) = (v ≡ variable-at s) × (v .size ≡ 0 → ⊥)
 Is p end s Constant = getD s 0 0 ≡ 0x0e
 Is p end s (Quoted n) = (getD s 0 0 ≡ 0x0f) × (n ≡ getD s 1 0)
-Is p end s (Operator t) = t ≡ getD s 0 0
+Is p end s (Operator t) = (t ≡ getD s 0 0) × (variable-at s .size ≡ 0)
 
-begun-is : (p end : ℕ) (s : List ℕ) (x y : Bool) → p ≡ end → eqb (getD s 1 0) 0x36 ≡ x → Is p end s (pick x (Target (getD s 2 0)) (pick y (Text (getD s 1 0) (run raw-byte? (drop 2 s))) (Word (getD s 1 0))))
-begun-is p end s true y e h = (e, eqb-true (getD s 1 0) 0x36 h, refl)
+target-is : (p end : ℕ) (s : List ℕ) (x : Bool) → let v = variable-at (drop 2 s) in p ≡ end → getD s 1 0 ≡ 0x36 → eqb (v .size) 0 ≡ x → Is p end s (pick x NoTarget (Target v))
+target-is p end s true e h k = eqb-true (variable-at (drop 2 s) .size) 0 k
+target-is p end s false e h k = (e, h, refl, eqb-false (variable-at (drop 2 s) .size) 0 k)
+
+begun-is : (p end : ℕ) (s : List ℕ) (x y : Bool) → let v = variable-at (drop 2 s) in p ≡ end → eqb (getD s 1 0) 0x36 ≡ x
+    → Is p end s (pick x (pick (eqb (v .size) 0) NoTarget (Target v)) (pick y (Text (getD s 1 0) (run raw-byte? (drop 2 s))) (Word (getD s 1 0))))
+begun-is p end s true y e h = target-is p end s (eqb (variable-at (drop 2 s) .size) 0) e (eqb-true (getD s 1 0) 0x36 h) refl
 begun-is p end s false true e h = (e, refl, refl)
 begun-is p end s false false e h = (e, refl)
 
-within-is : (p end : ℕ) (s : List ℕ) (x y z : Bool) → leb 0x80 (getD s 0 0) ≡ x → eqb (getD s 0 0) 0x0e ≡ y → eqb (getD s 0 0) 0x0f ≡ z
-    → Is p end s (pick x (Variable (getD s 0 0 - 0x80)) (pick y Constant (pick z (Quoted (getD s 1 0)) (Operator (getD s 0 0)))))
-within-is p end s true y z h k l = (refl, leb-true 0x80 (getD s 0 0) h)
-within-is p end s false true z h k l = eqb-true (getD s 0 0) 0x0e k
-within-is p end s false false true h k l = (eqb-true (getD s 0 0) 0x0f l, refl)
-within-is p end s false false false h k l = refl
+within-is : (p end : ℕ) (s : List ℕ) (x y z : Bool) → let v = variable-at s in eqb (v .size) 0 ≡ x → eqb (getD s 0 0) 0x0e ≡ y → eqb (getD s 0 0) 0x0f ≡ z
+    → Is p end s (pick x (pick y Constant (pick z (Quoted (getD s 1 0)) (Operator (getD s 0 0)))) (Variable v))
+within-is p end s false y z h k l = (refl, eqb-false (variable-at s .size) 0 h)
+within-is p end s true true z h k l = eqb-true (getD s 0 0) 0x0e k
+within-is p end s true false true h k l = (eqb-true (getD s 0 0) 0x0f l, refl)
+within-is p end s true false false h k l = (refl, eqb-true (variable-at s .size) 0 h)
 
 is-go : (p end : ℕ) (s : List ℕ) (x : Bool) (c d : Piece) → (x ≡ true → Is p end s c) → Is p end s d → Is p end s (pick x c d)
 is-go p end s true c d f g = f refl
@@ -55,7 +64,41 @@ pub piece-is : (p end : ℕ) (s : List ℕ) → Is p end s (piece-at p end s)
 unfolding piece-at
 piece-is p end s =
     is-go p end s (eqb p end) _ _ (λ e. begun-is p end s (eqb (getD s 1 0) 0x36) (raw-statement? (getD s 1 0)) (eqb-true p end e) refl)
-    (within-is p end s (leb 0x80 (getD s 0 0)) (eqb (getD s 0 0) 0x0e) (eqb (getD s 0 0) 0x0f) refl refl refl)
+    (within-is p end s (eqb (variable-at s .size) 0) (eqb (getD s 0 0) 0x0e) (eqb (getD s 0 0) 0x0f) refl refl refl)
+
+-- every piece has a byte
+is-some : (p end : ℕ) (s : List ℕ) (c : Piece) → Is p end s c → 1 ≤ size-of c
+unfolding size-of
+is-some p end s (Word t) i = omega arith
+is-some p end s (Text t n) i = omega arith
+is-some p end s (Target v) i = omega arith
+is-some p end s NoTarget i = omega arith
+is-some p end s (Variable v) i = let n : v .size ≡ 0 → ⊥ = i .1 in omega (arith, n)
+is-some p end s Constant i = omega arith
+is-some p end s (Quoted n) i = omega arith
+is-some p end s (Operator t) i = omega arith
+
+pub piece-some : (p end : ℕ) (s : List ℕ) (c : Piece) → piece-at p end s ≡ c → 1 ≤ size-of c
+piece-some p end s c e = is-some p end s c (subst (Is p end s) e (piece-is p end s))
+
+-- a variable's token that is told stands there
+pub variable-long : (p end : ℕ) (s : List ℕ) (v : VariableToken) → piece-at p end s ≡ Variable v → size-of (Variable v) ≤ length s
+unfolding size-of
+variable-long p end s v e =
+    let i = subst (Is p end s) e (piece-is p end s) in
+    let m = ap (λ (z : VariableToken). z .size) (i .0) in
+    omega (arith, m, read-there s (λ z. i .1 (m ∙ z)))
+
+pub target-long : (p end : ℕ) (s : List ℕ) (v : VariableToken) → piece-at p end s ≡ Target v → size-of (Target v) ≤ length s
+unfolding size-of
+target-long p end s v e =
+    let i = subst (Is p end s) e (piece-is p end s) in
+    let m = ap (λ (z : VariableToken). z .size) (i .2) in
+    omega (arith, m, i .3, read-there (drop 2 s) (λ z. i .3 (m ∙ z)), length-drop 2 s)
+
+-- an operator is below 128
+pub operator-below : (p end : ℕ) (s : List ℕ) (t : ℕ) → piece-at p end s ≡ Operator t → t < 128
+operator-below p end s t e = let i = subst (Is p end s) e (piece-is p end s) in subst (λ (z : ℕ). z < 128) (sym (i .0)) (none-low s (i .1))
 
 -- ---- runs
 
@@ -112,34 +155,50 @@ module _ (ns : List (List ℕ)) (p end b : ℕ) (s : List ℕ) (gs : List Token)
       let l : 1 ≤ length s = front-long (t ∷ []) s (drop 1 s) (r .front) in
       (omega arith, omega arith, at-place (omega arith) (r .others))
 
-  variable-there : (v : ℕ) (n : List ℕ) → 0x80 + number-of ns n ≡ v → T (known? ns n) → v - 0x80 < length ns
-  unfolding known?
-  variable-there v n e k = let h : number-of ns n < length ns = ltb→lt (number-of ns n) (length ns) k in omega arith
+  -- the bytes after an offset
+  after-offset : (k n : ℕ) → suc k ≡ n → drop k s ≡ drop n (b ∷ s)
+  after-offset k n e = ap (λ (z : ℕ). drop z (b ∷ s)) e
 
-  pub less-target : (v : ℕ) → Is p end (b ∷ s) (Target v) → Written ns p end (b ∷ s) (assigned (getD ns (v - 0x80) []) ∷ gs) → Left (Target v)
-  unfolding own-bytes variable-bytes begins? size-of end-after right-token?
+  number-there : (n : List ℕ) → T (known? ns n) → number-of ns n < length ns
+  unfolding known?
+  number-there n k = ltb→lt (number-of ns n) (length ns) k
+
+  pub less-target : (v : VariableToken) → Is p end (b ∷ s) (Target v) → Written ns p end (b ∷ s) (assigned (getD ns (v .number) []) ∷ gs) → Left (Target v)
+  unfolding own-bytes begins? size-of end-after right-token?
   less-target v i w =
-      let n : List ℕ = getD ns (v - 0x80) [] in
+      let n : List ℕ = getD ns (v .number) [] in
       let r = begun ns (assigned n) gs p end b s refl w in
-      let l : 2 ≤ length s = front-long (0x36 ∷ (0x80 + number-of ns n) ∷ []) s (drop 2 s) (r .front) in
-      let x : 0x80 + number-of ns n ≡ getD s 1 0 = ap (λ (z : List ℕ). getD z 1 0) (r .front) in
-      let y : v ≡ getD s 1 0 = i .2 in (
-        (omega arith, omega arith, variable-there v n (x ∙ sym y) (and-left (known? ns n) _ (r .is-right)), and-right (known? ns n) _ (r .is-right)),
+      let o : List ℕ = variable-bytes ns n in
+      let l : suc (length o) ≤ length s = front-long (0x36 ∷ o) s (drop (suc (length o)) s) (r .front) in
+      let e : v ≡ record { number = number-of ns n; size = length o } = i .2 ∙ written-read ns n (drop (suc (length o)) s) (drop 1 s) (ap (drop 1) (r .front)) in
+      let k : v .number ≡ number-of ns n = ap (λ (z : VariableToken). z .number) e in
+      let m : v .size ≡ length o = ap (λ (z : VariableToken). z .size) e in (
+        (subst (λ (z : ℕ). z < length ns) (sym k) (number-there n (and-left (known? ns n) _ (r .is-right))), and-right (known? ns n) _ (r .is-right)),
         omega arith,
-        at-place (omega arith) (r .others),
+        at-place (omega arith) (at-bytes (after-offset (suc (length o)) (2 + v .size) (omega arith)) (r .others)),
       )
 
-  pub less-variable : (v : ℕ) → Is p end (b ∷ s) (Variable v) → Written ns p end (b ∷ s) (variable (getD ns v []) ∷ gs) → Left (Variable v)
-  unfolding own-bytes variable-bytes begins? size-of end-after right-token?
-  less-variable v i w =
-      let n : List ℕ = getD ns v [] in
-      let r = within ns (variable n) gs p end (b ∷ s) refl w in
-      let x : 0x80 + number-of ns n ≡ b = head-is (r .front) in
-      (let y : b - 0x80 < length ns = variable-there b n x (r .is-right) in omega (arith, i .0), omega arith, r .others)
+  -- without a variable's token nothing is written there
+  pub less-none : Is p end (b ∷ s) NoTarget → (n : List ℕ) → Written ns p end (b ∷ s) (assigned n ∷ gs) → ⊥
+  unfolding own-bytes begins?
+  less-none i n w =
+      let r = begun ns (assigned n) gs p end b s refl w in
+      let o : List ℕ = variable-bytes ns n in
+      let e = written-read ns n (drop (suc (length o)) s) (drop 1 s) (ap (drop 1) (r .front)) in
+      let m : variable-at (drop 1 s) .size ≡ length o = ap (λ (z : VariableToken). z .size) e in
+      omega (arith, bytes-some ns n, m, i)
 
-  pub six-long : (c : List ℕ) → T (right-constant? c) → length c ≡ 6
-  unfolding right-constant?
-  six-long c t = eqb→eq (length c) 6 (and-left (eqb (length c) 6) _ t)
+  pub less-variable : (v : VariableToken) → Is p end (b ∷ s) (Variable v) → Written ns p end (b ∷ s) (variable (getD ns (v .number) []) ∷ gs) → Left (Variable v)
+  unfolding own-bytes begins? size-of end-after right-token?
+  less-variable v i w =
+      let n : List ℕ = getD ns (v .number) [] in
+      let r = within ns (variable n) gs p end (b ∷ s) refl w in
+      let o : List ℕ = variable-bytes ns n in
+      let l : length o ≤ suc (length s) = front-long o (b ∷ s) (drop (length o) (b ∷ s)) (r .front) in
+      let e : v ≡ record { number = number-of ns n; size = length o } = i .0 ∙ written-read ns n (drop (length o) (b ∷ s)) (b ∷ s) (r .front) in
+      let k : v .number ≡ number-of ns n = ap (λ (z : VariableToken). z .number) e in
+      let m : v .size ≡ length o = ap (λ (z : VariableToken). z .size) e in
+      (subst (λ (z : ℕ). z < length ns) (sym k) (number-there n (r .is-right)), omega arith, subst (λ (z : ℕ). Written ns (p + z) end (drop z (b ∷ s)) gs) (sym m) (r .others))
 
   pub less-constant : Written ns p end (b ∷ s) (constant (take 6 s) ∷ gs) → Left Constant
   unfolding own-bytes begins? size-of end-after right-token?
@@ -217,31 +276,38 @@ module _ (ns : List (List ℕ)) (d : Numbered ns) (p end b : ℕ) (s : List ℕ)
       subst (λ (e : ℕ). Written ns p e (b ∷ s) (statement t ∷ gs)) (i .0)
       (begun-up ns (statement t) gs p b s refl (record { is-right = tt; front = one-front s t (omega arith) (i .1); others = at-place (omega arith) w }))
 
-  pub more-target : (v : ℕ) → Is p end (b ∷ s) (Target v) → Holds ns (b ∷ s) (Target v) → Later (Target v) → Written ns p end (b ∷ s) (assigned (getD ns (v - 0x80) []) ∷ gs)
-  unfolding own-bytes variable-bytes begins? size-of end-after right-token?
+  pub more-target : (v : VariableToken) → Is p end (b ∷ s) (Target v) → Holds ns (b ∷ s) (Target v) → Later (Target v) → Written ns p end (b ∷ s) (assigned (getD ns (v .number) []) ∷ gs)
+  unfolding own-bytes begins? size-of end-after right-token?
   more-target v i h w =
-      let n : List ℕ = getD ns (v - 0x80) [] in
-      let a : number-of ns n ≡ v - 0x80 = d (v - 0x80) (h .2) in
-      let x : 0x80 + number-of ns n ≡ getD s 1 0 = omega (arith, i .2, h .1) in
+      let n : List ℕ = getD ns (v .number) [] in
+      let o : List ℕ = variable-bytes ns n in
+      let x = read-written ns n (drop 1 s) (subst (λ (z : VariableToken). z .size ≡ 0 → ⊥) (i .2) (i .3)) (d (v .number) (h .0) ∙ ap (λ (z : VariableToken). z .number) (i .2)) in
+      let m : length o ≡ v .size = x .0 ∙ ap (λ (z : VariableToken). z .size) (sym (i .2)) in
+      let j : drop (length o) (drop 1 s) ≡ drop (suc (length o)) s = drop-drop (length o) 1 s ∙ (let z : 1 + length o ≡ suc (length o) = omega arith in ap (λ (k : ℕ). drop k s) z) in
+      let l : 1 ≤ length s = omega (arith, bytes-some ns n, ap length (x .1), length-append o (drop (length o) (drop 1 s)), length-drop 1 s) in
       subst (λ (e : ℕ). Written ns p e (b ∷ s) (assigned n ∷ gs)) (i .0)
       (begun-up ns (assigned n) gs p b s refl (record {
-        is-right = and-both (known? ns n) _ (known-there ns d (v - 0x80) (h .2)) (h .3);
-        front = two-front s 0x36 (0x80 + number-of ns n) (omega (arith, h .0)) (sym (i .1)) x;
-        others = at-place (omega arith) w;
+        is-right = and-both (known? ns n) _ (known-there ns d (v .number) (h .0)) (h .1);
+        front = ap (λ (z : List ℕ). 0x36 ∷ (o ++ z)) (sym j) ∙ ap (λ (z : List ℕ). 0x36 ∷ z) (x .1) ∙ one-front s 0x36 l (sym (i .1));
+        others = at-place (omega arith) (at-bytes (sym (after-offset ns p end b s gs (suc (length o)) (2 + v .size) (omega arith))) w);
       }))
 
-  pub more-variable : (v : ℕ) → Is p end (b ∷ s) (Variable v) → Holds ns (b ∷ s) (Variable v) → Later (Variable v) → Written ns p end (b ∷ s) (variable (getD ns v []) ∷ gs)
-  unfolding own-bytes variable-bytes begins? size-of end-after right-token?
+  pub more-variable : (v : VariableToken) → Is p end (b ∷ s) (Variable v) → Holds ns (b ∷ s) (Variable v) → Later (Variable v) → Written ns p end (b ∷ s) (variable (getD ns (v .number) []) ∷ gs)
+  unfolding own-bytes begins? size-of end-after right-token?
   more-variable v i h w =
-      let n : List ℕ = getD ns v [] in
-      let a : number-of ns n ≡ v = d v h in
-      let x : 0x80 + number-of ns n ≡ b = omega (arith, i .0, i .1) in
-      within-up ns (variable n) gs p end (b ∷ s) refl (record { is-right = known-there ns d v h; front = ap (λ (z : ℕ). z ∷ s) x; others = w })
+      let n : List ℕ = getD ns (v .number) [] in
+      let x = read-written ns n (b ∷ s) (subst (λ (z : VariableToken). z .size ≡ 0 → ⊥) (i .0) (i .1)) (d (v .number) h ∙ ap (λ (z : VariableToken). z .number) (i .0)) in
+      let m : v .size ≡ length (variable-bytes ns n) = ap (λ (z : VariableToken). z .size) (i .0) ∙ sym (x .0) in
+      within-up ns (variable n) gs p end (b ∷ s) refl (record {
+        is-right = known-there ns d (v .number) h;
+        front = x .1;
+        others = subst (λ (z : ℕ). Written ns (p + z) end (drop z (b ∷ s)) gs) m w;
+      })
 
   pub more-constant : Is p end (b ∷ s) Constant → Holds ns (b ∷ s) Constant → Later Constant → Written ns p end (b ∷ s) (constant (take 6 s) ∷ gs)
   unfolding own-bytes begins? size-of end-after right-token?
   more-constant i h w =
-      let l : length (take 6 s) ≡ 6 = six-long ns p end b s gs (take 6 s) h in
+      let l : length (take 6 s) ≡ 6 = six-long (take 6 s) h in
       let m : suc (length (take 6 s)) ≡ 7 = ap suc l in
       within-up ns (constant (take 6 s)) gs p end (b ∷ s) refl (record {
         is-right = h;

@@ -3,17 +3,17 @@ use Prim.Native.Nat.{ℕ, _+_, _-_, _≤_, _<_}
 use native.Mathlib.Omega.{arith}
 use mathlib.Core.Path.{_≡_, refl, subst, sym}
 use mathlib.Core.List.{List, [], _∷_, _++_}
-use lib.ListN.{length, take, drop}
+use lib.ListN.{length, drop}
 use Rattle.paper.specs.Tokens.{Token, class, as-read}
 use Rattle.paper.specs.Machine.{Step, took, over, refused, step}
 use Rattle.paper.specs.Grammar.{Gives, given, look}
 use Rattle.paper.specs.Line.{tokens-from}
 use Rattle.list_pieces.specs.declared.Piece.{Piece}
-use Rattle.list_pieces.specs.declared.Piece.the-variants.{Word, Text, Target, Variable, Constant, Quoted, Operator}
+use Rattle.list_pieces.specs.declared.Piece.the-variants.{Word, Text, Target, NoTarget, Variable, Constant, Quoted, Operator}
 use Rattle.list_pieces.specs.Pieces.{piece-at, tokens-of-piece, size-of, end-after, Holds}
 use Rattle.list_pieces.specs.Rest.{Numbered, After, Takes, Written, Rest}
 use Rattle.list_pieces.specs.Decoded.{pieces}
-use Rattle.list_pieces.specs.PieceLaws.{Is, piece-is, Left, less-word, less-text, less-target, less-variable, less-constant, less-quoted, less-operator, Later, more-word, more-text, more-target, more-variable, more-constant, more-quoted, more-operator}
+use Rattle.list_pieces.specs.PieceLaws.{Is, piece-is, Left, less-word, less-text, less-target, less-none, less-variable, less-constant, less-quoted, less-operator, Later, more-word, more-text, more-target, more-variable, more-constant, more-quoted, more-operator}
 
 -- ---- one token
 
@@ -68,20 +68,22 @@ module _ (ns : List (List ℕ)) (p end b : ℕ) (s : List ℕ) where
   less (Word t) i w = less-word ns p end b s _ t w
   less (Text t n) i w = less-text ns p end b s _ t n 0x9b i w .1
   less (Target v) i w = less-target ns p end b s _ v i w
+  less NoTarget i w = absurd (less-none ns p end b s _ i _ w)
   less (Variable v) i w = less-variable ns p end b s _ v i w
   less Constant i w = less-constant ns p end b s _ w
   less (Quoted n) i w = less-quoted ns p end b s _ n i w
-  less (Operator t) i w = subst (λ (z : ℕ). Written ns p end (b ∷ s) (all ns p end (b ∷ s) (Operator z)) → Left ns p end b s (next (Operator z)) (Operator z)) (sym i) (λ v. less-operator ns p end b s _ b v .1) w
+  less (Operator t) i w = subst (λ (z : ℕ). Written ns p end (b ∷ s) (all ns p end (b ∷ s) (Operator z)) → Left ns p end b s (next (Operator z)) (Operator z)) (sym (i .0)) (λ v. less-operator ns p end b s _ b v .1) w
 
   more : (d : Numbered ns) (c : Piece) → Is p end (b ∷ s) c → Holds ns (b ∷ s) c → Later ns d p end b s (next c) c → Written ns p end (b ∷ s) (all ns p end (b ∷ s) c)
   unfolding tokens-of-piece
   more d (Word t) i h w = more-word ns d p end b s _ t i h w
   more d (Text t n) i h w = more-text ns d p end b s _ t n i h w
   more d (Target v) i h w = more-target ns d p end b s _ v i h w
+  more d NoTarget i h w = absurd h
   more d (Variable v) i h w = more-variable ns d p end b s _ v i h w
   more d Constant i h w = more-constant ns d p end b s _ i h w
   more d (Quoted n) i h w = more-quoted ns d p end b s _ n i h w
-  more d (Operator t) i h w = subst (λ (z : ℕ). Later ns d p end b s (next (Operator z)) (Operator z) → Written ns p end (b ∷ s) (all ns p end (b ∷ s) (Operator z))) (sym i) (λ v. more-operator ns d p end b s _ v) w
+  more d (Operator t) i h w = subst (λ (z : ℕ). Later ns d p end b s (next (Operator z)) (Operator z) → Written ns p end (b ∷ s) (all ns p end (b ∷ s) (Operator z))) (sym (i .0)) (λ v. more-operator ns d p end b s _ v) w
 
   cons-here : (fs : List ℕ) → Rest ns fs p end (b ∷ s) → Here ns p end (b ∷ s) fs (piece-at p end (b ∷ s))
   cons-here fs r =

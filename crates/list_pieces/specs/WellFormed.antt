@@ -14,15 +14,15 @@ use Rattle.paper.specs.Grammar.{Gives, given, look, look-item, start}
 use Rattle.paper.specs.Line.{begins?, raw-statement?, to-next, token-bytes, line-bytes, line-number, lawful-number?, tokens-from, line-tokens}
 use Rattle.paper.specs.WellFormed.{tokens-of, right-token?, items-of, gives-back?, well-formed?}
 use Rattle.laws.specs.Names.{same-self, same-eq}
+use Rattle.laws.specs.Given.{given-operator, operator-given}
 use Rattle.laws.specs.Tests.{and-left, and-right, and-both, is-true, as-T}
 use Rattle.list_pieces.specs.declared.Piece.{Piece}
-use Rattle.list_pieces.specs.declared.Piece.the-variants.{Word, Text, Target, Variable, Constant, Quoted, Operator}
+use Rattle.list_pieces.specs.declared.Piece.the-variants.{Word, Text, Target, NoTarget, Variable, Constant, Quoted, Operator}
 use Rattle.list_pieces.specs.Pieces.{piece-at, tokens-of-piece, size-of, end-after}
-use Rattle.list_pieces.specs.Given.{given-operator}
 use Rattle.list_pieces.specs.Rest.{After, Takes, Written, Rest, Whole}
 use Rattle.list_pieces.specs.Decoded.{pieces}
-use Rattle.list_pieces.specs.GivenLaws.{step-given, Plain, a-statement-plain, an-assigned-plain, a-variable-plain, a-constant-plain, a-string-plain, a-raw-plain, operator-given}
-use Rattle.list_pieces.specs.PieceLaws.{Is, piece-is, Left, less-word, less-text, less-target, less-variable, less-constant, less-quoted, less-operator}
+use Rattle.list_pieces.specs.GivenLaws.{step-given, Plain, a-statement-plain, an-assigned-plain, a-variable-plain, a-constant-plain, a-string-plain, a-raw-plain}
+use Rattle.list_pieces.specs.PieceLaws.{Is, piece-is, Left, less-word, less-text, less-target, less-none, less-variable, less-constant, less-quoted, less-operator}
 
 -- ---- one token taken
 
@@ -140,11 +140,12 @@ module _ (ns : List (List ℕ)) where
     unfolding tokens-of-piece as-read size-of
     piece (Word t) fs tk i h w = single (Word t) (statement t) fs tk (a-statement-plain t) refl (omega arith) (λ gs v. less-word ns p end b s gs t v) h w
     piece (Text t n) fs tk i h w = text t n fs tk i h w
-    piece (Target v) fs tk i h w = single (Target v) (assigned (getD ns (v - 0x80) [])) fs tk (an-assigned-plain (getD ns (v - 0x80) [])) refl (omega arith) (λ gs x. less-target ns p end b s gs v i x) h w
-    piece (Variable v) fs tk i h w = single (Variable v) (variable (getD ns v [])) fs tk (a-variable-plain (getD ns v [])) refl (omega arith) (λ gs x. less-variable ns p end b s gs v i x) h w
+    piece (Target v) fs tk i h w = single (Target v) (assigned (getD ns (v .number) [])) fs tk (an-assigned-plain (getD ns (v .number) [])) refl (omega arith) (λ gs x. less-target ns p end b s gs v i x) h w
+    piece NoTarget fs tk i h w = single NoTarget (assigned _) fs tk (an-assigned-plain _) refl (omega arith) (λ gs x. absurd (less-none ns p end b s gs i _ x)) h w
+    piece (Variable v) fs tk i h w = single (Variable v) (variable (getD ns (v .number) [])) fs tk (a-variable-plain (getD ns (v .number) [])) refl (omega (arith, i .1)) (λ gs x. less-variable ns p end b s gs v i x) h w
     piece Constant fs tk i h w = single Constant (constant (take 6 s)) fs tk (a-constant-plain (take 6 s)) refl (omega arith) (λ gs x. less-constant ns p end b s gs x) h w
     piece (Quoted n) fs tk i h w = single (Quoted n) (string (take n (drop 1 s))) fs tk (a-string-plain (take n (drop 1 s))) refl (omega arith) (λ gs x. less-quoted ns p end b s gs n i x) h w
-    piece (Operator t) fs tk i h w = subst (λ (z : ℕ). read look-item fs (items-of (operator z ∷ rest (Operator z))) ≡ left tk [] → Same ns fs tk (operator z ∷ rest (Operator z))) (sym i) (λ r. sign fs tk r w) h
+    piece (Operator t) fs tk i h w = subst (λ (z : ℕ). read look-item fs (items-of (operator z ∷ rest (Operator z))) ≡ left tk [] → Same ns fs tk (operator z ∷ rest (Operator z))) (sym (i .0)) (λ r. sign fs tk r w) h
 
   none : (fs : List ℕ) (tk : List (Taken Gives Item)) → left [] fs ≡ left tk [] → Same ns fs tk []
   unfolding Takes tokens-of

@@ -4,22 +4,45 @@ use tokens::StatementToken;
 ghost use mathlib.Core.Path.{_≡_};
 ghost use Prim.Native.Nat.{_+_, _<_, _^_};
 ghost use lib.ListN.{length, drop};
+ghost use Rattle.list_pieces.specs.Variables.{variable-at};
 ghost use Rattle.list_pieces.specs.Pieces.{piece-at, size-of, end-after};
 
+// A variable's token: the variable's number, and how many bytes the token is; no bytes where no such token stands.
+pub struct VariableToken {
+    pub number: u8,
+    pub size: u8,
+}
+
 // A piece of a line. `Word`: offset and statement token; `Text`: offset, REM or DATA, so many bytes of text, 9B; `Target`: offset, 36 and
-// a variable's token; `Variable`: its number, by its token; `Constant`: 0E and six bytes; `Quoted`: 0F, a length byte, so many bytes; `Operator`: any other byte.
+// a variable's token; `NoTarget`: offset and 36, where no variable's token follows; `Variable`: a variable's token; `Constant`: 0E and six
+// bytes; `Quoted`: 0F, a length byte, so many bytes; `Operator`: any other byte.
 pub enum Piece {
     Word(u8),
     Text(u8, usize),
-    Target(u8),
-    Variable(u8),
+    Target(VariableToken),
+    NoTarget,
+    Variable(VariableToken),
     Constant,
     Quoted(u8),
     Operator(u8),
 }
 
-// The first token from which on a byte is a variable's.
-pub const FIRST_VARIABLE: u8 = 0x80;
+// The byte from which on a byte is a variable's token.
+const FIRST_VARIABLE: u8 = 0x80;
+
+// The variable's token at a place of a line.
+fn variable_at(line: &[u8], at: usize) -> VariableToken
+    ensures { λ r. ⌜ r ≡ variable-at (drop at (now (line .entry))) ⌝ }
+{
+    let b = buffers::byte_at(line, at);
+    if b < FIRST_VARIABLE {
+        return VariableToken { number: 0, size: 0 };
+    }
+    VariableToken {
+        number: b - FIRST_VARIABLE,
+        size: 1,
+    }
+}
 
 // The piece that begins a statement at a place.
 fn first_piece(line: &[u8], at: usize) -> Piece
@@ -28,7 +51,11 @@ fn first_piece(line: &[u8], at: usize) -> Piece
 {
     let token = buffers::byte_at(line, at + 1);
     if token == StatementToken::LET_WITHOUT_WORD.0 {
-        return Piece::Target(buffers::byte_at(line, at + 2));
+        let variable = variable_at(line, at + 2);
+        if variable.size == 0 {
+            return Piece::NoTarget;
+        }
+        return Piece::Target(variable);
     }
     if tokens::is_raw_statement(StatementToken(token)) {
         let from = at + 2;
@@ -48,10 +75,11 @@ pub fn piece_at(line: &[u8], at: usize, end: usize) -> Piece
     if at == end {
         return first_piece(line, at);
     }
-    let b = line[at];
-    if FIRST_VARIABLE <= b {
-        return Piece::Variable(b - FIRST_VARIABLE);
+    let variable = variable_at(line, at);
+    if variable.size != 0 {
+        return Piece::Variable(variable);
     }
+    let b = line[at];
     if b == OperatorToken::NUMBER.0 {
         return Piece::Constant;
     }
@@ -69,8 +97,9 @@ pub fn size_of(piece: Piece) -> usize
     match piece {
         Piece::Word(_) => 2,
         Piece::Text(_, n) => 3 + n,
-        Piece::Target(_) => 3,
-        Piece::Variable(_) => 1,
+        Piece::Target(variable) => 2 + variable.size as usize,
+        Piece::NoTarget => 3,
+        Piece::Variable(variable) => variable.size as usize,
         Piece::Constant => 7,
         Piece::Quoted(n) => 2 + n as usize,
         Piece::Operator(_) => 1,
@@ -86,6 +115,7 @@ pub fn end_after(line: &[u8], at: usize, end: usize, piece: Piece) -> usize
         Piece::Word(_) => line[at] as usize,
         Piece::Text(_, _) => line[at] as usize,
         Piece::Target(_) => line[at] as usize,
+        Piece::NoTarget => line[at] as usize,
         Piece::Variable(_) => end,
         Piece::Constant => end,
         Piece::Quoted(_) => end,

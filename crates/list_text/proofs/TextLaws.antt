@@ -28,6 +28,7 @@ use Rattle.names_form.specs.Tables.{cleared}
 use Rattle.names_numbered.specs.Standing.{all-cleared, stands-text}
 use Rattle.names_numbered.specs.Answers.{Stands}
 use Rattle.names_numbered.specs.declared.Name.{Name}
+use Rattle.list_pieces.specs.declared.VariableToken.{VariableToken}
 use Rattle.list_pieces.specs.declared.Piece.{Piece}
 use Rattle.list_pieces.specs.declared.Piece.the-variants as Piece′
 use Rattle.list_pieces.specs.Pieces.{tokens-of-piece}
@@ -165,13 +166,13 @@ module _ (ns : List (List ℕ)) (u : List ℕ) where
   unfolding tokens-of-piece
   word-piece t = one-piece (Piece′.Word t) (statement t) refl
 
-  pub target-piece : (v : ℕ) → less-open (getD ns (v - 0x80) []) ≡ piece-text ns u (Piece′.Target v)
+  pub target-piece : (v : VariableToken) → less-open (getD ns (v .number) []) ≡ piece-text ns u (Piece′.Target v)
   unfolding tokens-of-piece token-text
-  target-piece v = one-piece (Piece′.Target v) (assigned (getD ns (v - 0x80) [])) refl
+  target-piece v = one-piece (Piece′.Target v) (assigned (getD ns (v .number) [])) refl
 
-  pub variable-piece : (v : ℕ) → less-open (getD ns v []) ≡ piece-text ns u (Piece′.Variable v)
+  pub variable-piece : (v : VariableToken) → less-open (getD ns (v .number) []) ≡ piece-text ns u (Piece′.Variable v)
   unfolding tokens-of-piece token-text
-  variable-piece v = one-piece (Piece′.Variable v) (variable (getD ns v [])) refl
+  variable-piece v = one-piece (Piece′.Variable v) (variable (getD ns (v .number) [])) refl
 
   pub quoted-piece : (k : ℕ) → 34 ∷ take k (drop 2 u) ++ 34 ∷ [] ≡ piece-text ns u (Piece′.Quoted k)
   unfolding tokens-of-piece token-text

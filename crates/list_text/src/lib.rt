@@ -1,5 +1,4 @@
 // The text of a piece, and of a line's number.
-use list_pieces::FIRST_VARIABLE;
 use list_pieces::Piece;
 use names_form::table;
 use tokens::Part;
@@ -176,8 +175,9 @@ pub fn write_piece(
     match piece {
         Piece::Word(token) => write_word(token, names, out, n),
         Piece::Text(token, k) => write_text(line, at, token, k, names, out, n),
-        Piece::Target(token) => write_name((token - FIRST_VARIABLE) as usize, names, size, out, n),
-        Piece::Variable(number) => write_name(number as usize, names, size, out, n),
+        Piece::Target(variable) => write_name(variable.number as usize, names, size, out, n),
+        Piece::NoTarget => 0,
+        Piece::Variable(variable) => write_name(variable.number as usize, names, size, out, n),
         Piece::Constant => constant_text::write_text(line, at + 1, out, n),
         Piece::Quoted(k) => write_quoted(line, at + 2, k, out, n),
         Piece::Operator(token) => write_operator(token, names, out, n),

@@ -11,6 +11,7 @@ use Rattle.paper.specs.Names.{names-in, name-bytes, value-entries}
 use Rattle.paper.specs.Store.{overwritten}
 use Rattle.buffers.specs.Sets.{sets-append}
 use Rattle.laws.specs.Names.{bytes-of-names}
+use Rattle.laws.specs.Tables.{length-entries}
 use Rattle.names_form.specs.Tables.{cleared, unmarked, first-size}
 use Rattle.names_form.specs.Places.{name-parts, name-here, none-left}
 use Rattle.names_numbered.specs.Answers.{Room}
@@ -45,11 +46,6 @@ value-more t at end i {all} {after} values b h e c a w =
 pub value-end : (t : List ℕ) (at i : ℕ) {all : List ℕ} (values : List ℕ) → length t ≤ at → all ≡ sets values (8 * i) (value-entries i (names-in (drop at t))) → values ≡ all
 unfolding value-entries
 value-end t at i {all} values h a = sym (a ∙ ap (λ (ns : List (List ℕ)). sets values (8 * i) (value-entries i ns)) (none-left t at h))
-
-pub length-entries : (i : ℕ) (ns : List (List ℕ)) → length (value-entries i ns) ≡ 8 * length ns
-unfolding value-entries
-length-entries i [] = refl
-length-entries i (n ∷ ns) = let more = length-entries (suc i) ns in let z : suc (suc (suc (suc (suc (suc (suc (suc (length (value-entries (suc i) ns))))))))) ≡ 8 * suc (length ns) = omega arith in z
 
 -- ---- what was written behind the first bytes of a buffer that has room for it
 

@@ -6,11 +6,12 @@ use mathlib.Core.Bool.{Bool, true, false, not, _&&_, _||_, and-true, and-false}
 use mathlib.Core.List.{List, [], _∷_, _++_}
 use lib.Dec.{leb, ltb, eqb, eqb·zero-suc, eqb·suc-zero, eqb·suc-suc}
 use lib.ListN.{length, take, drop, getD, set}
-use borrow.Author.Tests.{lt-ltb, le-ltb, ltb-true, ltb-false, le-leb, lt-leb, eqb-true}
-use Rattle.paper.specs.Bytes.{pick, same, every}
+use borrow.Author.Tests.{lt-ltb, le-leb, lt-leb, eqb-true}
+use Rattle.paper.specs.Bytes.{same, every}
 use Rattle.paper.specs.Words.{reserved?}
-use Rattle.paper.specs.Names.{names-in, name-bytes, less-open, name?, number-of, known?, all-different, sound-names, sound-table}
-use Rattle.laws.specs.Names.{closed?, same-bytes, same-self, same-eq, same-ne, known-front, known-behind}
+use Rattle.paper.specs.Names.{names-in, name-bytes, less-open, name?, known?, all-different, sound-names, sound-table}
+use Rattle.laws.specs.Names.{closed?, same-bytes}
+use Rattle.laws.specs.Tables.{same-sym, known-none, known-cons, known-snoc}
 use Rattle.names_form.specs.Tables.{cleared, unmarked, first-size}
 use Rattle.names_form.specs.Places.{name-bounds, name-parts, name-here, none-left, closed-before, closed-after, names-before}
 use Rattle.names_sound.specs.Lawful.{lawful, sound-after}
@@ -127,10 +128,6 @@ none-lawful (b ∷ bs) count h = absurd (omega arith)
 no-word? : List ℕ → Bool
 no-word? n = not (reserved? (less-open n))
 
-unknown-none : (n : List ℕ) → known? [] n ≡ false
-unfolding known? number-of
-unknown-none n = refl
-
 -- no name of the second list is in the first
 apart : List (List ℕ) → List (List ℕ) → Bool
 apart ms ns = every (λ n. not (known? ms n)) ns
@@ -138,44 +135,13 @@ apart ms ns = every (λ n. not (known? ms n)) ns
 apart-none : (ns : List (List ℕ)) → apart [] ns ≡ true
 unfolding apart every
 apart-none [] = refl
-apart-none (n ∷ ns) = rw (unknown-none n) (apart-none ns)
-
-same-sym : (s t : List ℕ) → same s t ≡ same t s
-same-sym s t = go (same t s) refl
-  where
-    go : (b : Bool) → same t s ≡ b → same s t ≡ b
-    go true e = ap (λ (l : List ℕ). same l t) (sym (same-eq t s e)) ∙ same-self t
-    go false e = same-ne s t (λ q. let z : _≡_ {A = ℕ} 0 1 = bools (sym (same-self s) ∙ ap (λ (l : List ℕ). same l s) q ∙ e) in omega arith)
-      where
-        bools : true ≡ false → _≡_ {A = ℕ} 0 1
-        bools e = cc
-
--- a name is one of some with another in front, or behind, just if it is one of them or that other
-known-cons : (m n : List ℕ) (ms : List (List ℕ)) → known? (m ∷ ms) n ≡ same m n || known? ms n
-unfolding known? number-of
-known-cons m n ms = go (same m n) (ltb (number-of ms n) (length ms)) refl
-  where
-    go : (t s : Bool) → ltb (number-of ms n) (length ms) ≡ s → ltb (pick t 0 (suc (number-of ms n))) (suc (length ms)) ≡ t || s
-    go true s e = lt-ltb 0 (suc (length ms)) (omega arith)
-    go false true e = lt-ltb (suc (number-of ms n)) (suc (length ms)) (omega (arith, ltb-true (number-of ms n) (length ms) e))
-    go false false e = le-ltb (suc (number-of ms n)) (suc (length ms)) (omega (arith, ltb-false (number-of ms n) (length ms) e))
-
-known-snoc : (ms : List (List ℕ)) (m n : List ℕ) → known? (ms ++ m ∷ []) n ≡ known? ms n || same m n
-known-snoc ms m n = go (known? ms n) refl
-  where
-    go : (t : Bool) → known? ms n ≡ t → known? (ms ++ m ∷ []) n ≡ t || same m n
-    go true e = known-front ms (m ∷ []) n e
-    go false e = known-behind ms (m ∷ []) n e ∙ known-cons m n [] ∙ rw (unknown-none n) (or-none (same m n))
-      where
-        or-none : (b : Bool) → b || false ≡ b
-        or-none true = refl
-        or-none false = refl
+apart-none (n ∷ ns) = rw (known-none n) (apart-none ns)
 
 apart-snoc : (ms : List (List ℕ)) (m : List ℕ) (ns : List (List ℕ)) → apart (ms ++ m ∷ []) ns ≡ apart ms ns && not (known? ns m)
 unfolding apart every
-apart-snoc ms m [] = sym (rw (unknown-none m))
+apart-snoc ms m [] = sym (rw (known-none m))
 apart-snoc ms m (n ∷ ns) =
-    rw (known-snoc ms m n, known-cons n m ns, same-sym n m, apart-snoc ms m ns) (swapped (known? ms n) (same m n) (apart ms ns) (known? ns m))
+    rw (known-snoc ms m n, known-cons n ns m, same-sym n m, apart-snoc ms m ns) (swapped (known? ms n) (same m n) (apart ms ns) (known? ns m))
   where
     swapped : (a b c d : Bool) → not (a || b) && (c && not d) ≡ (not a && c) && not (b || d)
     swapped true b c d = refl

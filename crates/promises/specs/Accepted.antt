@@ -18,12 +18,13 @@ use Rattle.paper.specs.WellFormed.{tokens-of, Lawful, right-token?, WellFormed}
 use Rattle.paper.specs.Calls.{tokens, outcome, translate}
 use Rattle.laws.specs.Tests.{and-left, and-right, and-both}
 use Rattle.laws.specs.Names.{name-passes}
+use Rattle.laws.specs.Given.{operator-given}
 use Rattle.promises.specs.NameTable.{add-knows, names-keep}
 use Rattle.promises.specs.Scanned.{new-name?, scanned-right?, scanned-items, AllRight, all-right}
 use Rattle.promises.specs.Place.{sources, told, Told}
 use Rattle.promises.specs.InRange.{out?, NoneOut, Agrees, agrees}
 use Rattle.promises.specs.TokenRuns.{on-taken, on-run, AllFit, RunFits}
-use Rattle.promises.specs.Given.{look-token, fits, run-fits, taken-fit, own-given, given-op, symbol-class?, no-symbol-statement, no-symbol-name, no-symbol-number, no-symbol-quoted, no-symbol-raw}
+use Rattle.promises.specs.Given.{look-token, fits, run-fits, taken-fit, own-given, symbol-class?, no-symbol-statement, no-symbol-name, no-symbol-number, no-symbol-quoted, no-symbol-raw}
 use Rattle.promises.specs.RoundTrip.{token-of, as-tokens}
 
 -- ---- an accepted text
@@ -76,7 +77,7 @@ own ns e t f r o n y =
 
 given-right : (ns : List (List ℕ)) (e : Gives) (t : Token) → T (fits e (class t)) → T (scanned-right? t) → out-of-range? t ≡ false → Named ns (given e t) → T (right-token? ns (given e t))
 unfolding class right-token? symbol-class? among
-given-right ns e (operator j) f r o n = subst (λ (z : Token). T (right-token? ns z)) (sym (given-op e j)) tt
+given-right ns e (operator j) f r o n = subst (λ (z : Token). T (right-token? ns z)) (sym (operator-given e j)) tt
 given-right ns e (statement k) f r o n = own ns e (statement k) f r o n (no-symbol-statement k)
 given-right ns e (assigned w) f r o n = own ns e (assigned w) f r o n (no-symbol-name w first-numeric first-string first-array tt tt tt)
 given-right ns e (variable w) f r o n = own ns e (variable w) f r o n (no-symbol-name w numeric-variable string-variable array tt tt tt)
@@ -88,7 +89,7 @@ given-right ns e unreadable f r o n = absurd (taken-fit e unfit f)
 
 given-new : (e : Gives) (t : Token) → T (fits e (class t)) → T (scanned-right? t) → T (name-passes new-name? (given e t))
 unfolding class symbol-class? among scanned-right? name-passes
-given-new e (operator j) f r = subst (λ (z : Token). T (name-passes new-name? z)) (sym (given-op e j)) tt
+given-new e (operator j) f r = subst (λ (z : Token). T (name-passes new-name? z)) (sym (operator-given e j)) tt
 given-new e (statement k) f r = subst (λ (z : Token). T (name-passes new-name? z)) (sym (own-given e (statement k) f (no-symbol-statement k))) tt
 given-new e (assigned w) f r = subst (λ (z : Token). T (name-passes new-name? z)) (sym (own-given e (assigned w) f (no-symbol-name w first-numeric first-string first-array tt tt tt))) (and-left (new-name? w) _ r)
 given-new e (variable w) f r = subst (λ (z : Token). T (name-passes new-name? z)) (sym (own-given e (variable w) f (no-symbol-name w numeric-variable string-variable array tt tt tt))) r

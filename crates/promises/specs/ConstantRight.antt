@@ -10,8 +10,8 @@ use borrow.Author.Tests.{ne-eqb, leb-true, leb-false}
 use Rattle.paper.specs.Bytes.{pick, same, every}
 use Rattle.paper.specs.Constants.{powers, six-at, six, five, in-range, zero-bytes, right-constant?, decimal?, decimal-byte}
 use Rattle.laws.specs.Tests.{and-left, and-right, and-both}
+use Rattle.laws.specs.Constants.{pow-add}
 use Rattle.promises.specs.Terms.{CutTo}
-use Rattle.promises.specs.ConstantValue.{pow-add}
 use Rattle.promises.specs.Lists.{or-right}
 
 record Power (f n m k : ℕ) : Type 0 where

@@ -16,6 +16,7 @@ use Rattle.paper.specs.Items.{item, sign-size, power-size, with-power, number-a
 use Rattle.paper.specs.Open.{all-Constants}
 use Rattle.laws.specs.Tests.{and-left, and-right, is-true, is-false, as-T, or-else}
 use Rattle.laws.specs.Names.{same-eq}
+use Rattle.laws.specs.Constants.{pairs-apart}
 use Rattle.laws.specs.Runs.{All, all-take, all-drop, run-all, seam, past}
 use Rattle.promises.specs.ConstantValue.{constant-is}
 
@@ -147,11 +148,6 @@ pair-below b t =
     let l : b % 16 ≤ 9 = leb→le (b % 16) 9 (and-right (leb (b / 16) 9) (leb (b % 16) 9) t) in
     omega arith
 
--- five pairs below 100 come apart again
-apart : (m1 m2 m3 m4 m5 q : ℕ) → m1 < 100 → m2 < 100 → m3 < 100 → m4 < 100 → m5 < 100 → q ≡ (((m1 * 100 + m2) * 100 + m3) * 100 + m4) * 100 + m5
-    → (q / 100000000 % 100 ≡ m1) × (q / 1000000 % 100 ≡ m2) × (q / 10000 % 100 ≡ m3) × (q / 100 % 100 ≡ m4) × (q % 100 ≡ m5)
-apart m1 m2 m3 m4 m5 q h1 h2 h3 h4 h5 e = (omega arith, omega arith, omega arith, omega arith, omega arith)
-
 value-pair : (a x y : ℕ) (r : List ℕ) → value a ((48 + x) ∷ (48 + y) ∷ r) ≡ value (a * 100 + (x * 10 + y)) r
 unfolding value
 value-pair a x y r = let e : (a * 10 + (48 + x - 48)) * 10 + (48 + y - 48) ≡ a * 100 + (x * 10 + y) = omega arith in ap (λ (k : ℕ). value k r) e
@@ -195,7 +191,7 @@ five-of b1 b2 b3 b4 b5 t n =
     let t4 : T (decimal? b4) = and-left (decimal? b4) _ r3 in
     let r4 : T (every decimal? (b5 ∷ [])) = and-right (decimal? b4) _ r3 in
     let t5 : T (decimal? b5) = and-left (decimal? b5) _ r4 in
-    let a = apart (b1 / 16 * 10 + b1 % 16) (b2 / 16 * 10 + b2 % 16) (b3 / 16 * 10 + b3 % 16) (b4 / 16 * 10 + b4 % 16) (b5 / 16 * 10 + b5 % 16) (value 0 ds) (pair-below b1 t1) (pair-below b2 t2) (pair-below b3 t3) (pair-below b4 t4) (pair-below b5 t5) v in
+    let a = pairs-apart (b1 / 16 * 10 + b1 % 16) (b2 / 16 * 10 + b2 % 16) (b3 / 16 * 10 + b3 % 16) (b4 / 16 * 10 + b4 % 16) (b5 / 16 * 10 + b5 % 16) (value 0 ds) (pair-below b1 t1) (pair-below b2 t2) (pair-below b3 t3) (pair-below b4 t4) (pair-below b5 t5) v in
     record {
       digits = ds;
       are = refl;

@@ -1,5 +1,5 @@
 -- What a row gives determines the item: read again, the token given is the item's own, and it is written the same.
-use Prim.Native.Nat.{ℕ, _+_}
+use Prim.Native.Nat.{ℕ}
 use mathlib.Core.Path.{_≡_, refl, subst, sym, ap, _∙_}
 use mathlib.Core.Bool.{Bool, true, false, not, _&&_, _||_}
 use mathlib.Core.List.{List, [], _∷_, map}
@@ -10,12 +10,13 @@ use Rattle.paper.specs.Classes.{unfit, number, quoted, numeric-variable, string
 use Rattle.paper.specs.Words.{Word, word, word-of, statements, operators}
 use Rattle.paper.specs.Tokens.{Token, statement, assigned, operator, variable, constant, string, raw, out-of-range, unreadable, class, operator-class, by-kind, as-read, read-as}
 use Rattle.paper.specs.Machine.{Act, Taken, read}
-use Rattle.paper.specs.Grammar.{Gives, itself, for-strings, as-prefix, put, given, moved, grammar, may-be-empty, look}
+use Rattle.paper.specs.Grammar.{Gives, itself, for-strings, as-prefix, put, given, grammar, may-be-empty, look}
 use Rattle.paper.specs.Listing.{token-text, operator-text, body-text}
 use Rattle.paper.specs.WellFormed.{right-token?}
 use Rattle.paper.specs.Open.{all-Bytes, all-Words, all-Tokens, all-Grammar, all-Machine, all-Listing}
 use Rattle.laws.specs.Tests.{and-left, and-right, is-true, or-else}
 use Rattle.laws.specs.Classes.{at-kind}
+use Rattle.laws.specs.Given.{given-operator, operator-given}
 use Rattle.laws.specs.Names.{same-eq}
 use Rattle.promises.specs.Place.{by-class, sources}
 use Rattle.promises.specs.TokenRuns.{row-fits, Fits, find-fits, AllFit, RunFits, read-fits}
@@ -45,13 +46,6 @@ at-class q (w ∷ ws) t e u = go (eqb (w .token) t) (at-class q ws t (and-right 
     go false k = k
 
 -- ---- the test of a row
-
--- the token that a row gives for an operator
-unfoldable pub given-operator : Gives → ℕ → ℕ
-given-operator itself j = j
-given-operator for-strings j = j + 0x12
-given-operator as-prefix j = j + 0x10
-given-operator (put k) j = k
 
 -- an operator's byte is no variable's, number's or string's, unless it ends raw text
 unfoldable pub plain-byte? : ℕ → Bool
@@ -161,14 +155,6 @@ itself-known for-strings t h n = absurd (T-not (symbol-class? (class t)) n h)
 itself-known as-prefix t h n = absurd (T-not (symbol-class? (class t)) n h)
 itself-known (put k) t h n = absurd (T-not (symbol-class? (class t)) n h)
 
--- what a row gives for an operator is an operator
-pub given-op : (e : Gives) (j : ℕ) → given e (operator j) ≡ operator (given-operator e j)
-unfolding given moved given-operator
-given-op itself j = refl
-given-op for-strings j = refl
-given-op as-prefix j = refl
-given-op (put k) j = refl
-
 itself-made : (t : Token) → as-read t ≡ t → Known itself t
 unfolding given
 itself-made t b = record { back = b; text = refl; right = (λ ns. refl) }
@@ -180,7 +166,7 @@ op-known : (e : Gives) (j : ℕ) → T (fits e (operator-class j)) → Known e (
 unfolding token-text right-token? as-read
 op-known e j h =
     let o = op-both e j (op-fits e j h) in
-    let g = given-op e j in
+    let g = operator-given e j in
     record {
       back = ap as-read g ∙ ap operator (o .0);
       text = ap token-text g ∙ o .1;

@@ -8,7 +8,8 @@ use lib.Dec.{T, eqb, eqb·suc-suc}
 use lib.ListN.{length}
 use borrow.Author.Tests.{eq-eqb, ne-eqb}
 use Rattle.paper.specs.Bytes.{pick, run, every}
-use Rattle.laws.specs.Tests.{and-left, and-right, and-both}
+use Rattle.laws.specs.Tests.{and-left, and-right, and-both, is-true, as-T}
+use Rattle.laws.specs.Names.{every-append as passes-append}
 
 -- one of two that passes
 pub or-left : (a b : Bool) → T a → T (a || b)
@@ -32,9 +33,7 @@ or-false-right false b e = e
 
 -- a test of every entry of two lists passes at every entry of both end to end
 pub every-append : {A : Type 0} (p : A → Bool) (xs ys : List A) → T (every p xs) → T (every p ys) → T (every p (xs ++ ys))
-unfolding every
-every-append p [] ys a b = b
-every-append p (x ∷ xs) ys a b = and-both (p x) (every p (xs ++ ys)) (and-left (p x) (every p xs) a) (every-append p xs ys (and-right (p x) (every p xs) a) b)
+every-append p xs ys a b = as-T (every p (xs ++ ys)) (passes-append p xs ys (is-true (every p xs) a) (is-true (every p ys) b))
 
 -- and the other way round
 pub every-left : {A : Type 0} (p : A → Bool) (xs ys : List A) → T (every p (xs ++ ys)) → T (every p xs)

@@ -1,18 +1,16 @@
 -- The name table: its bytes as names again, and what adding names keeps.
-use Prim.Native.Nat.{ℕ, suc, _+_, _-_}
-use native.Mathlib.Omega.{arith}
-use mathlib.Core.Path.{_≡_, refl, subst, sym, ap, _∙_}
+use Prim.Native.Nat.{ℕ, _+_, _-_}
+use mathlib.Core.Path.{_≡_, refl, subst, sym, _∙_}
 use mathlib.Core.Bool.{Bool, true, false, not, _||_}
 use mathlib.Core.List.{List, [], _∷_, _++_}
-use lib.Dec.{T, ltb, leb·suc-suc}
-use lib.ListN.{length}
-use borrow.Author.Tests.{lt-ltb}
+use lib.Dec.{T}
 use Rattle.paper.specs.Bytes.{pick, same, every}
 use Rattle.paper.specs.Words.{reserved?}
 use Rattle.paper.specs.Tokens.{Token}
-use Rattle.paper.specs.Names.{names-in, name-bytes, name?, less-open, number-of, known?, all-different, add-name, add-names}
+use Rattle.paper.specs.Names.{names-in, name-bytes, name?, less-open, known?, all-different, add-name, add-names}
 use Rattle.laws.specs.Tests.{and-left, and-right, and-both, as-T, is-true, is-false}
-use Rattle.laws.specs.Names.{same-self, same-ne, known-front, known-behind, name-added, add-append, known-added, name-passes, adds-keep, adds-keep-any, names-of-bytes, names-plain}
+use Rattle.laws.specs.Names.{known-front, name-added, add-append, known-added, name-passes, adds-keep, adds-keep-any, names-of-bytes, names-plain}
+use Rattle.laws.specs.Tables.{same-sym, known-none, known-cons, known-snoc}
 use Rattle.promises.specs.Lists.{or-false-left, or-false-right, every-append}
 use Rattle.promises.specs.Scanned.{new-name?}
 
@@ -22,15 +20,6 @@ names-back ns t = names-of-bytes ns (names-plain ns (is-true (every name? ns) t)
 
 -- ---- names that are known
 
--- a name is known if it is the first, or known among the others
-known-cons : (m : List ℕ) (ms : List (List ℕ)) (n : List ℕ) → known? (m ∷ ms) n ≡ same m n || known? ms n
-unfolding known? number-of
-known-cons m ms n = go (same m n)
-  where
-    go : (b : Bool) → ltb (pick b 0 (suc (number-of ms n))) (suc (length ms)) ≡ b || ltb (number-of ms n) (length ms)
-    go true = lt-ltb 0 (suc (length ms)) (omega arith)
-    go false = leb·suc-suc (suc (number-of ms n)) (length ms)
-
 -- a name that is added is known
 pub add-knows : (ns : List (List ℕ)) (n : List ℕ) → T (known? (add-name ns n) n)
 add-knows ns n = as-T _ (known-added ns n)
@@ -38,11 +27,6 @@ add-knows ns n = as-T _ (known-added ns n)
 -- names once known stay known
 pub names-keep : (ts : List Token) (ns : List (List ℕ)) (m : List ℕ) → T (known? ns m) → T (known? (add-names ns ts) m)
 names-keep ts ns m k = as-T _ (adds-keep-any (λ ms. known? ms m ≡ true) (λ ms n e. rw (add-append ms n) (known-front ms (name-added ms n) m e)) ns ts (is-true (known? ns m) k))
-
--- none is known where there is none
-none-known : (n : List ℕ) → known? [] n ≡ false
-unfolding known? number-of
-none-known n = refl
 
 -- ---- what adding names keeps
 
@@ -52,16 +36,13 @@ pub record NamesGood (ns : List (List ℕ)) : Type 0 where
   pub different : T (all-different ns)
   pub no-words : T (every (λ n. not (reserved? (less-open n))) ns)
 
-not-same : (m n : List ℕ) → same m n ≡ false → same n m ≡ false
-not-same m n h = same-ne n m (λ e. let z : true ≡ false = sym (same-self m) ∙ ap (same m) (sym e) ∙ h in let w : _≡_ {A = ℕ} 0 1 = cc in omega arith)
-
 snoc-different : (ns : List (List ℕ)) (n : List ℕ) → T (all-different ns) → known? ns n ≡ false → T (all-different (ns ++ n ∷ []))
 unfolding all-different
-snoc-different [] n d k = and-both (not (known? [] n)) true (subst (λ (b : Bool). T (not b)) (sym (none-known n)) tt) tt
+snoc-different [] n d k = and-both (not (known? [] n)) true (subst (λ (b : Bool). T (not b)) (sym (known-none n)) tt) tt
 snoc-different (m ∷ ms) n d k =
     let e : same m n || known? ms n ≡ false = sym (known-cons m ms n) ∙ k in
     let a : known? (ms ++ n ∷ []) m ≡ false =
-    known-behind ms (n ∷ []) m (is-false (known? ms m) (and-left (not (known? ms m)) (all-different ms) d)) ∙ known-cons n [] m ∙ rw (not-same m n (or-false-left (same m n) (known? ms n) e)) (none-known m) in
+    known-snoc ms n m ∙ rw (is-false (known? ms m) (and-left (not (known? ms m)) (all-different ms) d)) (same-sym n m ∙ or-false-left (same m n) (known? ms n) e) in
     and-both (not (known? (ms ++ n ∷ []) m)) (all-different (ms ++ n ∷ [])) (subst (λ (b : Bool). T (not b)) (sym a) tt)
     (snoc-different ms n (and-right (not (known? ms m)) (all-different ms) d) (or-false-right (same m n) (known? ms n) e))
 

@@ -5,13 +5,11 @@ use mathlib.Core.Path.{_≡_, refl, subst, sym, ap, _∙_}
 use mathlib.Core.Bool.{Bool, true, false, not, _&&_, _||_}
 use mathlib.Core.List.{List, [], _∷_, map}
 use lib.Dec.{T, T-not, eqb, leb, ltb, eqb→eq, ltb→lt}
-use lib.ListN.{length}
 use borrow.Author.Tests.{eqb-true, lt-leb, ne-eqb}
 use Rattle.paper.specs.Bytes.{pick, every, among}
 use Rattle.paper.specs.Classes.{unfit, colon, remark, raw-text, raw-end, line-end, number, quoted, numeric-variable, string-variable, array, first-numeric, first-string, first-array}
 use Rattle.paper.specs.Words.{Word, word-of, statements}
 use Rattle.paper.specs.Tokens.{Token, statement, assigned, operator, variable, constant, string, raw, out-of-range, unreadable, class, operator-class, by-kind, read-as}
-use Rattle.paper.specs.Constants.{right-constant?}
 use Rattle.paper.specs.Names.{known?}
 use Rattle.paper.specs.Items.{opens}
 use Rattle.paper.specs.Machine.{Taken}
@@ -21,9 +19,11 @@ use Rattle.paper.specs.WellFormed.{right-token?}
 use Rattle.paper.specs.Open.{all-Bytes, all-Words}
 use Rattle.laws.specs.Tests.{and-left, and-right, is-true, is-false, or-else, as-T, and-both}
 use Rattle.laws.specs.Classes.{at-kind}
+use Rattle.laws.specs.Constants.{six-long}
+use Rattle.laws.specs.Given.{given-operator, operator-given}
 use Rattle.promises.specs.Place.{sources}
 use Rattle.promises.specs.TokenRuns.{AllFit}
-use Rattle.promises.specs.Given.{fits, tokens-given, given-operator, plain-byte?, op-both, op-fits, given-op, symbol-class?, own-given, own-all, no-symbol-statement, no-symbol-name, no-symbol-number, no-symbol-quoted, at-word}
+use Rattle.promises.specs.Given.{fits, tokens-given, plain-byte?, op-both, op-fits, symbol-class?, own-given, own-all, no-symbol-statement, no-symbol-name, no-symbol-number, no-symbol-quoted, at-word}
 use Rattle.promises.specs.Neighbours.{Apart, first-class?}
 use Rattle.promises.specs.Closed.{closed, end-class?}
 use Rattle.promises.specs.Reading.{Fine, Side, side, op-known, op-line, op-raw-end, nothing-after, raw-shape, closed-rest, statement-first, quiet, quiet-name, quiet-first, quiet-value, end-is, raw-first, both}
@@ -95,12 +95,12 @@ shape-operator ns e j xs c true a false b h g ih n s p f l r =
     let q = not-raw-end e j h b in
     let z : sources xs ≡ [] = nothing-after (operator-class j) (sources xs) p (end-is (operator-class j) (op-line j a)) in
     let w : tokens-given xs ≡ [] = own-all xs g (subst (λ (u : List Token). T (every (λ (t : Token). not (symbol-class? (class t))) u)) (sym z) tt) ∙ z in
-    subst (λ (u : Token). Shapes ns (u ∷ tokens-given xs)) (sym (given-op e j)) (an-operator (given-operator e j) (tokens-given xs) (q .0) (q .1) (q .2) (subst (Shapes ns) (sym w) no-tokens))
+    subst (λ (u : Token). Shapes ns (u ∷ tokens-given xs)) (sym (operator-given e j)) (an-operator (given-operator e j) (tokens-given xs) (q .0) (q .1) (q .2) (subst (Shapes ns) (sym w) no-tokens))
 shape-operator ns e j xs c false a false b h g ih n s p f l r =
     let q = not-raw-end e j h b in
     let o = op-known j a b n in
     let w : T (quiet (operator-class j)) = and-both (not (end-class? (operator-class j))) _ (o .not-end) (and-both (not (eqb (operator-class j) remark)) _ (o .not-remark) (o .not-raw)) in
-    subst (λ (u : Token). Shapes ns (u ∷ tokens-given xs)) (sym (given-op e j)) (an-operator (given-operator e j) (tokens-given xs) (q .0) (q .1) (q .2) (ask ns xs (operator-class j) ih p f l w))
+    subst (λ (u : Token). Shapes ns (u ∷ tokens-given xs)) (sym (operator-given e j)) (an-operator (given-operator e j) (tokens-given xs) (q .0) (q .1) (q .2) (ask ns xs (operator-class j) ih p f l w))
 
 raw-own : (b : List ℕ) → T (every (λ (t : Token). not (symbol-class? (class t))) (raw b ∷ operator 0x9b ∷ []))
 unfolding every class symbol-class? operator-class all-Bytes
@@ -125,10 +125,6 @@ shape-statement ns k xs false m g ih n p f l =
     let d = statement-first k n in
     let w : T (quiet (class (statement k))) = and-both (not (end-class? (class (statement k)))) _ (d .2) (and-both (not (eqb (class (statement k)) remark)) _ (subst (λ (z : Bool). T (not z)) (sym m) tt) (d .1)) in
     a-statement k (tokens-given xs) (is-false (raw-statement? k) (imp-not (eqb (class (statement k)) remark) (not (raw-statement? k)) (q2 .0) m)) (is-false (eqb k 0x36) (q2 .1)) (ask ns xs (class (statement k)) ih p f l w)
-
-six-long : (b : List ℕ) → T (right-constant? b) → length b ≡ 6
-unfolding right-constant?
-six-long b t = eqb→eq (length b) 6 (and-left (eqb (length b) 6) _ t)
 
 shape-go : (ns : List (List ℕ)) (e : Gives) (t : Token) (xs : List (Taken Gives Token)) → T (fits e (class t)) → AllFit fits class xs → Ask ns xs → (c : ℕ) → Side c (class t) → Apart (class t) (sources xs) → T (not (eqb (class t) unfit)) → T (right-token? ns t) → Fine ns (sources xs)
     → T (closed (class t ∷ map class (sources xs))) → T (not (eqb c remark)) → T (not (eqb c raw-text)) → Shapes ns (given e t ∷ tokens-given xs)

@@ -1,5 +1,5 @@
 -- The state after an accepted edit: sound again, with the old names and values in front of the new ones, and every other byte as it was.
-use Prim.Native.Nat.{ℕ, suc, _+_, _*_, _≤_}
+use Prim.Native.Nat.{ℕ, _+_, _*_, _≤_}
 use native.Mathlib.Omega.{arith}
 use mathlib.Core.Path.{_≡_, refl, subst, sym, ap, ap₂, _∙_}
 use mathlib.Core.Bool.{Bool, true, false, _||_}
@@ -14,6 +14,7 @@ use Rattle.paper.specs.Store.{greatest-number, room, sound-store, overwritten}
 use Rattle.paper.specs.Calls.{State, names-of, lines-of, sound-tables, agrees, sound-state, stored, lacks-room}
 use Rattle.laws.specs.Tests.{and-left, and-right, and-both, as-T, is-true}
 use Rattle.laws.specs.Names.{same-self, same-eq, name-bytes-append}
+use Rattle.laws.specs.Tables.{length-entries}
 use Rattle.promises.specs.Terms.{Agrees, SoundState, Kept}
 use Rattle.promises.specs.Lists.{or-false-left, or-false-right}
 use Rattle.promises.specs.NameTable.{NamesGood, names-back}
@@ -141,11 +142,6 @@ pub stored-made : (s : State) (new ls : List (List ℕ)) → stored s (names-of 
 unfolding stored made
 stored-made s new ls = rw (drop-append-seam (names-of s) new)
 
-entries-size : (i : ℕ) (ns : List (List ℕ)) → length (value-entries i ns) ≡ 8 * length ns
-unfolding value-entries
-entries-size i [] = refl
-entries-size i (n ∷ ns) = let e = entries-size (suc i) ns in omega arith
-
 table-sound : (s : State) (new : List (List ℕ)) → SoundState s → NamesGood (names-of s ++ new) → Room s new → (out : List ℕ) → take (s .name-size + length (name-bytes new)) out ≡ take (s .name-size) (s .names) ++ name-bytes new → length out ≡ length (s .names)
     → (names-in (take (s .name-size + length (name-bytes new)) out) ≡ names-of s ++ new) × T (sound-table out (s .name-size + length (name-bytes new)) (length (names-of s ++ new)))
 unfolding sound-table
@@ -170,7 +166,7 @@ unfolding made names-of lines-of sound-state sound-tables
 kept s new ls o g r h =
     let n : Extended (s .name-size) (name-bytes new) (s .names) = extended (s .name-size) (name-bytes new) (s .names) (r .bytes) in
     let es : List ℕ = value-entries (s .name-count) new in
-    let el : length es ≡ 8 * length new = entries-size (s .name-count) new in
+    let el : length es ≡ 8 * length new = length-entries (s .name-count) new in
     let v : Extended (8 * s .name-count) es (s .values) = extended (8 * s .name-count) es (s .values) (omega (arith, r .values, o .count)) in
     let t = table-sound s new o g r (overwritten (take (s .name-size) (s .names) ++ name-bytes new) (s .names)) (n .both) (n .same-size) in
     let c : 8 * length (names-of s ++ new) ≡ 8 * s .name-count + length es = omega (arith, length-append (names-of s) new, o .count) in

@@ -10,12 +10,6 @@ use Rattle.editor.proofs.enter.Tie as tie
 sound-requires : tie.Need-sound-requires
 sound-requires c κs = search needs
 
-slice-aggregate-read : tie.Need-slice-aggregate-read
-slice-aggregate-read c = search needs
-
-slice-aggregate-read-2 : tie.Need-slice-aggregate-read-2
-slice-aggregate-read-2 c = search needs
-
 read-requires : tie.Need-read-requires
 read-requires c κs =
     let args = c .before .before .before .before .before .before .before .before .before .before .args in
@@ -36,17 +30,11 @@ refused-requires c κs = search needs
 enum-known-place : tie.Need-enum-known-place
 enum-known-place c = search needs
 
-slice-aggregate-edit : tie.Need-slice-aggregate-edit
-slice-aggregate-edit c = search needs
-
-slice-aggregate-edit-2 : tie.Need-slice-aggregate-edit-2
-slice-aggregate-edit-2 c = search needs
-
 edit-requires : tie.Need-edit-requires
 edit-requires c κs =
-    let args = c .before .before .before .before .before .before .before .before .before .before .before .before .before .before .before .before .before .before .before .before .before .before .before .before .args in
-    let there = sound-there (state (args .names .now) (args .values .now) (args .store .now) (args .e)) _ (c .before .before .before .before .before .before .before .before .before .before .before .before .before .before .before .before .before .before .sound .ensures) (c .before .before .before .before .before .before .before .before .before .before .before .before .before .before .before .before .before .if1 .taken) _ _ (c .before .before .before .before .before .before .before .before .find .ensures ∙ ap (found-answer (args .store .now) (args .e .used)) (c .before .before .before .before .before .before .before .before .before .asked .ensures)) (c .before .before .before .before .before .before .place .given .0 .0) (c .before .before .before .before .before .before .place .given .1) in
-    (there .0, there .1, c .before .before .before .before .before .before .before .before .before .before .before .before .before .read .ensures .ready (args .values .now) (args .store .now))
+    let args = c .before .before .before .before .before .before .before .before .before .before .before .before .before .before .before .before .before .before .before .before .before .before .args in
+    let there = sound-there (state (args .names .now) (args .values .now) (args .store .now) (args .e)) _ (c .before .before .before .before .before .before .before .before .before .before .before .before .before .before .before .before .sound .ensures) (c .before .before .before .before .before .before .before .before .before .before .before .before .before .before .before .if1 .taken) _ _ (c .before .before .before .before .before .before .before .before .find .ensures ∙ ap (found-answer (args .store .now) (args .e .used)) (c .before .before .before .before .before .before .before .before .before .asked .ensures)) (c .before .before .before .before .before .before .place .given .0 .0) (c .before .before .before .before .before .before .place .given .1) in
+    (there .0, there .1, c .before .before .before .before .before .before .before .before .before .before .before .read .ensures .ready (args .values .now) (args .store .now))
 
 refused-requires-2 : tie.Need-refused-requires-2
 refused-requires-2 c κs = search needs
@@ -59,8 +47,8 @@ same-length-2 c = search needs
 
 returns : tie.Need-returns
 returns c =
-    let args = c .before .before .before .before .before .before .before .before .before .before .before .before .before .before .before .before .before .before .before .args in
-    enter-refused (args .names .now) (args .values .now) (args .store .now) (args .e) (args .text .now) _ (unsound-store (state (args .names .now) (args .values .now) (args .store .now) (args .e)) _ (c .before .before .before .before .before .before .before .before .before .before .before .before .before .sound .ensures) (c .before .before .before .before .before .before .before .before .before .before .before .before .if1 .taken) _ _ (c .before .before .before .find .ensures ∙ ap (found-answer (args .store .now) (args .e .used)) (c .before .before .before .before .asked .ensures)) (c .before .enum-told .given .1)) (c .refused .ensures)
+    let args = c .before .before .before .before .before .before .before .before .before .before .before .before .before .before .before .before .before .args in
+    enter-refused (args .names .now) (args .values .now) (args .store .now) (args .e) (args .text .now) _ (unsound-store (state (args .names .now) (args .values .now) (args .store .now) (args .e)) _ (c .before .before .before .before .before .before .before .before .before .before .before .sound .ensures) (c .before .before .before .before .before .before .before .before .before .before .if1 .taken) _ _ (c .before .before .before .find .ensures ∙ ap (found-answer (args .store .now) (args .e .used)) (c .before .before .before .before .asked .ensures)) (c .before .enum-told .given .1)) (c .refused .ensures)
 
 same-length-3 : tie.Need-same-length-3
 same-length-3 c = search needs
@@ -73,9 +61,9 @@ same-length-5 c = search needs
 
 returns-2 : tie.Need-returns-2
 returns-2 c =
-    let args = c .before .before .before .before .before .before .before .before .before .before .before .before .before .before .before .before .before .before .before .before .before .before .before .before .before .before .before .before .before .before .before .args in
-    let there = sound-there (state (args .names .now) (args .values .now) (args .store .now) (args .e)) _ (c .before .before .before .before .before .before .before .before .before .before .before .before .before .before .before .before .before .before .before .before .before .before .before .before .before .sound .ensures) (c .before .before .before .before .before .before .before .before .before .before .before .before .before .before .before .before .before .before .before .before .before .before .before .before .if1 .taken) _ _ (c .before .before .before .before .before .before .before .before .before .before .before .before .before .before .before .find .ensures ∙ ap (found-answer (args .store .now) (args .e .used)) (c .before .before .before .before .before .before .before .before .before .before .before .before .before .before .before .before .asked .ensures)) (c .before .before .before .before .before .before .before .before .before .before .before .before .before .place .given .0 .0) (c .before .before .before .before .before .before .before .before .before .before .before .before .before .place .given .1) in
-    enter-so (state (args .names .now) (args .values .now) (args .store .now) (args .e)) (args .text .now) _ (there .0) (c .before .before .before .before .before .before .before .before .before .before .before .before .before .before .before .before .before .before .before .before .read .ensures .enters (args .values .now) (args .store .now) _ (c .before .before .before .before .before .before .edit .ensures))
+    let args = c .before .before .before .before .before .before .before .before .before .before .before .before .before .before .before .before .before .before .before .before .before .before .before .before .before .before .before .before .before .args in
+    let there = sound-there (state (args .names .now) (args .values .now) (args .store .now) (args .e)) _ (c .before .before .before .before .before .before .before .before .before .before .before .before .before .before .before .before .before .before .before .before .before .before .before .sound .ensures) (c .before .before .before .before .before .before .before .before .before .before .before .before .before .before .before .before .before .before .before .before .before .before .if1 .taken) _ _ (c .before .before .before .before .before .before .before .before .before .before .before .before .before .before .before .find .ensures ∙ ap (found-answer (args .store .now) (args .e .used)) (c .before .before .before .before .before .before .before .before .before .before .before .before .before .before .before .before .asked .ensures)) (c .before .before .before .before .before .before .before .before .before .before .before .before .before .place .given .0 .0) (c .before .before .before .before .before .before .before .before .before .before .before .before .before .place .given .1) in
+    enter-so (state (args .names .now) (args .values .now) (args .store .now) (args .e)) (args .text .now) _ (there .0) (c .before .before .before .before .before .before .before .before .before .before .before .before .before .before .before .before .before .before .read .ensures .enters (args .values .now) (args .store .now) _ (c .before .before .before .before .before .before .edit .ensures))
 
 same-length-6 : tie.Need-same-length-6
 same-length-6 c = search needs
@@ -90,16 +78,12 @@ enter-spec =
     tie.close
     (tie.spec
     sound-requires
-    slice-aggregate-read
-    slice-aggregate-read-2
     read-requires
     asked-requires
     find-requires
     enum-told
     refused-requires
     enum-known-place
-    slice-aggregate-edit
-    slice-aggregate-edit-2
     edit-requires
     refused-requires-2
     same-length

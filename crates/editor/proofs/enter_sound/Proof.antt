@@ -9,12 +9,6 @@ use borrow.Author.Needs.{needs}
 use Rattle.editor.proofs.enter_sound.Statement.{statement}
 use Rattle.editor.proofs.enter_sound.Tie as tie
 
-slice-aggregate-read : tie.Need-slice-aggregate-read
-slice-aggregate-read c = search needs
-
-slice-aggregate-read-2 : tie.Need-slice-aggregate-read-2
-slice-aggregate-read-2 c = search needs
-
 read-requires : tie.Need-read-requires
 read-requires c κs =
     let args = c .before .before .before .before .before .before .before .args in
@@ -25,21 +19,15 @@ asked-requires c κs = search needs
 
 find-sound-requires : tie.Need-find-sound-requires
 find-sound-requires c κs =
-    let args = c .before .before .before .before .before .before .before .before .before .before .before .before .args in
-    store-sound (state (args .names .now) (args .values .now) (args .store .now) (args .e)) (c .before .before .before .before .before .before .before .before .before .before .before .before .pre)
-
-slice-aggregate-edit : tie.Need-slice-aggregate-edit
-slice-aggregate-edit c = search needs
-
-slice-aggregate-edit-2 : tie.Need-slice-aggregate-edit-2
-slice-aggregate-edit-2 c = search needs
+    let args = c .before .before .before .before .before .before .before .before .before .before .args in
+    store-sound (state (args .names .now) (args .values .now) (args .store .now) (args .e)) (c .before .before .before .before .before .before .before .before .before .before .pre)
 
 edit-requires : tie.Need-edit-requires
 unfolding lines-of
 edit-requires c κs =
-    let args = c .before .before .before .before .before .before .before .before .before .before .before .before .before .before .before .before .before .before .args in
+    let args = c .before .before .before .before .before .before .before .before .before .before .before .before .before .before .before .before .args in
     let there = c .before .before .before .before .before .find-sound .ensures ∙ ap (λ (n : ℕ). place-of n (lines-of (state (args .names .now) (args .values .now) (args .store .now) (args .e)))) (c .before .before .before .before .before .before .asked .ensures) in
-    (c .before .before .before .before .before .before .before .before .before .before .before .before .before .before .before .before .before .before .pre, there, c .before .before .before .before .before .before .before .before .before .before .read .ensures .ready (args .values .now) (args .store .now))
+    (c .before .before .before .before .before .before .before .before .before .before .before .before .before .before .before .before .pre, there, c .before .before .before .before .before .before .before .before .read .ensures .ready (args .values .now) (args .store .now))
 
 same-length : tie.Need-same-length
 same-length c = search needs
@@ -52,20 +40,16 @@ same-length-3 c = search needs
 
 returns : tie.Need-returns
 returns c =
-    let args = c .before .before .before .before .before .before .before .before .before .before .before .before .before .before .before .before .before .before .before .before .before .before .before .before .before .args in
-    c .before .before .before .before .before .before .before .before .before .before .before .before .before .before .before .before .before .read .ensures .enters (args .values .now) (args .store .now) _ (c .before .before .before .before .before .before .edit .ensures)
+    let args = c .before .before .before .before .before .before .before .before .before .before .before .before .before .before .before .before .before .before .before .before .before .before .before .args in
+    c .before .before .before .before .before .before .before .before .before .before .before .before .before .before .before .read .ensures .enters (args .values .now) (args .store .now) _ (c .before .before .before .before .before .before .edit .ensures)
 
 pub enter-sound-spec : {M : Type 1} → statement M
 enter-sound-spec =
     tie.close
     (tie.spec
-    slice-aggregate-read
-    slice-aggregate-read-2
     read-requires
     asked-requires
     find-sound-requires
-    slice-aggregate-edit
-    slice-aggregate-edit-2
     edit-requires
     same-length
     same-length-2

@@ -1,4 +1,5 @@
 use Rattle.list_pieces.specs.NameLaws.{sound-numbered}
+use Rattle.list_check.proofs.Checking.{fail-holds}
 use borrow.Author.Needs.{needs}
 use Rattle.list_check.proofs.check_piece.Statement.{statement}
 use Rattle.list_check.proofs.check_piece.Tie as tie
@@ -14,6 +15,7 @@ check-piece-spec =
     (λ c. search needs)
     (λ c κs. search needs)
     (λ c. search needs)
+    (λ c. search needs)
     (λ c κs. search needs)
     (λ c. search needs)
     (λ c κs. search needs)
@@ -26,11 +28,12 @@ check-piece-spec =
     (λ c. search needs)
     (λ c. rw (c .before .before .before .before .before .piece2 .given .1) (c .before .before .check-text .ensures _ (sound-numbered (c .before .before .before .before .before .before .before .before .before .before .args .names .now) (c .before .before .before .before .before .before .before .before .before .before .args .size) (c .before .before .before .before .before .before .before .before .before .before .pre .2))))
     (λ c. search needs)
-    (λ c. rw (c .before .before .before .before .before .piece3 .given .1) (c .before .before .check-target .ensures))
+    (λ c. rw (c .before .before .before .before .before .piece3 .given .1) (c .before .before .check-target .ensures _ _ (c .before .before .before .before .before .before .before .before .before .before .pre .0)))
+    (λ c. rw (c .enum-told .given .1) (λ end e. fail-holds (record { numbered = (sound-numbered (c .before .before .before .before .before .args .names .now) (c .before .before .before .before .before .args .size) (c .before .before .before .before .before .pre .2)); inside = c .before .before .before .before .before .pre .0; stands = e }) (λ q. q)))
     (λ c. search needs)
     (λ c. rw (c .before .before .before .before .before .piece4 .given .1) (c .before .before .check-variable .ensures _ _ (c .before .before .before .before .before .before .before .before .before .before .pre .0)))
     (λ c. search needs)
-    (λ c. rw (c .before .before .before .before .enum-told .given .1) (c .before .before .check-constant .ensures _ (sound-numbered (c .before .before .before .before .before .before .before .before .before .args .names .now) (c .before .before .before .before .before .before .before .before .before .args .size) (c .before .before .before .before .before .before .before .before .before .pre .2))))
+    (λ c. rw (c .before .before .before .before .enum-told2 .given .1) (c .before .before .check-constant .ensures _ (sound-numbered (c .before .before .before .before .before .before .before .before .before .args .names .now) (c .before .before .before .before .before .before .before .before .before .args .size) (c .before .before .before .before .before .before .before .before .before .pre .2))))
     (λ c. search needs)
     (λ c. rw (c .before .before .before .before .before .piece5 .given .1) (c .before .before .check-quoted .ensures _ (sound-numbered (c .before .before .before .before .before .before .before .before .before .before .args .names .now) (c .before .before .before .before .before .before .before .before .before .before .args .size) (c .before .before .before .before .before .before .before .before .before .before .pre .2))))
     (λ c. search needs)

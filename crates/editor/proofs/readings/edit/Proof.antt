@@ -15,8 +15,8 @@ enum-told c = search needs
 
 take-out-requires : tie.Need-take-out-requires
 take-out-requires c κs =
-    let args = c .before .before .before .before .before .before .before .before .before .before .args in
-    (c .before .before .before .before .before .before .before .before .before .before .pre .0, own-lies (state (args .names .now) (args .values .now) (args .store .now) (args .e)) (args .place) (args .reading) (c .before .before .before .before .before .before .before .before .before .before .pre .1))
+    let args = c .before .before .before .before .before .before .before .before .args in
+    (c .before .before .before .before .before .before .before .before .pre .0, own-lies (state (args .names .now) (args .values .now) (args .store .now) (args .e)) (args .place) (args .reading) (c .before .before .before .before .before .before .before .before .pre .1))
 
 enum-known-reading-2 : tie.Need-enum-known-reading-2
 enum-known-reading-2 c = search needs
@@ -27,11 +27,11 @@ front-requires c κs = search needs
 accept-requires : tie.Need-accept-requires
 accept-requires c κs =
     let args = c .before .before .before .before .before .before .before .before .before .before .before .before .args in
-    (c .before .before .before .before .before .before .before .before .before .before .before .before .pre .0, own-lies (state (args .names .now) (args .values .now) (args .store .now) (args .e)) (args .place) (args .reading) (c .before .before .before .before .before .before .before .before .before .before .before .before .pre .1), readable (state (args .names .now) (args .values .now) (args .store .now) (args .e)) (args .place) (args .reading) (c .before .before .before .before .before .before .before .before .before .before .before .before .pre .1) (args .line .now) (args .fresh .now) (c .before .before .before .before .before .reading2 .given .0 .0) (c .before .before .before .before .before .reading2 .given .1) _ (c .before .before .before .front .ensures) (c .before .before .before .before .before .before .before .before .before .before .before .before .pre .2))
+    (c .before .before .before .before .before .before .before .before .before .before .before .before .pre .0, own-lies (state (args .names .now) (args .values .now) (args .store .now) (args .e)) (args .place) (args .reading) (c .before .before .before .before .before .before .before .before .before .before .before .before .pre .1), readable (state (args .names .now) (args .values .now) (args .store .now) (args .e)) (args .place) (args .reading) (c .before .before .before .before .before .before .before .before .before .before .before .before .pre .1) (args .line .now) (args .fresh .now) (c .before .before .before .before .before .before .before .reading2 .given .0 .0) (c .before .before .before .before .before .before .before .reading2 .given .1) _ (c .before .before .before .front .ensures) (c .before .before .before .before .before .before .before .before .before .before .before .before .pre .2))
 
 returns : tie.Need-returns
 returns c =
-    let args = c .before .before .before .before .before .before .before .before .before .args in
+    let args = c .before .before .before .before .before .before .before .args in
     edits-refused (args .names .now) (args .values .now) (args .store .now) (args .e) (args .line .now) (args .fresh .now) (args .reading) _ _ _ _ (c .before .before .reading .given .1) (c .refused-at .ensures)
 
 same-length : tie.Need-same-length
@@ -45,8 +45,8 @@ same-length-3 c = search needs
 
 returns-2 : tie.Need-returns-2
 returns-2 c =
-    let args = c .before .before .before .before .before .before .before .before .before .before .before .before .before .args in
-    edits-delete (state (args .names .now) (args .values .now) (args .store .now) (args .e)) (args .place) (args .reading) (c .before .before .before .before .before .before .before .before .before .before .before .before .before .pre .1) (args .line .now) (args .fresh .now) _ _ (c .before .before .before .before .before .before .enum-told .given .1) (c .before .before .take-out .ensures)
+    let args = c .before .before .before .before .before .before .before .before .before .before .before .args in
+    edits-delete (state (args .names .now) (args .values .now) (args .store .now) (args .e)) (args .place) (args .reading) (c .before .before .before .before .before .before .before .before .before .before .before .pre .1) (args .line .now) (args .fresh .now) _ _ (c .before .before .before .before .before .before .enum-told .given .1) (c .before .before .take-out .ensures)
 
 same-length-4 : tie.Need-same-length-4
 same-length-4 c = search needs
@@ -60,7 +60,7 @@ same-length-6 c = search needs
 returns-3 : tie.Need-returns-3
 returns-3 c =
     let args = c .before .before .before .before .before .before .before .before .before .before .before .before .before .before .before .before .before .before .before .args in
-    edits-line (state (args .names .now) (args .values .now) (args .store .now) (args .e)) (args .place) (args .reading) (c .before .before .before .before .before .before .before .before .before .before .before .before .before .before .before .before .before .before .before .pre .1) (args .line .now) (args .fresh .now) (c .before .before .before .before .before .before .before .before .before .before .before .before .reading2 .given .0 .0) (c .before .before .before .before .before .before .before .before .before .before .before .before .reading2 .given .1) _ (c .before .before .before .before .before .before .before .before .before .before .front .ensures) _ (c .before .before .before .before .before .before .accept .ensures)
+    edits-line (state (args .names .now) (args .values .now) (args .store .now) (args .e)) (args .place) (args .reading) (c .before .before .before .before .before .before .before .before .before .before .before .before .before .before .before .before .before .before .before .pre .1) (args .line .now) (args .fresh .now) (c .before .before .before .before .before .before .before .before .before .before .before .before .before .before .reading2 .given .0 .0) (c .before .before .before .before .before .before .before .before .before .before .before .before .before .before .reading2 .given .1) _ (c .before .before .before .before .before .before .before .before .before .before .front .ensures) _ (c .before .before .before .before .before .before .accept .ensures)
 
 pub edit-spec : {M : Type 1} → statement M
 edit-spec =

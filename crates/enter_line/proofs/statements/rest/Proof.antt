@@ -9,11 +9,7 @@ rest-spec =
     tie.close
     (tie.spec
     (λ c κs. search needs)
-    (λ c κs. let pre = c .before .before .before .before .before .before .before .before .before .pre in (pre .0, pre .1 .good (c .before .before .before .if1 .left), omega (arith, pre .2), pre .3))
+    (λ c κs. let pre = c .before .before .before .before .before .before .before .pre in (pre .0, pre .1 .good (c .before .before .before .if1 .left), omega (arith, pre .2), pre .3))
+    (λ c. let if1 = c .before .before .before .if1 .taken in rest-raw _ if1 (c .before .before .before .before .before .before .before .pre .1 .raw if1) (c .raw .ensures))
     (search needs)
-    (search needs)
-    (λ c. let if1 = c .before .before .before .before .before .before .before .if1 .taken in rest-raw _ if1 (c .before .before .before .before .before .before .before .before .before .before .before .before .before .pre .1 .raw if1) (c .before .before .before .before .raw .ensures))
-    (search needs)
-    (search needs)
-    (search needs)
-    (λ c. rest-other _ (c .before .before .before .before .before .before .before .before .before .before .if1 .left) (c .before .before .before .before .before .before .follow .ensures)))
+    (λ c. rest-other _ (c .before .before .before .before .before .before .if1 .left) (c .before .before .follow .ensures)))

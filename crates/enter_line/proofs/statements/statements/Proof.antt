@@ -1,5 +1,4 @@
 use native.Mathlib.Omega.{arith}
-use mathlib.Core.Path.{_≡_, refl, _∙_}
 use Prim.Native.Nat.{_-_}
 use lib.ListN.{length}
 use Rattle.enter_item.specs.declared.Step.{Step}
@@ -11,7 +10,7 @@ use Rattle.enter_line.proofs.statements.statements.Statement.{statement
 use Rattle.enter_line.proofs.statements.statements.Tie as tie
 
 abbrev Inv-loop : tie.InvT-loop
-Inv-loop text line₀ names fresh₀ p₀ line fresh p = (length line ≡ length line₀) × (length fresh ≡ length fresh₀) × Asks (env text 0 names) p (mem line fresh)
+Inv-loop text line₀ names fresh₀ p₀ line fresh p = Asks (env text 0 names) p (mem line fresh)
     × ((n : Mem) (r : Step) → Tells (env text 0 names) p (mem line fresh) n r → Tells (env text 0 names) p₀ (mem line₀ fresh₀) n r)
 
 abbrev μ-loop : tie.MeasureT-loop
@@ -23,16 +22,12 @@ statements-spec =
     (tie.spec
     Inv-loop
     μ-loop
-    (λ c. (refl, refl, c .before .before .before .before .pre, λ n r b. b))
-    (λ c κs. c .before .before .loop .inv .2)
+    (λ c. (c .before .before .pre, λ n r b. b))
+    (λ c κs. c .before .before .loop .inv .0)
     (search needs)
-    (λ c. let statement = c .before .before .before .before .before .before .before .statement .ensures .more in omega (arith, statement _ (c .before .next .given .1) .ahead, statement _ (c .before .next .given .1) .asks .within))
-    (λ c. let loop = c .before .before .before .before .before .before .before .before .before .before .loop .inv in let statement = c .before .before .before .before .before .before .before .statement in (statement .kept .1 .1 .0 ∙ loop .0, statement .kept .1 .1 .1 .1 .0 ∙ loop .1, statement .ensures .more _ (c .before .next .given .1) .asks, λ n r b. loop .3 n r (tells-more (statement .ensures .more _ (c .before .next .given .1)) b)))
+    (λ c. let statement = c .before .before .before .statement .ensures .more in omega (arith, statement _ (c .before .next .given .1) .ahead, statement _ (c .before .next .given .1) .asks .within))
+    (λ c. let loop = c .before .before .before .before .before .before .loop .inv in let statement = c .before .before .before .statement in (statement .ensures .more _ (c .before .next .given .1) .asks, λ n r b. loop .1 n r (tells-more (statement .ensures .more _ (c .before .next .given .1)) b)))
     (search needs)
-    (λ c. c .before .before .before .before .before .before .before .statement .kept .1 .1 .0 ∙ c .before .before .before .before .before .before .before .before .before .before .loop .inv .0)
-    (λ c. c .before .before .before .before .before .before .before .statement .kept .1 .1 .1 .1 .0 ∙ c .before .before .before .before .before .before .before .before .before .before .loop .inv .1)
-    (λ c. c .before .before .before .before .before .before .before .before .before .before .loop .inv .3 _ _ (tells-done (c .before .before .before .before .before .before .before .statement .ensures .last _ (c .before .end .given .1))))
+    (λ c. c .before .before .before .before .before .before .loop .inv .1 _ _ (tells-done (c .before .before .before .statement .ensures .last _ (c .before .end .given .1))))
     (search needs)
-    (λ c. c .before .before .before .before .before .before .before .statement .kept .1 .1 .0 ∙ c .before .before .before .before .before .before .before .before .before .before .loop .inv .0)
-    (λ c. c .before .before .before .before .before .before .before .statement .kept .1 .1 .1 .1 .0 ∙ c .before .before .before .before .before .before .before .before .before .before .loop .inv .1)
-    (λ c. c .before .before .before .before .before .before .before .before .before .before .loop .inv .3 _ _ (tells-stop _ _ (c .before .before .before .before .before .before .before .statement .ensures .stop _ _ (c .before .k .given .1)))))
+    (λ c. c .before .before .before .before .before .before .loop .inv .1 _ _ (tells-stop _ _ (c .before .before .before .statement .ensures .stop _ _ (c .before .k .given .1)))))

@@ -3,7 +3,8 @@ use Prim.Native.Nat.{_-_}
 use mathlib.Core.Path.{_≡_, refl, sym, _∙_}
 use lib.ListN.{length, take}
 use Rattle.paper.specs.Names.{names-in}
-use Rattle.list_line.proofs.PassLaws.{capped-most, Measuring, measuring-first, measuring-next, measuring-fails, measuring-open, measuring-wants, measuring-done, size-some}
+use Rattle.list_pieces.specs.PieceLaws.{piece-some}
+use Rattle.list_line.proofs.PassLaws.{capped-most, Measuring, measuring-first, measuring-next, measuring-fails, measuring-open, measuring-wants, measuring-done}
 use borrow.Author.Needs.{needs}
 use Rattle.list_line.proofs.first.measure_body.Statement.{statement}
 use Rattle.list_line.proofs.first.measure_body.Tie as tie
@@ -31,7 +32,7 @@ measure-body-spec =
     (λ c κs. c .before .before .before .before .before .before .before .before .before .before .before .before .before .loop-test .taken)
     (λ c κs. omega (arith, ((c .before .before .before .before .before .before .before .before .before .before .before .check-piece .ensures (c .before .before .before .before .before .before .before .before .before .before .before .before .before .before .before .loop .end) (sym (c .before .before .before .before .before .before .before .before .before .before .before .before .before .piece-at .ensures))) .fits _ (c .before .before .before .before .before .before .before .d .given .1)) .within, c .before .before .before .before .before .before .before .before .before .before .before .before .before .before .before .before .before .before .before .before .before .before .before .before .before .pre .0 .sized, c .before .before .before .before .before .before .before .before .before .before .before .before .before .before .before .before .before .before .before .before .before .before .before .before .shared-slice-known .given 2))
     (λ c. omega (arith, c .size-of .ensures, ((c .before .before .before .before .before .before .before .before .before .before .before .before .check-piece .ensures (c .before .before .before .before .before .before .before .before .before .before .before .before .before .before .before .before .loop .end) (sym (c .before .before .before .before .before .before .before .before .before .before .before .before .before .before .piece-at .ensures))) .fits _ (c .before .before .before .before .before .before .before .before .d .given .1)) .within, c .before .before .before .before .before .before .before .before .before .before .before .before .before .before .before .before .before .before .before .before .before .before .before .before .before .before .pre .0 .sized, c .before .before .before .before .before .before .before .before .before .before .before .before .before .before .before .before .before .before .before .before .before .before .before .before .before .shared-slice-known .given 2))
-    (λ c. omega (arith, c .size-of .ensures, size-some (c .before .before .before .before .before .before .before .before .before .before .before .before .before .before .piece-at .result), ((c .before .before .before .before .before .before .before .before .before .before .before .before .check-piece .ensures (c .before .before .before .before .before .before .before .before .before .before .before .before .before .before .before .before .loop .end) (sym (c .before .before .before .before .before .before .before .before .before .before .before .before .before .before .piece-at .ensures))) .fits _ (c .before .before .before .before .before .before .before .before .d .given .1)) .within, c .before .before .before .before .before .before .before .before .before .before .before .before .before .before .before .loop-test .taken))
+    (λ c. omega (arith, c .size-of .ensures, piece-some _ _ _ _ (sym (c .before .before .before .before .before .before .before .before .before .before .before .before .before .before .piece-at .ensures)), ((c .before .before .before .before .before .before .before .before .before .before .before .before .check-piece .ensures (c .before .before .before .before .before .before .before .before .before .before .before .before .before .before .before .before .loop .end) (sym (c .before .before .before .before .before .before .before .before .before .before .before .before .before .before .piece-at .ensures))) .fits _ (c .before .before .before .before .before .before .before .before .d .given .1)) .within, c .before .before .before .before .before .before .before .before .before .before .before .before .before .before .before .loop-test .taken))
     (λ c. (c .before .before .before .before .before .before .before .before .before .before .before .before .check-piece .kept .1 .1 .1 .1 .1 .0 ∙ c .before .before .before .before .before .before .before .before .before .before .before .before .before .before .before .before .loop .inv .0, c .before .before .before .before .before .write-piece .kept .1 .1 .1 .1 .1 .0 ∙ c .before .before .before .before .before .before .before .before .before .before .before .before .before .before .before .before .loop .inv .1, measuring-next (c .before .before .before .before .before .before .before .before .before .before .before .before .before .before .before .before .loop .inv .2) (c .before .before .before .before .before .before .before .before .before .before .before .before .before .before .before .loop-test .taken) (sym (c .before .before .before .before .before .before .before .before .before .before .before .before .before .before .piece-at .ensures)) ((c .before .before .before .before .before .before .before .before .before .before .before .before .check-piece .ensures (c .before .before .before .before .before .before .before .before .before .before .before .before .before .before .before .before .loop .end) (sym (c .before .before .before .before .before .before .before .before .before .before .before .before .before .before .piece-at .ensures))) .fits _ (c .before .before .before .before .before .before .before .before .d .given .1)) (c .before .before .before .before .before .write-piece .ensures) (c .before .before .longer2 .ensures) (c .before .end-after .ensures) (c .size-of .ensures)))
     (λ c. search needs)
     (λ c. c .before .before .before .before .check-piece .kept .1 .1 .1 .1 .1 .0 ∙ c .before .before .before .before .before .before .before .before .loop .inv .0)

@@ -3,7 +3,8 @@ use Prim.Native.Nat.{_-_}
 use mathlib.Core.Path.{_≡_, refl, sym, _∙_}
 use lib.ListN.{length, take}
 use Rattle.paper.specs.Names.{names-in}
-use Rattle.list_line.proofs.PassLaws.{formed-long, Writing, writing-first, writing-holds, writing-fits, writing-next, writing-done, body-fits, size-some}
+use Rattle.list_pieces.specs.PieceLaws.{piece-some}
+use Rattle.list_line.proofs.PassLaws.{formed-long, Writing, writing-first, writing-holds, writing-fits, writing-next, writing-done, body-fits}
 use Rattle.list_line.proofs.second.write_line.Statement.{statement}
 use Rattle.list_line.proofs.second.write_line.Tie as tie
 
@@ -27,7 +28,7 @@ write-line-spec =
     (λ c κs. c .before .before .before .before .before .loop-test .taken)
     (λ c κs. omega (arith, (writing-holds (c .before .before .before .before .before .before .before .loop .inv .1) (c .before .before .before .before .before .before .loop-test .taken) (sym (c .before .before .before .before .before .piece-at .ensures))) .1))
     (λ c. omega (arith, c .size-of .ensures, (writing-holds (c .before .before .before .before .before .before .before .before .loop .inv .1) (c .before .before .before .before .before .before .before .loop-test .taken) (sym (c .before .before .before .before .before .before .piece-at .ensures))) .1))
-    (λ c. omega (arith, c .size-of .ensures, size-some (c .before .before .before .before .before .before .piece-at .result), (writing-holds (c .before .before .before .before .before .before .before .before .loop .inv .1) (c .before .before .before .before .before .before .before .loop-test .taken) (sym (c .before .before .before .before .before .before .piece-at .ensures))) .1, c .before .before .before .before .before .before .before .loop-test .taken))
+    (λ c. omega (arith, c .size-of .ensures, piece-some _ _ _ _ (sym (c .before .before .before .before .before .before .piece-at .ensures)), (writing-holds (c .before .before .before .before .before .before .before .before .loop .inv .1) (c .before .before .before .before .before .before .before .loop-test .taken) (sym (c .before .before .before .before .before .before .piece-at .ensures))) .1, c .before .before .before .before .before .before .before .loop-test .taken))
     (λ c. (c .before .before .before .before .write-piece .kept .1 .1 .1 .1 .1 .0 ∙ c .before .before .before .before .before .before .before .before .loop .inv .0, writing-next (c .before .before .before .before .before .before .before .before .loop .inv .1) (c .before .before .before .before .before .before .before .loop-test .taken) (sym (c .before .before .before .before .before .before .piece-at .ensures)) (c .before .before .before .before .write-piece .ensures) (c .before .end-after .ensures) (c .size-of .ensures)))
     (λ c. c .before .loop .inv .0 ∙ c .before .before .before .before .write-head .kept .1 .0)
     (λ c. writing-done (c .before .loop .inv .1) (c .before .before .before .before .write-head .ensures) (c .loop-test .left)))

@@ -1,11 +1,14 @@
--- Powers of ten and of a hundred, and the exponent and ten digits that paper's six bytes have.
-use Prim.Native.Nat.{ℕ, zero, suc, _+_, _*_, _/_, _^_, _≤_, _<_}
-use native.Mathlib.Nat.{pow-suc, pow-succ', pow-zero, add-zero, add-suc, mul-assoc, one-le-pow, mul-le-mul-left, le-trans, mul-one, le-div-iff-mul-le, div-lt-iff-lt-mul, one-le-mul, mul-div-mul-right}
+-- Constants: powers of ten and of a hundred, and the exponent and ten digits that paper's six bytes have.
+use Prim.Native.Nat.{ℕ, zero, suc, _+_, _*_, _/_, _%_, _^_, _≤_, _<_}
+use native.Mathlib.Nat.{pow-suc, pow-succ', pow-zero, add-zero, add-suc, mul-assoc, one-le-pow, mul-le-mul-left, le-trans, mul-one, le-div-iff-mul-le, div-lt-iff-lt-mul, one-le-mul}
 use native.Mathlib.Omega.{arith}
 use mathlib.Core.Path.{_≡_, refl, sym, ap, subst, _∙_}
-use mathlib.Core.List.{_∷_}
+use mathlib.Core.List.{List, _∷_}
+use lib.Dec.{T, eqb, eqb→eq}
+use lib.ListN.{length}
 use borrow.Author.Tests.{lt-leb, le-leb, ne-eqb}
-use Rattle.paper.specs.Constants.{powers, six-at, six, five}
+use Rattle.paper.specs.Constants.{powers, six-at, six, five, right-constant?}
+use Rattle.laws.specs.Tests.{and-left}
 
 -- a power of a sum is a product
 pub pow-add : (n a b : ℕ) → n ^ (a + b) ≡ n ^ a * n ^ b
@@ -24,26 +27,9 @@ pow-twice (suc k) =
 pub ten-pos : (k : ℕ) → zero < 10 ^ k
 ten-pos k = one-le-pow k 10 (omega arith)
 
-hundred-pos : (k : ℕ) → zero < 100 ^ k
+-- and powers of a hundred
+pub hundred-pos : (k : ℕ) → zero < 100 ^ k
 hundred-pos k = one-le-pow k 100 (omega arith)
-
--- a quotient of powers of ten goes by their difference
-pub same-quotient : (v a b c d : ℕ) → a + d ≡ c + b → v * 10 ^ a / 10 ^ b ≡ v * 10 ^ c / 10 ^ d
-same-quotient v a b c d e =
-    sym (mul-div-mul-right (v * 10 ^ a) (10 ^ b) (ten-pos d))
-    ∙ ap (λ (n : ℕ). n / (10 ^ b * 10 ^ d)) (mul-assoc v (10 ^ a) (10 ^ d) ∙ ap (λ (n : ℕ). v * n) (sym (pow-add 10 a d) ∙ ap (λ (n : ℕ). 10 ^ n) e ∙ pow-add 10 c b) ∙ sym (mul-assoc v (10 ^ c) (10 ^ b)))
-    ∙ ap (λ (n : ℕ). v * 10 ^ c * 10 ^ b / n) (swapped (10 ^ b) (10 ^ d))
-    ∙ mul-div-mul-right (v * 10 ^ c) (10 ^ d) (ten-pos b)
-  where
-    swapped : (x y : ℕ) → x * y ≡ y * x
-    swapped x y = omega arith
-
--- the ten digits that paper divides out, with powers of ten alone
-pub quotient-is : (v u d k m t : ℕ) → u + 106 + m ≡ t + (d + 2 * k) → v * 10 ^ u * 100 ^ 53 / (10 ^ d * 100 ^ k) ≡ v * 10 ^ t / 10 ^ m
-quotient-is v u d k m t e =
-    ap (λ (n : ℕ). n / (10 ^ d * 100 ^ k)) (mul-assoc v (10 ^ u) (100 ^ 53) ∙ ap (λ (n : ℕ). v * n) (sym (pow-add 10 u 106)))
-    ∙ ap (λ (n : ℕ). v * 10 ^ (u + 106) / n) (ap (λ (n : ℕ). 10 ^ d * n) (sym (pow-twice k)) ∙ sym (pow-add 10 d (2 * k)))
-    ∙ same-quotient v (u + 106) (d + 2 * k) t m e
 
 first : (n m k : ℕ) → n * 100 * 100 ^ k ≤ m → n * 100 ≤ m
 first n m k lo = le-trans (subst (λ (z : ℕ). z ≤ n * 100 * 100 ^ k) (mul-one (n * 100)) (mul-le-mul-left (n * 100) (hundred-pos k))) lo
@@ -77,3 +63,13 @@ six-is v u d k q hv hk hq lo hi =
     let found : powers 97 (10 ^ d) (x * 100 ^ 49) ≡ k =
     powers-is 97 (10 ^ d) (x * 100 ^ 49) k below (subst (λ (z : ℕ). x * 100 ^ 49 < z) (mul-assoc (10 ^ d) (100 ^ k) 100 ∙ ap (λ (z : ℕ). 10 ^ d * z) (sym (pow-suc 100 k))) above) hk in
     rw (ne-eqb v 0 (λ e. omega arith), found, hq)
+
+-- five pairs below 100 come apart again
+pub pairs-apart : (m1 m2 m3 m4 m5 q : ℕ) → m1 < 100 → m2 < 100 → m3 < 100 → m4 < 100 → m5 < 100 → q ≡ (((m1 * 100 + m2) * 100 + m3) * 100 + m4) * 100 + m5
+    → (q / 100000000 % 100 ≡ m1) × (q / 1000000 % 100 ≡ m2) × (q / 10000 % 100 ≡ m3) × (q / 100 % 100 ≡ m4) × (q % 100 ≡ m5)
+pairs-apart m1 m2 m3 m4 m5 q h1 h2 h3 h4 h5 e = (omega arith, omega arith, omega arith, omega arith, omega arith)
+
+-- a right constant has six bytes
+pub six-long : (b : List ℕ) → T (right-constant? b) → length b ≡ 6
+unfolding right-constant?
+six-long b t = eqb→eq (length b) 6 (and-left (eqb (length b) 6) _ t)
