@@ -1,5 +1,5 @@
--- Where the refused item starts and ends (document 02, §8), worked out by hand: items of each kind, the line's end, bytes that start no item, and 9B in raw
--- text. As one table and one theorem.
+-- Where the refused item starts and ends (document 02, §8), worked out by hand: items of each kind, the line's end, bytes that start no item, and 9B in strings and
+-- in raw text. As one table and one theorem.
 use mathlib.Core.Path.{_≡_, refl}
 use mathlib.Core.List.{List, [], _∷_, _++_}
 use Rattle.paper.specs.Bytes.{bytes}
@@ -37,6 +37,15 @@ ends =
     ∷ refused (bytes "10 NEXT \"A\"") 4 8 11
     ∷ refused (bytes "10 NEXT \"\"") 4 8 10
     ∷ refused (bytes "10 ? \"A\"\"B\"") 4 8 11
+    -- strings left open, to the text's end
+    ∷ refused (bytes "10 NEXT \"A") 4 8 10
+    ∷ refused (bytes "10 NEXT \"A  ") 4 8 12
+    ∷ refused (bytes "10 ? \"A\"\"") 4 8 9
+    -- strings with 9B, closed or open, to the first 9B, where a string may stand and where not
+    ∷ refused (bytes "10 ? \"A" ++ 0x9b ∷ bytes "B\"") 4 5 7
+    ∷ refused (bytes "10 ? \"A" ++ 0x9b ∷ 0x9b ∷ bytes "B") 4 5 7
+    ∷ refused (bytes "10 ? \"" ++ 0x9b ∷ []) 4 5 6
+    ∷ refused (bytes "10 NEXT \"A" ++ 0x9b ∷ bytes "B\"") 4 8 10
     -- symbols of one byte and of two
     ∷ refused (bytes "10 A=1=<=2") 4 7 9
     ∷ refused (bytes "10 A=<>2") 4 5 7

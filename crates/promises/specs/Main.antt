@@ -1,22 +1,21 @@
 -- The promises, about the definitions of `paper`. The terms in which they are stated are in Terms.antt.
 use Prim.Native.Nat.{ℕ, zero, _+_, _≤_, _<_}
 use mathlib.Core.Path.{_≡_}
-use mathlib.Core.Bool.{Bool, false}
+use mathlib.Core.Bool.{Bool}
 use mathlib.Core.Logic.{_↔_, _⊎_}
-use mathlib.Core.List.{List, [], _∷_, List·Memᴰ}
+use mathlib.Core.List.{List, List·Memᴰ}
 use lib.Dec.{T}
 use lib.ListN.{length, take}
-use Rattle.paper.specs.Tokens.{constant, unreadable}
+use Rattle.paper.specs.Tokens.{constant}
 use Rattle.paper.specs.Constants.{in-range, six, zero-bytes, right-constant?, constant-text}
 use Rattle.paper.specs.Names.{sound-names}
-use Rattle.paper.specs.Items.{Item, Span, no-span, item, item-at, size-at}
+use Rattle.paper.specs.Items.{Item, Span, no-span, item, item-at}
 use Rattle.paper.specs.Line.{line-number}
 use Rattle.paper.specs.WellFormed.{WellFormed, well-formed?}
 use Rattle.paper.specs.Listing.{listing}
 use Rattle.paper.specs.Store.{room, line-at, put-line}
 use Rattle.paper.specs.Calls.{State, names-of, lines-of, sound-state, enter, list}
-use Rattle.promises.specs.Terms.{number-end, past-number, items-in, NoReading, OutOfRange, EndsThere, Readable, Exactly, Unread, TooFar, text-refusals, listing-refusals, Edited, Written, HoldsWellFormed, CutTo, old-size, with-lines, accepted-with}
-use Rattle.laws.specs.Ends as Ends′
+use Rattle.promises.specs.Terms.{number-end, past-number, items-in, NoReading, OutOfRange, Readable, Exactly, Unread, TooFar, text-refusals, listing-refusals, Edited, Written, HoldsWellFormed, CutTo, old-size, with-lines, accepted-with}
 use Rattle.promises.specs.ConstantRight as ConstantRight′
 use Rattle.promises.specs.ConstantSize as ConstantSize′
 use Rattle.promises.specs.RoundTrip as RoundTrip′
@@ -41,23 +40,6 @@ place-of-5 text s h = Answers′.place-five text s h
 -- every other answer
 pub no-place : (text : List ℕ) (s : State) → ((enter text s) .number ≡ 4 → ⊥) → ((enter text s) .number ≡ 5 → ⊥) → (enter text s) .place ≡ no-span
 no-place text s h k = Answers′.no-place text s h k
-
--- The end beside the place (document 02, §8) is the refused item's own (`at` in `NoReading` and `OutOfRange`), and past the item that stands at the place in the
--- text, whatever was read before it. At the text's end stands none, and a 9B has one byte.
-pub place-ends : (text : List ℕ) (s : State) → ((enter text s) .number ≡ 4) ⊎ ((enter text s) .number ≡ 5) → EndsThere text ((enter text s) .place)
-place-ends text s h = Answers′.place-ends text s h
-
--- nothing stands at the end
-pub nothing-there : size-at [] ≡ 0
-nothing-there = Ends′.end-size
-
--- a 9B, as in the text after REM and DATA
-pub mark-there : (s : List ℕ) → size-at (0x9b ∷ s) ≡ 1
-mark-there s = Ends′.mark-size s
-
--- a byte that starts no item: no letter, no digit, no point before one, no quote, and no symbol begins with it
-pub unfit-there : (b : ℕ) (s : List ℕ) → (item-at false 0 (b ∷ s)) .token ≡ unreadable → (b ≡ 34 → ⊥) → size-at (b ∷ s) ≡ 1
-unfit-there b s h q = Ends′.unfit-size b s h q
 
 -- 2. A refused call leaves every buffer and count as given, and answers counts 0. An accepted listing writes the text of the line and leaves
 -- every other byte as it was.
