@@ -1,20 +1,25 @@
 -- The walk over the lines of a store: a turn of it, and what it decides.
 use Prim.Native.Nat.{ℕ, zero, suc, pred, _+_, _*_, _-_, _≤_, _<_}
+use native.Mathlib.Nat.{add-zero, zero-add}
 use native.Mathlib.Numerals.{add-one}
 use native.Mathlib.Omega.{arith}
 use mathlib.Core.Path.{_≡_, refl, sym, ap, ap₂, _∙_, subst}
 use mathlib.Core.Bool.{Bool, true, false, _&&_, and-false}
 use mathlib.Core.List.{List, [], _∷_, _++_}
-use lib.Dec.{T, leb, ltb, eqb, leb→le, eqb→eq, leb·zero}
+use lib.Dec.{T, leb, ltb, eqb, leb→le, ltb→lt, eqb→eq, leb·zero}
 use lib.ListN.{length, take, drop, getD, length-take, length-drop, length-append}
 use lib.Seq.{getD-take, take-all, length-take-le, drop-drop}
-use borrow.Author.Tests.{le-leb, lt-leb, le-ltb, lt-ltb, eq-eqb, ne-eqb, leb-false, ltb-true, ltb-false}
+use borrow.Author.Tests.{le-leb, lt-leb, le-ltb, lt-ltb, eq-eqb, ne-eqb, ltb-false}
 use Rattle.paper.specs.Bytes.{pick, every, joined}
 use Rattle.paper.specs.Line.{line-number, lawful-number?}
-use Rattle.paper.specs.Store.{lines-from, lines-in, whole-line?, rising-above, rising, sound-lines, room, sound-store, lines-below}
+use Rattle.paper.specs.Store.{lines-from, lines-in, whole-line?, rising-above, rising, sound-lines, greatest-number, room, sound-store, lines-below}
 use Rattle.laws.specs.Tests.{and-left, and-right, and-both, as-T, is-true}
-use Rattle.laws.specs.Lines.{lines-next}
-use Rattle.store.specs.Walks.{passes?, passing-size, passed, walked, rising-from, sound-lines-from, sound-from}
+use Rattle.laws.specs.Lines.{lines-next, joined-append, room-lent}
+use Rattle.store.specs.declared.Walked.{Walked}
+use Rattle.store.specs.declared.Counts.{Counts}
+use Rattle.store.specs.Walks.{passes?, passing-size, passed, least-after, start, past-lines, walked-on, Within, all-passed}
+use Rattle.store.specs.Answers.{sound-counts}
+use Rattle.store.specs.Pairs.{greatest-next}
 
 -- ---- the first line of some bytes
 
@@ -143,15 +148,22 @@ module _ (k n : ℕ) (s : List ℕ) where
   goes-go true e h = e
   goes-go false e h = absurd (h refl)
 
-walk-none : (k n : ℕ) (s : List ℕ) → passes? k n (take (getD s 2 0) s) ≡ false → walked k n s ≡ 0
-unfolding walked lines-in lines-from passed joined
-walk-none k n [] e = refl
-walk-none k n (b ∷ s) e = rw (e)
+-- a walk at an offset, past so many lines, whose next number is from k on; and as it goes on over the bytes s
+abbrev pub walking : ℕ → ℕ → ℕ → Walked
+walking at count k = record { at = at; lines = count; least = k }
+
+abbrev pub onward : ℕ → ℕ → ℕ → ℕ → List ℕ → Walked
+onward at count k n s = past-lines (walking at count k) (passed k n (lines-in s))
+
+none-passed : (k n : ℕ) (s : List ℕ) → passes? k n (take (getD s 2 0) s) ≡ false → passed k n (lines-in s) ≡ []
+unfolding lines-in lines-from passed
+none-passed k n [] e = refl
+none-passed k n (b ∷ s) e = rw (e)
 
 -- a line that is not passed ends it
-pub walk-stops : (k n : ℕ) (s : List ℕ) → passing-size k n s ≡ 0 → walked k n s ≡ 0
-unfolding passing-size
-walk-stops k n s h = walk-none k n s (stops-go k n s (passes? k n (take (getD s 2 0) s)) refl h)
+pub walk-stops : (at count k n : ℕ) (s : List ℕ) → passing-size k n s ≡ 0 → onward at count k n s ≡ walking at count k
+unfolding passing-size past-lines least-after joined
+walk-stops at count k n s h = rw (none-passed k n s (stops-go k n s (passes? k n (take (getD s 2 0) s)) refl h), add-zero at, add-zero count)
 
 -- a line that is passed: the walk goes on after it
 pub record Goes (k n : ℕ) (s : List ℕ) : Type 0 where
@@ -159,10 +171,10 @@ pub record Goes (k n : ℕ) (s : List ℕ) : Type 0 where
   pub long : 6 ≤ getD s 2 0
   pub fits : getD s 2 0 ≤ length s
   pub small : line-number s ≤ 32767
-  pub next : walked k n s ≡ getD s 2 0 + walked (line-number s + 1) n (drop (getD s 2 0) s)
+  pub next : passed k n (lines-in s) ≡ take (getD s 2 0) s ∷ passed (line-number s + 1) n (lines-in (drop (getD s 2 0) s))
 
 pub walk-goes : (k n : ℕ) (s : List ℕ) → (passing-size k n s ≡ 0 → ⊥) → Goes k n s
-unfolding passing-size walked passed joined passes?
+unfolding passing-size passed passes?
 walk-goes k n s h =
     let m : ℕ = getD s 2 0 in
     let l : List ℕ = take m s in
@@ -177,11 +189,37 @@ walk-goes k n s h =
       fits = f .fits;
       small = omega (arith, e, lawful l (is-true (whole-line? l) w));
       next =
-          ap (λ (x : List (List ℕ)). length (joined (passed k n x))) (lines-next s (omega (arith, f .long)))
-          ∙ ap (λ (b : Bool). length (joined (pick b (l ∷ p) []))) t
-          ∙ length-append l (joined p)
-          ∙ ap₂ (λ (x y : ℕ). x + length (joined (passed y n (lines-in (drop m s))))) (length-take-le m s (f .fits)) (ap suc e ∙ sym (add-one (line-number s)));
+          ap (passed k n) (lines-next s (omega (arith, f .long)))
+          ∙ ap (λ (b : Bool). pick b (l ∷ p) []) t
+          ∙ ap (λ (y : ℕ). l ∷ passed y n (lines-in (drop m s))) (ap suc e ∙ sym (add-one (line-number s)));
     }
+
+-- the walk over the last bytes of all, from its offset on, where it begins
+pub begins : (lines : List ℕ) (w : Walked) (n : ℕ) → Within w lines → (rest : List ℕ) → rest ≡ drop (w .at) lines
+    → (length rest ≤ length lines) × (w .lines + length rest ≤ length lines) × (onward (length lines - length rest) (w .lines) (w .least) n rest ≡ walked-on w n lines)
+unfolding walked-on
+begins lines w n h rest e =
+    let size : length rest ≡ length lines - w .at = ap length e ∙ length-drop (w .at) lines in
+    let at : length lines - length rest ≡ w .at = omega (arith, h .0) in
+    (omega arith, omega (arith, h .0, h .1), ap₂ (λ (x : ℕ) (y : List ℕ). onward x (w .lines) (w .least) n y) at e)
+
+-- a turn of the walk over the last bytes s of `all`: past the first line of these, which leaves `rest`
+pub turn : (all count k n : ℕ) (s : List ℕ) → Goes k n s → length s ≤ all → (own : ℕ) → own ≡ line-number s → (rest : List ℕ) → rest ≡ drop (getD s 2 0) s
+    → onward (all - length rest) (count + 1) (own + 1) n rest ≡ onward (all - length s) count k n s
+unfolding past-lines least-after joined
+turn all count k n s g h own e rest d =
+    let m : ℕ = getD s 2 0 in
+    let l : List ℕ = take m s in
+    let ps : List (List ℕ) = passed (line-number s + 1) n (lines-in (drop m s)) in
+    let size : length l ≡ m = length-take-le m s (g .fits) in
+    let number : line-number l ≡ line-number s = first-number s m (omega (arith, g .long)) in
+    let at : all - length rest + length (joined ps) ≡ all - length s + length (l ++ joined ps) = omega (arith, length-append l (joined ps), ap length d, length-drop m s, g .fits) in
+    let lines : count + 1 + length ps ≡ count + suc (length ps) = omega arith in
+    let make : ℕ → ℕ → ℕ → Walked = λ a c k. record { at = a; lines = c; least = least-after k ps } in
+    ap₂ (λ (x : ℕ) (y : List ℕ). onward (all - length rest) (count + 1) (x + 1) n y) e d
+    ∙ ap₂ (λ (x y : ℕ). make x y (line-number s + 1)) at lines
+    ∙ ap (make (all - length s + length (l ++ joined ps)) (count + suc (length ps))) (add-one (line-number s) ∙ ap suc (sym number))
+    ∙ sym (ap (past-lines (walking (all - length s) count k)) (g .next))
 
 -- ---- the lines that are left
 
@@ -231,46 +269,106 @@ ends-from (b ∷ s) zero k n =
     let g = ends-go b s k n (passes? k n (line b s)) refl (ends-from s (pred (size b s)) (suc (line-number (line b s))) n) in
     record { inside = g .0; lines = g .1 }
 
+-- the bytes of the lines that are passed
+abbrev walked : ℕ → ℕ → List ℕ → ℕ
+walked k n s = length (joined (passed k n (lines-in s)))
+
 -- the walk ends within the bytes
-pub walked-within : (k n : ℕ) (s : List ℕ) → walked k n s ≤ length s
-unfolding walked lines-in
+walked-within : (k n : ℕ) (s : List ℕ) → walked k n s ≤ length s
+unfolding lines-in
 walked-within k n s = ends-from s 0 k n .inside
 
 -- and what follows are the lines that are left
 lines-left : (k n : ℕ) (s : List ℕ) → lines-in (drop (walked k n s) s) ≡ left k n (lines-in s)
-unfolding walked lines-in
+unfolding lines-in
 lines-left k n s = ends-from s 0 k n .lines
 
+-- ---- a walk in two parts
+
+least-both : (k : ℕ) (a b : List (List ℕ)) → least-after k (a ++ b) ≡ least-after (least-after k a) b
+unfolding least-after
+least-both k [] b = refl
+least-both k (l ∷ a) b = least-both (suc (line-number l)) a b
+
+-- past some lines, and then past others
+past-both : (w : Walked) (a b : List (List ℕ)) → past-lines (past-lines w a) b ≡ past-lines w (a ++ b)
+unfolding past-lines
+past-both w a b =
+    let at : w .at + length (joined a) + length (joined b) ≡ w .at + length (joined (a ++ b)) = omega (arith, ap length (joined-append a b), length-append (joined a) (joined b)) in
+    let lines : w .lines + length a + length b ≡ w .lines + length (a ++ b) = omega (arith, length-append a b) in
+    let make : ℕ → ℕ → ℕ → Walked = λ x y z. record { at = x; lines = y; least = z } in
+    ap₂ (λ (x y : ℕ). make x y (least-after (least-after (w .least) a) b)) at lines ∙ ap (make (w .at + length (joined (a ++ b))) (w .lines + length (a ++ b))) (sym (least-both (w .least) a b))
+
+-- a walk that has not begun is within all bytes
+pub start-within : (s : List ℕ) (w : Walked) → w ≡ start → Within w s
+start-within s w e = let at = ap (λ (x : Walked). x .at) e in let lines = ap (λ (x : Walked). x .lines) e in (omega arith, omega arith)
+
+-- and goes on from the start
+pub on-from-start : (n : ℕ) (s : List ℕ) (w v : Walked) → w ≡ start → v ≡ walked-on w n s → v ≡ walked-on start n s
+on-from-start n s w v e d = d ∙ ap (λ (x : Walked). walked-on x n s) e
+
+-- a walk from the start past some lines
+pub from-start : (ls : List (List ℕ)) → past-lines start ls ≡ walking (length (joined ls)) (length ls) (least-after 0 ls)
+unfolding past-lines
+from-start ls = rw (zero-add (length (joined ls)), zero-add (length ls))
+
+-- it ends within the bytes
+pub walk-inside : (n : ℕ) (s : List ℕ) (w : Walked) → w ≡ walked-on start n s → w .at ≤ length s
+unfolding walked-on
+walk-inside n s w e = subst (λ (k : ℕ). k ≤ length s) (sym (ap (λ (x : Walked). x .at) (e ∙ from-start (passed 0 n (lines-in s))))) (walked-within 0 n s)
+
+-- what is passed below a number is passed below all
+passes-all : (k n : ℕ) (l : List ℕ) → passes? k n l ≡ true → passes? k 32768 l ≡ true
+unfolding passes?
+passes-all k n l e =
+    let t = as-T (passes? k n l) e in
+    let w : whole-line? l ≡ true = is-true (whole-line? l) (and-left (whole-line? l) _ t) in
+    let low : leb k (line-number l) ≡ true = is-true (leb k (line-number l)) (and-left (leb k (line-number l)) _ (and-right (whole-line? l) _ t)) in
+    rw (w, low, lt-ltb (line-number l) 32768 (omega (arith, lawful l w)))
+
+passed-both : (k n : ℕ) (ls : List (List ℕ)) → passed k n ls ++ passed (least-after k (passed k n ls)) 32768 (left k n ls) ≡ passed k 32768 ls
+unfolding passed least-after left
+passed-both k n [] = refl
+passed-both k n (l ∷ ls) = go (passes? k n l) refl (passed-both (suc (line-number l)) n ls)
+  where
+    go : (b : Bool) → passes? k n l ≡ b → passed (suc (line-number l)) n ls ++ passed (least-after (suc (line-number l)) (passed (suc (line-number l)) n ls)) 32768 (left (suc (line-number l)) n ls) ≡ passed (suc (line-number l)) 32768 ls
+        → pick b (l ∷ passed (suc (line-number l)) n ls) [] ++ passed (least-after k (pick b (l ∷ passed (suc (line-number l)) n ls) [])) 32768 (pick b (left (suc (line-number l)) n ls) (l ∷ ls)) ≡ passed k 32768 (l ∷ ls)
+    go true e others = rw (passes-all k n l e) (ap (λ (z : List (List ℕ)). l ∷ z) others)
+    go false e others = refl
+
+-- a walk up to a number, and on from there past all others, is a walk past all
+pub walk-resumed : (n : ℕ) (s : List ℕ) → walked-on (walked-on start n s) 32768 s ≡ walked-on start 32768 s
+unfolding walked-on
+walk-resumed n s =
+    let ls : List (List ℕ) = lines-in s in
+    let first : List (List ℕ) = passed 0 n ls in
+    let others : List (List ℕ) = passed (least-after 0 first) 32768 (left 0 n ls) in
+    ap (λ (w : Walked). walked-on w 32768 s) (from-start first)
+    ∙ ap (λ (z : List (List ℕ)). past-lines (walking (length (joined first)) (length first) (least-after 0 first)) (passed (least-after 0 first) 32768 z)) (lines-left 0 n s)
+    ∙ ap (λ (w : Walked). past-lines w others) (sym (from-start first))
+    ∙ past-both start first others
+    ∙ ap (past-lines start) (passed-both 0 n ls)
+
 -- ---- what the walk decides
+
+-- numbers strictly rising, the first not below k
+unfoldable rising-from : ℕ → List (List ℕ) → Bool
+rising-from k [] = true
+rising-from k (l ∷ ls) = leb k (line-number l) && rising-above (line-number l) ls
+
+-- whole lines with such numbers
+unfoldable sound-lines-from : ℕ → List (List ℕ) → Bool
+sound-lines-from k ls = every whole-line? ls && rising-from k ls
+
+from-zero : (ls : List (List ℕ)) → sound-lines-from 0 ls ≡ sound-lines ls
+unfolding sound-lines-from sound-lines rising-from rising
+from-zero [] = refl
+from-zero (l ∷ ls) = rw (leb·zero (line-number l))
 
 from-above : (n : ℕ) (ls : List (List ℕ)) → rising-above n ls ≡ rising-from (suc n) ls
 unfolding rising-from rising-above
 from-above n [] = refl
 from-above n (l ∷ ls) = refl
-
--- the lines that are left decide, with numbers from n on
-left-sound : (k n : ℕ) (ls : List (List ℕ)) → k ≤ n → sound-lines-from k ls ≡ sound-lines-from n (left k n ls)
-unfolding sound-lines-from rising-from every left passes?
-left-sound k n [] h = refl
-left-sound k n (l ∷ ls) h = go (whole-line? l) (leb k (line-number l)) (ltb (line-number l) n) refl refl refl (λ q. left-sound (suc (line-number l)) n ls q)
-  where
-    go : (w a c : Bool) → whole-line? l ≡ w → leb k (line-number l) ≡ a → ltb (line-number l) n ≡ c
-        → (suc (line-number l) ≤ n → sound-lines-from (suc (line-number l)) ls ≡ sound-lines-from n (left (suc (line-number l)) n ls))
-        → (w && every whole-line? ls) && (a && rising-above (line-number l) ls) ≡ sound-lines-from n (pick (w && (a && c)) (left (suc (line-number l)) n ls) (l ∷ ls))
-    go false a c ew ea ec others = sym (rw (ew))
-    go true false c ew ea ec others =
-        let low : leb n (line-number l) ≡ false = lt-leb n (line-number l) (omega (arith, leb-false k (line-number l) ea)) in
-        and-false (every whole-line? ls) ∙ sym (rw (low, and-false (whole-line? l && every whole-line? ls)))
-    go true true false ew ea ec others =
-        let high : leb n (line-number l) ≡ true = le-leb n (line-number l) (ltb-false (line-number l) n ec) in
-        sym (rw (ew, high))
-    go true true true ew ea ec others =
-        ap (λ (b : Bool). every whole-line? ls && b) (from-above (line-number l) ls) ∙ others (omega (arith, ltb-true (line-number l) n ec))
-
--- the walk parts the test in two
-pub sound-parts : (k n : ℕ) (s : List ℕ) → k ≤ n → sound-from k s ≡ sound-from n (drop (walked k n s) s)
-unfolding sound-from
-sound-parts k n s h = left-sound k n (lines-in s) h ∙ ap (sound-lines-from n) (sym (lines-left k n s))
 
 unfoldable none : List (List ℕ) → Bool
 none [] = true
@@ -295,15 +393,15 @@ unfolding none lines-in lines-from
 none-in [] = refl
 none-in (b ∷ s) = sym (ne-eqb (length (b ∷ s)) 0 (λ z. omega arith))
 
--- the walk over all numbers goes to the end of sound lines, and of no others
-pub sound-walked : (k : ℕ) (s : List ℕ) → eqb (walked k 32768 s) (length s) ≡ sound-from k s
-unfolding sound-from
-sound-walked k s =
-    same-test (walked k 32768 s) (length s) (walked-within k 32768 s)
-    ∙ ap (λ (x : ℕ). eqb x 0) (sym (length-drop (walked k 32768 s) s))
-    ∙ sym (none-in (drop (walked k 32768 s) s))
-    ∙ ap none (lines-left k 32768 s)
-    ∙ sym (left-none k (lines-in s))
+-- the walk past all numbers goes to the end of sound lines, and of no others
+sound-walked : (s : List ℕ) → eqb (walked 0 32768 s) (length s) ≡ sound-lines (lines-in s)
+sound-walked s =
+    same-test (walked 0 32768 s) (length s) (walked-within 0 32768 s)
+    ∙ ap (λ (x : ℕ). eqb x 0) (sym (length-drop (walked 0 32768 s) s))
+    ∙ sym (none-in (drop (walked 0 32768 s) s))
+    ∙ ap none (lines-left 0 32768 s)
+    ∙ sym (left-none 0 (lines-in s))
+    ∙ from-zero (lines-in s)
   where
     same-test : (a b : ℕ) → a ≤ b → eqb a b ≡ eqb (b - a) 0
     same-test a b h = go (eqb a b) refl
@@ -313,36 +411,86 @@ sound-walked k s =
         go false e = sym (ne-eqb (b - a) 0 (λ z. let same : eqb a b ≡ true = eq-eqb a b (omega arith) in let one : _≡_ {A = ℕ} 0 1 = cc in omega arith))
 
 -- among sound lines those that are passed are the lines below the number
-passed-below : (k n : ℕ) (ls : List (List ℕ)) → T (sound-lines-from k ls) → passed k n ls ≡ lines-below n ls
+below-from : (k n : ℕ) (ls : List (List ℕ)) → T (sound-lines-from k ls) → passed k n ls ≡ lines-below n ls
 unfolding sound-lines-from rising-from every passed lines-below passes?
-passed-below k n [] t = refl
-passed-below k n (l ∷ ls) t =
+below-from k n [] t = refl
+below-from k n (l ∷ ls) t =
     let a : T (whole-line? l && every whole-line? ls) = and-left (whole-line? l && every whole-line? ls) _ t in
     let b : T (leb k (line-number l) && rising-above (line-number l) ls) = and-right (whole-line? l && every whole-line? ls) _ t in
     let w : whole-line? l ≡ true = is-true (whole-line? l) (and-left (whole-line? l) _ a) in
     let low : leb k (line-number l) ≡ true = is-true (leb k (line-number l)) (and-left (leb k (line-number l)) _ b) in
     let e : T (every whole-line? ls) = and-right (whole-line? l) _ a in
     let r : T (rising-from (suc (line-number l)) ls) = subst T (from-above (line-number l) ls) (and-right (leb k (line-number l)) _ b) in
-    rw (w, low, passed-below (suc (line-number l)) n ls (and-both (every whole-line? ls) (rising-from (suc (line-number l)) ls) e r))
+    rw (w, low, below-from (suc (line-number l)) n ls (and-both (every whole-line? ls) (rising-from (suc (line-number l)) ls) e r))
 
--- in sound lines the walk goes to the first that is not below the number
-pub walked-sound : (n : ℕ) (s : List ℕ) → T (sound-from 0 s) → walked 0 n s ≡ length (joined (lines-below n (lines-in s)))
-unfolding walked sound-from
-walked-sound n s t = ap (λ (x : List (List ℕ)). length (joined x)) (passed-below 0 n (lines-in s) t)
+pub passed-below : (n : ℕ) (ls : List (List ℕ)) → T (sound-lines ls) → passed 0 n ls ≡ lines-below n ls
+passed-below n ls t = below-from 0 n ls (subst T (sym (from-zero ls)) t)
+
+all-below : (ls : List (List ℕ)) → T (every whole-line? ls) → lines-below 32768 ls ≡ ls
+unfolding every lines-below
+all-below [] t = refl
+all-below (l ∷ ls) t =
+    let w = lawful l (is-true (whole-line? l) (and-left (whole-line? l) _ t)) in
+    rw (lt-ltb (line-number l) 32768 (omega arith), all-below ls (and-right (whole-line? l) _ t))
+
+-- sound lines rise
+pub sound-rising : (ls : List (List ℕ)) → T (sound-lines ls) → T (rising ls)
+unfolding sound-lines
+sound-rising ls t = and-right (every whole-line? ls) (rising ls) t
+
+all-lines : (ls : List (List ℕ)) → T (sound-lines ls) → passed 0 32768 ls ≡ ls
+unfolding sound-lines
+all-lines ls t = passed-below 32768 ls t ∙ all-below ls (and-left (every whole-line? ls) _ t)
+
+-- ---- the greatest number
+
+-- after rising lines the least number is one above the greatest
+least-greatest : (n : ℕ) (ls : List (List ℕ)) → T (rising-above n ls) → least-after (suc n) ls ≡ suc (pick (leb (greatest-number ls) n) n (greatest-number ls))
+unfolding least-after rising-above greatest-number
+least-greatest n [] t = rw (leb·zero n)
+least-greatest n (l ∷ ls) t =
+    let h : n < line-number l = ltb→lt n (line-number l) (and-left (ltb n (line-number l)) _ t) in
+    let high : leb (greatest-number (l ∷ ls)) n ≡ false = lt-leb (greatest-number (l ∷ ls)) n (omega (arith, greatest-next l ls)) in
+    least-greatest (line-number l) ls (and-right (ltb n (line-number l)) _ t) ∙ ap (λ (b : Bool). suc (pick b n (greatest-number (l ∷ ls)))) (sym high)
+
+pub last-greatest : (ls : List (List ℕ)) → T (rising ls) → pred (least-after 0 ls) ≡ greatest-number ls
+unfolding least-after rising greatest-number
+last-greatest [] t = refl
+last-greatest (l ∷ ls) t = ap pred (least-greatest (line-number l) ls t)
 
 -- ---- the whole store
 
-from-zero : (ls : List (List ℕ)) → rising-from 0 ls ≡ rising ls
-unfolding rising-from rising
-from-zero [] = refl
-from-zero (l ∷ ls) = rw (leb·zero (line-number l))
+-- the test of a walk, where offset and lines are as counted
+pub last-decides : (c : Counts) (w : Walked) → w .at ≡ c .used → c .lines ≡ w .lines → (last : ℕ) → last ≡ pred (w .least) → eqb (c .greatest) last ≡ all-passed c w
+unfolding all-passed
+last-decides c w a l last e = ap (eqb (c .greatest)) e ∙ sym (rw (eq-eqb (w .at) (c .used) a, eq-eqb (c .lines) (w .lines) l))
 
--- its used bytes, within the room
-pub sound-used : (store : List ℕ) (used : ℕ) → used ≤ room store → sound-from 0 (take used store) ≡ sound-store store used
-unfolding sound-from sound-lines-from sound-store sound-lines
-sound-used store used h = rw (le-leb used (room store) h, from-zero (lines-in (take used store)))
+-- the walk past all numbers decides
+pub walk-decides : (store : List ℕ) (c : Counts) → c .used ≤ room store → all-passed c (walked-on start 32768 (take (c .used) store)) ≡ sound-counts store c
+unfolding all-passed walked-on sound-counts sound-store
+walk-decides store c h = ap (all-passed c) (from-start (passed 0 32768 ls)) ∙ go (sound-lines ls) refl
+  where
+    s : List ℕ
+    s = take (c .used) store
+
+    ls : List (List ℕ)
+    ls = lines-in s
+
+    size : length s ≡ c .used
+    size = length-take-le (c .used) store (omega (arith, h, room-lent store))
+
+    ended : eqb (length (joined (passed 0 32768 ls))) (c .used) ≡ sound-lines ls
+    ended = ap (eqb (length (joined (passed 0 32768 ls)))) (sym size) ∙ sound-walked s
+
+    go : (b : Bool) → sound-lines ls ≡ b
+        → eqb (length (joined (passed 0 32768 ls))) (c .used) && (eqb (c .lines) (length (passed 0 32768 ls)) && eqb (c .greatest) (pred (least-after 0 (passed 0 32768 ls))))
+        ≡ (leb (c .used) (room store) && sound-lines ls) && (eqb (c .lines) (length ls) && eqb (c .greatest) (greatest-number ls))
+    go true e =
+        let t : T (sound-lines ls) = as-T (sound-lines ls) e in
+        rw (ended, e, le-leb (c .used) (room store) h, all-lines ls t, last-greatest ls (sound-rising ls t))
+    go false e = rw (ended, e, and-false (leb (c .used) (room store)))
 
 -- a used count above the room
-pub sound-over : (store : List ℕ) (used : ℕ) → room store < used → sound-store store used ≡ false
-unfolding sound-store
-sound-over store used h = rw (lt-leb used (room store) h)
+pub counts-over : (store : List ℕ) (c : Counts) → room store < c .used → sound-counts store c ≡ false
+unfolding sound-counts sound-store
+counts-over store c h = rw (lt-leb (c .used) (room store) h)

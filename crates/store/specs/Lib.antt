@@ -2,3 +2,4 @@ pub mod Moves
 pub mod Walks
 pub mod Answers
 pub mod Places
+pub mod Pairs

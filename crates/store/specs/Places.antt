@@ -4,18 +4,38 @@ use native.Mathlib.Omega.{arith}
 use mathlib.Core.Path.{_≡_, refl, sym, ap, _∙_, subst}
 use mathlib.Core.Bool.{Bool, true, false}
 use mathlib.Core.List.{List, [], _∷_, _++_, append-assoc}
-use lib.Dec.{T, leb, leb→le}
+use lib.Dec.{T, leb, eqb, leb→le, eqb→eq}
 use lib.ListN.{length, take, drop, take-append-drop}
 use lib.Seq.{take-append-seam, drop-append-seam}
 use Rattle.paper.specs.Bytes.{pick, every, joined}
-use Rattle.paper.specs.Store.{lines-in, whole-line?, sound-store, lines-below, lines-not-below, first-is?, stored?, first-line, line-at, lines-above, take-out}
-use Rattle.laws.specs.Tests.{and-left, as-T}
+use Rattle.paper.specs.Store.{lines-in, whole-line?, greatest-number, sound-store, lines-below, lines-not-below, first-is?, stored?, first-line, line-at, lines-above, take-out}
+use Rattle.laws.specs.Tests.{and-left, and-right, as-T}
 use Rattle.laws.specs.Lines.{every-second, both-sides, used-of, parts-of, sizes-of, old-line}
+use Rattle.store.specs.declared.Counts.{Counts}
 use Rattle.store.specs.declared.Place.{Place}
 use Rattle.store.specs.declared.Found.the-variants.{Unsound, At}
 use Rattle.store.specs.declared.Stored.the-variants.{Done, NoRoom}
 use Rattle.store.specs.declared.Removed.the-variants.{Done as Gone, NotThere}
-use Rattle.store.specs.Answers.{place-of, found-answer, too-long, stored-answer, removed-answer}
+use Rattle.store.specs.Answers.{counts-of, sound-counts, place-of, found-answer, too-long, stored-answer, removed-answer}
+
+-- ---- a sound store and its counts
+
+-- what the test of store and counts says
+pub record Counted (store : List ℕ) (c : Counts) : Type 0 where
+  pub sound : T (sound-store store (c .used))
+  pub lines : c .lines ≡ length (lines-in (take (c .used) store))
+  pub greatest : c .greatest ≡ greatest-number (lines-in (take (c .used) store))
+
+pub counted : (store : List ℕ) (c : Counts) → T (sound-counts store c) → Counted store c
+unfolding sound-counts
+counted store c t =
+    let ls : List (List ℕ) = lines-in (take (c .used) store) in
+    let pair = and-right (sound-store store (c .used)) _ t in
+    record {
+      sound = and-left (sound-store store (c .used)) _ t;
+      lines = eqb→eq (c .lines) (length ls) (and-left (eqb (c .lines) (length ls)) _ pair);
+      greatest = eqb→eq (c .greatest) (greatest-number ls) (and-right (eqb (c .lines) (length ls)) _ pair);
+    }
 
 -- ---- the place of a number
 
@@ -81,56 +101,56 @@ at-go : (b : Bool) (q p : Place) → pick b (At q) Unsound ≡ At p → (b ≡ t
 at-go true q p e = (refl, (cc))
 at-go false q p e = let z : _≡_ {A = ℕ} 0 1 = cc in absurd (omega arith)
 
--- a place was found: the store is sound
-pub found-sound : (store : List ℕ) (used n : ℕ) (p : Place) → found-answer store used n ≡ At p → (T (sound-store store used)) × (p ≡ place-of n (lines-in (take used store)))
+-- a place was found: the store is sound, and the counts are its own
+pub found-sound : (store : List ℕ) (c : Counts) (n : ℕ) (p : Place) → found-answer store c n ≡ At p → (T (sound-counts store c)) × (p ≡ place-of n (lines-in (take (c .used) store)))
 unfolding found-answer
-found-sound store used n p e =
-    let g = at-go (sound-store store used) (place-of n (lines-in (take used store))) p e in
-    (as-T (sound-store store used) (g .0), g .1)
+found-sound store c n p e =
+    let g = at-go (sound-counts store c) (place-of n (lines-in (take (c .used) store))) p e in
+    (as-T (sound-counts store c) (g .0), g .1)
 
 none-go : (b : Bool) (q : Place) → pick b (At q) Unsound ≡ Unsound → b ≡ false
 none-go true q e = let z : _≡_ {A = ℕ} 0 1 = cc in absurd (omega arith)
 none-go false q e = refl
 
--- none was: it is not
-pub found-unsound : (store : List ℕ) (used n : ℕ) → found-answer store used n ≡ Unsound → sound-store store used ≡ false
+-- none was: it is not, or they are not
+pub found-unsound : (store : List ℕ) (c : Counts) (n : ℕ) → found-answer store c n ≡ Unsound → sound-counts store c ≡ false
 unfolding found-answer
-found-unsound store used n e = none-go (sound-store store used) (place-of n (lines-in (take used store))) e
+found-unsound store c n e = none-go (sound-counts store c) (place-of n (lines-in (take (c .used) store))) e
 
 -- ---- answers, as facts about the lines that the store would hold
 
-done-go : (b : Bool) (m n : ℕ) → pick b NoRoom (Done m) ≡ Done n → (b ≡ false) × (n ≡ m)
+done-go : (b : Bool) (m n : Counts) → pick b NoRoom (Done m) ≡ Done n → (b ≡ false) × (n ≡ m)
 done-go true m n e = let z : _≡_ {A = ℕ} 0 1 = cc in absurd (omega arith)
 done-go false m n e = (refl, (cc))
 
 -- a line was put in
-pub stored-done : (store : List ℕ) (ls : List (List ℕ)) (n : ℕ) → stored-answer store ls ≡ Done n → (too-long store ls ≡ false) × (n ≡ length (joined ls))
+pub stored-done : (store : List ℕ) (ls : List (List ℕ)) (c : Counts) → stored-answer store ls ≡ Done c → (too-long store ls ≡ false) × (c ≡ counts-of ls)
 unfolding stored-answer
-stored-done store ls n e = done-go (too-long store ls) (length (joined ls)) n e
+stored-done store ls c e = done-go (too-long store ls) (counts-of ls) c e
 
-no-room-go : (b : Bool) (m : ℕ) → pick b NoRoom (Done m) ≡ NoRoom → b ≡ true
+no-room-go : (b : Bool) (m : Counts) → pick b NoRoom (Done m) ≡ NoRoom → b ≡ true
 no-room-go true m e = refl
 no-room-go false m e = let z : _≡_ {A = ℕ} 0 1 = cc in absurd (omega arith)
 
 -- it found no room
 pub stored-no-room : (store : List ℕ) (ls : List (List ℕ)) → stored-answer store ls ≡ NoRoom → too-long store ls ≡ true
 unfolding stored-answer
-stored-no-room store ls e = no-room-go (too-long store ls) (length (joined ls)) e
+stored-no-room store ls e = no-room-go (too-long store ls) (counts-of ls) e
 
-gone-go : (b : Bool) (m n : ℕ) → pick b (Gone m) NotThere ≡ Gone n → (b ≡ true) × (n ≡ m)
+gone-go : (b : Bool) (m n : Counts) → pick b (Gone m) NotThere ≡ Gone n → (b ≡ true) × (n ≡ m)
 gone-go true m n e = (refl, (cc))
 gone-go false m n e = let z : _≡_ {A = ℕ} 0 1 = cc in absurd (omega arith)
 
 -- a line was taken out
-pub removed-done : (n : ℕ) (ls : List (List ℕ)) (m : ℕ) → removed-answer n ls ≡ Gone m → (stored? n ls ≡ true) × (m ≡ length (joined (take-out n ls)))
+pub removed-done : (n : ℕ) (ls : List (List ℕ)) (c : Counts) → removed-answer n ls ≡ Gone c → (stored? n ls ≡ true) × (c ≡ counts-of (take-out n ls))
 unfolding removed-answer
-removed-done n ls m e = gone-go (stored? n ls) (length (joined (take-out n ls))) m e
+removed-done n ls c e = gone-go (stored? n ls) (counts-of (take-out n ls)) c e
 
-not-there-go : (b : Bool) (m : ℕ) → pick b (Gone m) NotThere ≡ NotThere → b ≡ false
+not-there-go : (b : Bool) (m : Counts) → pick b (Gone m) NotThere ≡ NotThere → b ≡ false
 not-there-go true m e = let z : _≡_ {A = ℕ} 0 1 = cc in absurd (omega arith)
 not-there-go false m e = refl
 
 -- there was none
 pub removed-not-there : (n : ℕ) (ls : List (List ℕ)) → removed-answer n ls ≡ NotThere → stored? n ls ≡ false
 unfolding removed-answer
-removed-not-there n ls e = not-there-go (stored? n ls) (length (joined (take-out n ls))) e
+removed-not-there n ls e = not-there-go (stored? n ls) (counts-of (take-out n ls)) e

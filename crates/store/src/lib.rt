@@ -3,12 +3,14 @@ mod gap;
 pub mod heads;
 
 ghost use mathlib.Core.Path.{_≡_};
-ghost use lib.Dec.{T};
+ghost use Prim.Native.Nat.{pred};
+ghost use lib.Dec.{T, ltb};
 ghost use lib.ListN.{take};
+ghost use Rattle.paper.specs.Bytes.{pick};
 ghost use Rattle.paper.specs.Line.{line-number};
-ghost use Rattle.paper.specs.Store.{room, sound-store, lines-in, put-line};
-ghost use Rattle.store.specs.Walks.{passing-size, walked, sound-from};
-ghost use Rattle.store.specs.Answers.{place-of, found-answer, stored-answer, stored-bytes, removed-answer, removed-bytes};
+ghost use Rattle.paper.specs.Store.{room, sound-lines, lines-in, put-line};
+ghost use Rattle.store.specs.Walks.{passing-size, Within, start, walked-on, all-passed};
+ghost use Rattle.store.specs.Answers.{place-of, sound-counts, found-answer, stored-answer, stored-bytes, removed-answer, removed-bytes};
 
 // The bytes that a store may use at most.
 const MOST_ROOM: usize = 65535;
@@ -54,134 +56,230 @@ fn passing(rest: &[u8], least: usize, number: usize) -> usize
     size
 }
 
-// The offset of the first of some lines whose number is not below the one asked for, after whole lines whose numbers rise from `least` on;
-// where a line is not so, its offset.
-fn first_not_below(lines: &[u8], least: usize, number: usize) -> usize
-    ensures { λ r. ⌜ r ≡ walked least number (now (lines .entry)) ⌝ }
+// How far a walk over lines has come: its offset, how many lines it has passed, and the least number that the next one may have.
+struct Walked {
+    at: usize,
+    lines: usize,
+    least: usize,
+}
+
+// A walk that has not begun.
+fn beginning() -> Walked
+    ensures { λ r. ⌜ r ≡ start ⌝ }
 {
-    let mut rest = &lines[..];
-    let mut from = least;
-    let found = loop {
-        let size = passing(rest, from, number);
+    Walked {
+        at: 0,
+        lines: 0,
+        least: 0,
+    }
+}
+
+// Goes on with a walk to the first line whose number is not below the one asked for, past whole lines whose numbers rise; or to a line that is not so.
+fn first_not_below(lines: &[u8], walk: Walked, number: usize) -> Walked
+    requires { ⌜ Within walk (now lines) ⌝ }
+    ensures { λ r. ⌜ (r ≡ walked-on walk number (now (lines .entry))) × (Within r (now (lines .entry))) ⌝ }
+{
+    let begin = walk.at;
+    let mut rest = &lines[begin..];
+    let mut count = walk.lines;
+    let mut least = walk.least;
+    let at = loop {
+        let size = passing(rest, least, number);
         if size == 0 {
             break lines.len() - rest.len();
         }
-        from = heads::number(rest) + 1;
+        least = heads::number(rest) + 1;
+        count += 1;
         rest = &rest[size..];
     };
-    found
+    Walked {
+        at,
+        lines: count,
+        least,
+    }
 }
 
-// Whether some bytes are whole lines in rising order of their numbers, none below `least`.
-fn sound_from(lines: &[u8], least: usize) -> bool
-    ensures { λ r. ⌜ r ≡ sound-from least (now (lines .entry)) ⌝ }
+// The number of the last line that a walk has passed, 0 if it has passed none.
+fn last_number(walk: Walked) -> usize
+    ensures { λ r. ⌜ r ≡ pred (walk .least) ⌝ }
 {
-    first_not_below(lines, least, GREATEST_NUMBER + 1) == lines.len()
+    if walk.least == 0 { 0 } else { walk.least - 1 }
 }
 
-// Whether the used bytes of a store are whole lines in rising order, within the room.
-pub fn sound(store: &[u8], used: usize) -> bool
-    ensures { λ r. ⌜ r ≡ sound-store (now (store .entry)) used ⌝ }
+// What an editor's record keeps of a store: the bytes used, how many lines they are, and the greatest number of these, 0 if there is none.
+pub struct Counts {
+    pub used: usize,
+    pub lines: usize,
+    pub greatest: usize,
+}
+
+// Whether a walk past all numbers has come to the end of the bytes used, past as many lines as counted, with the greatest number last.
+fn agrees(counts: Counts, walk: Walked) -> bool
+    ensures { λ r. ⌜ r ≡ all-passed counts walk ⌝ }
 {
+    if walk.at != counts.used {
+        return false;
+    }
+    if counts.lines != walk.lines {
+        return false;
+    }
+    counts.greatest == last_number(walk)
+}
+
+// Whether the used bytes of a store are whole lines in rising order, within the room, and the counts are theirs.
+pub fn sound(store: &[u8], counts: Counts) -> bool
+    ensures { λ r. ⌜ r ≡ sound-counts (now (store .entry)) counts ⌝ }
+{
+    let used = counts.used;
     if room_of(store) < used {
         return false;
     }
-    sound_from(&store[..used], 0)
+    agrees(
+        counts,
+        first_not_below(&store[..used], beginning(), GREATEST_NUMBER + 1),
+    )
 }
 
-// Where the line with a number begins, or would begin; its size is 0 if it is not stored.
+// Where the line with a number begins, or would begin; its size is 0 if it is not stored. And the number of the line before it, 0 if there is none.
 pub struct Place {
     pub number: usize,
     pub at: usize,
     pub size: usize,
+    pub before: usize,
 }
 
-// The place of a line number among whole lines in rising order, of which the first that is not below it begins at `at`.
-fn place_at(lines: &[u8], at: usize, number: usize) -> Place
-    requires { ⌜ (T (sound-from 0 (now lines))) × (at ≡ walked 0 number (now lines)) ⌝ }
+// The place of a line number among sound lines, to which a walk past the lines below it has come.
+fn place_at(lines: &[u8], walk: Walked, number: usize) -> Place
+    requires { ⌜ (T (sound-lines (lines-in (now lines)))) × (walk ≡ walked-on start number (now lines)) ⌝ }
     ensures { λ r. ⌜ r ≡ place-of number (lines-in (now (lines .entry))) ⌝ }
 {
+    let at = walk.at;
     let rest = &lines[at..];
+    let before = last_number(walk);
     let size = if heads::number(rest) == number {
         heads::size(rest)
     } else {
         0
     };
-    Place { number, at, size }
+    Place {
+        number,
+        at,
+        size,
+        before,
+    }
 }
 
-// The place of a line number in a sound store.
-pub fn find_sound(store: &[u8], used: usize, number: usize) -> Place
-    requires { ⌜ T (sound-store (now store) used) ⌝ }
-    ensures { λ r. ⌜ r ≡ place-of number (lines-in (take used (now (store .entry)))) ⌝ }
+// The place of a line number in a sound store. No line is searched for above the greatest number: its place is the end.
+pub fn find_sound(store: &[u8], counts: Counts, number: usize) -> Place
+    requires { ⌜ T (sound-counts (now store) counts) ⌝ }
+    ensures { λ r. ⌜ r ≡ place-of number (lines-in (take (counts .used) (now (store .entry)))) ⌝ }
 {
+    let used = counts.used;
+    if counts.greatest < number {
+        return Place {
+            number,
+            at: used,
+            size: 0,
+            before: counts.greatest,
+        };
+    }
     let lines = &store[..used];
-    place_at(lines, first_not_below(lines, 0, number), number)
+    place_at(lines, first_not_below(lines, beginning(), number), number)
 }
 
-// What a search of any store answers: that the store is unsound, or the place of the number.
+// What a search of any store answers: that the store is unsound or the counts are not its own, or the place of the number.
 pub enum Found {
     Unsound,
     At(Place),
 }
 
-// The place of a line number in a store that is sound, in one walk over its lines: up to the place, and from there on.
-pub fn find(store: &[u8], used: usize, number: usize) -> Found
-    ensures { λ r. ⌜ r ≡ found-answer (now (store .entry)) used number ⌝ }
+// The place of a line number in a store that is sound and has these counts, in one walk over its lines: up to the place, and from there on.
+pub fn find(store: &[u8], counts: Counts, number: usize) -> Found
+    ensures { λ r. ⌜ r ≡ found-answer (now (store .entry)) counts number ⌝ }
 {
+    let used = counts.used;
     if room_of(store) < used {
         return Found::Unsound;
     }
     let lines = &store[..used];
-    let at = first_not_below(lines, 0, number);
-    if sound_from(&lines[at..], number) {
-        Found::At(place_at(lines, at, number))
+    let below = first_not_below(lines, beginning(), number);
+    let all = first_not_below(lines, below, GREATEST_NUMBER + 1);
+    if agrees(counts, all) {
+        Found::At(place_at(lines, below, number))
     } else {
         Found::Unsound
     }
 }
 
-// What putting a line in answers: the bytes used afterwards, or that the store would pass its room.
+// The greater of two numbers.
+fn greater(a: usize, b: usize) -> usize
+    ensures { λ r. ⌜ r ≡ pick (ltb a b) b a ⌝ }
+{
+    if a < b { b } else { a }
+}
+
+// What putting a line in answers: the counts afterwards, or that the store would pass its room.
 pub enum Stored {
-    Done(usize),
+    Done(Counts),
     NoRoom,
 }
 
 // Puts a line in at the place of its number, and there in the place of a stored line. Nothing is written if the store would pass its room.
-pub fn put_in(store: &mut [u8], used: usize, place: Place, line: &[u8]) -> Stored
-    requires { ⌜ (T (sound-store (now store) used)) × (place ≡ place-of (line-number (now line)) (lines-in (take used (now store)))) ⌝ }
-    ensures { λ r. ⌜ (r ≡ stored-answer (now (store .entry)) (put-line (now (line .entry)) (lines-in (take used (now (store .entry))))))
-        × (now (store .exit) ≡ stored-bytes (now (store .entry)) (put-line (now (line .entry)) (lines-in (take used (now (store .entry)))))) ⌝ }
+pub fn put_in(store: &mut [u8], counts: Counts, place: Place, line: &[u8]) -> Stored
+    requires { ⌜ (T (sound-counts (now store) counts)) × (place ≡ place-of (line-number (now line)) (lines-in (take (counts .used) (now store)))) ⌝ }
+    ensures { λ r. ⌜ (r ≡ stored-answer (now (store .entry)) (put-line (now (line .entry)) (lines-in (take (counts .used) (now (store .entry))))))
+        × (now (store .exit) ≡ stored-bytes (now (store .entry)) (put-line (now (line .entry)) (lines-in (take (counts .used) (now (store .entry)))))) ⌝ }
 {
     let at = place.at;
     let old = place.size;
     let new = line.len();
-    let after = used - old + new;
+    let after = counts.used - old + new;
     if room_of(store) < after {
         return Stored::NoRoom;
     }
-    gap::resize(store, at, old, new, used);
+    gap::resize(store, at, old, new, counts.used);
     buffers::copy(store, at, line);
-    Stored::Done(after)
+    let greatest = greater(counts.greatest, place.number);
+    let lines = if old == 0 {
+        counts.lines + 1
+    } else {
+        counts.lines
+    };
+    Stored::Done(Counts {
+        used: after,
+        lines,
+        greatest,
+    })
 }
 
-// What taking a line out answers: the bytes used afterwards, or that there is no line with the number.
+// What taking a line out answers: the counts afterwards, or that there is no line with the number.
 pub enum Removed {
-    Done(usize),
+    Done(Counts),
     NotThere,
 }
 
 // Takes the line at a place out.
-pub fn take_out(store: &mut [u8], used: usize, place: Place) -> Removed
-    requires { ⌜ (T (sound-store (now store) used)) × (place ≡ place-of (place .number) (lines-in (take used (now store)))) ⌝ }
-    ensures { λ r. ⌜ (r ≡ removed-answer (place .number) (lines-in (take used (now (store .entry)))))
-        × (now (store .exit) ≡ removed-bytes (place .number) (now (store .entry)) (lines-in (take used (now (store .entry))))) ⌝ }
+pub fn take_out(store: &mut [u8], counts: Counts, place: Place) -> Removed
+    requires { ⌜ (T (sound-counts (now store) counts)) × (place ≡ place-of (place .number) (lines-in (take (counts .used) (now store)))) ⌝ }
+    ensures { λ r. ⌜ (r ≡ removed-answer (place .number) (lines-in (take (counts .used) (now (store .entry)))))
+        × (now (store .exit) ≡ removed-bytes (place .number) (now (store .entry)) (lines-in (take (counts .used) (now (store .entry))))) ⌝ }
 {
     let at = place.at;
     let old = place.size;
     if old == 0 {
         return Removed::NotThere;
     }
-    gap::resize(store, at, old, 0, used);
-    Removed::Done(used - old)
+    gap::resize(store, at, old, 0, counts.used);
+    let used = counts.used - old;
+    let lines = counts.lines - 1;
+    let greatest = if place.number == counts.greatest {
+        place.before
+    } else {
+        counts.greatest
+    };
+    Removed::Done(Counts {
+        used,
+        lines,
+        greatest,
+    })
 }
