@@ -22,10 +22,14 @@ empty-agrees s u n g =
 edit-agrees : (text : List ℕ) (s : State) (e : Entered) → Edited text s e → Agrees (e .after)
 edit-agrees text s e d = state-says (e .after) (sound-after text s e d) .agrees
 
+-- a record that agrees stays so
+pub stays-agreeing : (text : List ℕ) (s : State) → Agrees s → Agrees ((enter text s) .after)
+stays-agreeing text s a = after-any Agrees text s a (edit-agrees text s)
+
 -- a record reached from an empty one agrees
 pub reached-agrees : (s : State) → Reached s → Agrees s
 reached-agrees s (empty-record t u n g) = empty-agrees t u n g
-reached-agrees s (after-text text t r) = after-any Agrees text t (reached-agrees t r) (edit-agrees text t)
+reached-agrees s (after-text text t r) = stays-agreeing text t (reached-agrees t r)
 
 -- ---- a record that disagrees
 

@@ -98,9 +98,9 @@ stored-lines text s h = WellFormedLines′.stays-well-formed text s h
 pub well-formed-test : (ns : List (List ℕ)) (l : List ℕ) → (T (well-formed? ns l) → WellFormed ns l) × (WellFormed ns l → T (well-formed? ns l))
 well-formed-test ns l = (WellFormedTest′.test-says ns l, WellFormedTest′.says-test ns l)
 
--- 6. Re-entry. Over sound tables with room for it, a well-formed line of at most 255 bytes whose listing has at most 120 is put in, byte for
--- byte, by entering that listing; no name is added, and nothing else changes. So a line that is listed from the store, entered again, leaves
--- the state as it is. (Its length byte counts it, so where the entries of the store are bytes it has no more than 255.)
+-- 6. Re-entry. Over sound tables with room for it, and a record that agrees with the store, a well-formed line of at most 255 bytes whose listing
+-- has at most 120 is put in, byte for byte, by entering that listing; no name is added, and nothing else changes. So a line that is listed from the
+-- store, entered again, leaves the state as it is. (Its length byte counts it, so where the entries of the store are bytes it has no more than 255.)
 pub re-entry : (s : State) → T (sound-state s) → (l : List ℕ) → length l ≤ 255 → WellFormed (names-of s) l → length (listing (names-of s) l) ≤ 120 → s .used + length l ≤ room (s .store) + old-size (line-number l) s
     → enter (listing (names-of s) l) s ≡ accepted-with (with-lines s (put-line l (lines-of s)))
 re-entry s o l b w h r = ReEntry′.entered-again s o l w h b r

@@ -62,12 +62,16 @@ open-there t h = ap (λ (i : Item). i .size) (open-string false 0 t h)
 
 -- ---- §6 Line count and last number kept
 
+-- A record that agrees with the store stays so, whatever is entered.
+pub stays-agreeing : (text : List ℕ) (s : State) → Agrees s → Agrees ((enter text s) .after)
+stays-agreeing text s a = Agreeing′.stays-agreeing text s a
+
 -- In every record reached from an empty one by calls, the count of lines and the greatest number are what a walk of the store finds.
 pub record-agrees : (s : State) → Reached s → Agrees s
 record-agrees s r = Agreeing′.reached-agrees s r
 
--- A record that disagrees with the store is refused with 1, before any other number, whatever is entered. (`Main.text-exactly` says when 1 is answered, and
--- `Main.refused-text` that nothing changes.)
+-- A record that disagrees is refused with 1, before any other number, whatever is entered. (`Main.text-exactly` says when 1 is answered, and `Main.refused-text`
+-- that nothing changes.)
 pub disagreeing-text : (text : List ℕ) (s : State) → (Agrees s → ⊥) → (enter text s) .number ≡ 1
 disagreeing-text text s h = Agreeing′.text-refused text s h
 

@@ -117,13 +117,15 @@ pub struct Counts {
 fn agrees(counts: Counts, walk: Walked) -> bool
     ensures { λ r. ⌜ r ≡ all-passed counts walk ⌝ }
 {
-    if walk.at != counts.used {
-        return false;
+    if walk.at == counts.used {
+        if counts.lines == walk.lines {
+            counts.greatest == last_number(walk)
+        } else {
+            false
+        }
+    } else {
+        false
     }
-    if counts.lines != walk.lines {
-        return false;
-    }
-    counts.greatest == last_number(walk)
 }
 
 // Whether the used bytes of a store are whole lines in rising order, within the room, and the counts are theirs.

@@ -11,8 +11,8 @@ unfolding all-passed
 agrees-spec =
     tie.close
     (tie.spec
-    (λ c. simp (ne-eqb _ _ (c .if1 .taken)))
-    (λ c. simp (ne-eqb _ _ (c .if2 .taken), and-false))
     (λ c κs. search needs)
     (λ c. let args = c .before .before .before .before .before .before .before .before .args in
-    last-decides (args .counts) (args .walk) (c .before .before .before .before .before .if1 .left) (c .before .before .if2 .left) _ (c .before .last-number .ensures)))
+    last-decides (args .counts) (args .walk) (c .before .before .before .before .before .if1 .taken) (c .before .before .if2 .taken) _ (c .before .last-number .ensures))
+    (λ c. simp (ne-eqb _ _ (c .if2 .left), and-false))
+    (λ c. simp (ne-eqb _ _ (c .if1 .left))))
