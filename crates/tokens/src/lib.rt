@@ -10,12 +10,12 @@ use number::operator;
 use number::statement;
 ghost use mathlib.Core.Path.{_≡_};
 ghost use mathlib.Core.List.{[], _∷_};
-ghost use Prim.Native.Nat.{_-_};
+ghost use Prim.Native.Nat.{_+_, _-_, _≤_};
 ghost use lib.ListN.{length, getD, take, drop};
 ghost use Rattle.paper.specs.Words.{found, find-word, word-of, statements, operators, word-operator?};
 ghost use Rattle.paper.specs.Tokens.{operator-class, read-as};
 ghost use Rattle.paper.specs.Line.{raw-statement?};
-ghost use Rattle.tokens.specs.Tables.{read-words, first-word, token-found, statement-found, reserved-found, pair-found, symbol-found};
+ghost use Rattle.tokens.specs.Tables.{total, read-words, fixed-words, words-of, first-word, token-found, statement-found, reserved-found, pair-found, symbol-found};
 ghost use Rattle.tokens.specs.Parts.{statement-part, operator-part, bytes-at};
 
 // A token that begins a statement.
@@ -467,13 +467,21 @@ pub fn read_as(token: u8) -> u8
     }
 }
 
+// The token of the fixed word that is the whole of a name, looked for from a place of the fixed words on: the lengths of the words there are given,
+// and the token of the first. The one borrow of the words by a search: the compiler lays the words down wherever they are borrowed.
+fn find_fixed(start: usize, lengths: &[u8], first: u8, name: &[u8]) -> Found
+    requires { ⌜ (start + total (now lengths) ≤ 355) × (first + length (now lengths) ≤ 255) ⌝ }
+    ensures { λ r. ⌜ r ≡ token-found (find-word (words-of first (now (lengths .entry)) (drop start fixed-words)) (now (name .entry))) ⌝ }
+{
+    tables::find(&WORDS, start, lengths, first, name)
+}
+
 // The statement word that is the whole of a name, looked for from the first one on that has the name's first byte and length.
 fn find_statement(first: u8, name: &[u8]) -> Statement
     requires { ⌜ first-word statements (getD (now name) 0 0) (length (now name)) ≡ found first ⌝ }
     ensures { λ r. ⌜ r ≡ statement-found (find-word statements (now (name .entry))) ⌝ }
 {
-    match tables::find(
-        &WORDS,
+    match find_fixed(
         tables::statement_start(first) as usize,
         &tables::STATEMENT_LENGTHS[first as usize..],
         first,
@@ -502,8 +510,7 @@ fn find_reserved(first: u8, name: &[u8]) -> Reserved
     ensures { λ r. ⌜ r ≡ reserved-found (find-word operators (now (name .entry))) ⌝ }
 {
     let i = first - tables::FIRST_OPERATOR;
-    match tables::find(
-        &WORDS,
+    match find_fixed(
         tables::STATEMENT_BYTES + tables::operator_start(i) as usize,
         &tables::OPERATOR_LENGTHS[i as usize..],
         first,
