@@ -266,10 +266,6 @@ module _ (ns : List (List ℕ)) (d : Numbered ns) (p end b : ℕ) (s : List ℕ)
   one-front : (s : List ℕ) (t : ℕ) → 1 ≤ length s → t ≡ getD s 0 0 → t ∷ drop 1 s ≡ s
   one-front s t h e = ap (λ (z : ℕ). z ∷ drop 1 s) e ∙ sym (drop-cons s 0 0 h)
 
-  two-front : (s : List ℕ) (t v : ℕ) → 2 ≤ length s → t ≡ getD s 0 0 → v ≡ getD s 1 0 → t ∷ v ∷ drop 2 s ≡ s
-  two-front s t v h e f =
-      ap (λ (z : ℕ). t ∷ z ∷ drop 2 s) f ∙ ap (λ (z : List ℕ). t ∷ z) (sym (drop-cons s 1 0 h)) ∙ one-front s t (omega arith) e
-
   pub more-word : (t : ℕ) → Is p end (b ∷ s) (Word t) → Holds ns (b ∷ s) (Word t) → Later (Word t) → Written ns p end (b ∷ s) (statement t ∷ gs)
   unfolding own-bytes begins? size-of end-after right-token?
   more-word t i h w =

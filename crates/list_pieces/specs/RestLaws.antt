@@ -1,5 +1,5 @@
 -- What is left of a line: at a piece, and after it.
-use Prim.Native.Nat.{ℕ, _+_, _-_, _≤_, _<_}
+use Prim.Native.Nat.{ℕ, _+_, _≤_, _<_}
 use native.Mathlib.Omega.{arith}
 use mathlib.Core.Path.{_≡_, refl, subst, sym}
 use mathlib.Core.List.{List, [], _∷_, _++_}

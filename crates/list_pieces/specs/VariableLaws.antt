@@ -1,4 +1,4 @@
--- A variable's token that is read is the one that is written, and names what the bytes name.
+-- A variable's token that is written is read, and one that is read is the one that is written.
 use Prim.Native.Nat.{ℕ, _+_, _-_, _≤_, _<_}
 use native.Mathlib.Omega.{arith}
 use mathlib.Core.Path.{_≡_, refl, sym, ap, _∙_}

@@ -1,4 +1,4 @@
--- A variable's token, as it is read: the one place that knows its form.
+-- A variable's token, as it is read.
 use Prim.Native.Nat.{ℕ, _-_}
 use mathlib.Core.Bool.{Bool, true, false}
 use mathlib.Core.List.{List}
