@@ -1,6 +1,6 @@
-//! Document 01 in plain Rust: the entry of a numbered text line into a store of token lines, and
-//! the listing of a stored line. Written from the document alone, to be compared with the proved
-//! library. No heap, no unsafe code.
+//! Document 01 in plain Rust, with the requests of document 02 that have landed: the entry of a
+//! numbered text line into a store of token lines, and the listing of a stored line. Written from the
+//! documents alone, to be compared with the proved library. No heap, no unsafe code.
 
 #![cfg_attr(not(test), no_std)]
 #![forbid(unsafe_code)]
