@@ -2,7 +2,8 @@
  * Virgontey: enter and list lines of tokenized Atari BASIC.
  *
  * Both calls work only in the buffers that are lent to them. Every length, count and byte may have any
- * value: tables that are not sound are refused. No call keeps a pointer. Buffers must not overlap.
+ * value: tables that are not sound, and a record that disagrees with the store, are refused. No call keeps
+ * a pointer. Buffers must not overlap.
  *
  * A pointer may be null only where its length is 0.
  *
@@ -28,12 +29,22 @@
 extern "C" {
 #endif
 
-/* The editor record: the counts that go with the buffers. All three are 0 for an empty program. */
+/*
+ * The editor record: the counts that go with the buffers. All five are 0 for an empty program.
+ *
+ * virgontey_enter keeps them true. So a terminal that shows how many lines the program has and which is the
+ * last reads LINES and GREATEST from the record as it stands between two calls: that takes no call, and
+ * no walk over the store. Where LINES is 0 there is no line; line 0 alone has 1 and 0.
+ *
+ * Both calls test the record: one whose counts are not those of the lent store is refused with 1.
+ */
 enum {
-    VIRGONTEY_RECORD_USED = 0,       /* bytes of store in use */
+    VIRGONTEY_RECORD_NAME_BYTES = 0, /* bytes of name table in use */
     VIRGONTEY_RECORD_NAME_COUNT = 1, /* names in the name table, at most 128 */
-    VIRGONTEY_RECORD_NAME_BYTES = 2, /* bytes of name table in use */
-    VIRGONTEY_RECORD_LENGTH = 3
+    VIRGONTEY_RECORD_USED = 2,       /* bytes of store in use */
+    VIRGONTEY_RECORD_LINES = 3,      /* lines in the store */
+    VIRGONTEY_RECORD_GREATEST = 4,   /* the greatest number of a line, 0 where there is none */
+    VIRGONTEY_RECORD_LENGTH = 5
 };
 
 /* What virgontey_enter answers. */
@@ -56,7 +67,7 @@ enum {
 /* The numbers. */
 enum {
     VIRGONTEY_DONE = 0,
-    VIRGONTEY_UNSOUND = 1,         /* tables or store are unsound */
+    VIRGONTEY_UNSOUND = 1,         /* tables or store are unsound, or the record disagrees with the store */
     VIRGONTEY_TEXT_TOO_LONG = 2,   /* text is over 120 bytes */
     VIRGONTEY_NO_LINE_NUMBER = 3,  /* no digit after blanks, or a number above 32767 */
     VIRGONTEY_NO_READING = 4,      /* the grammar has no reading; see place and end */
@@ -76,7 +87,7 @@ enum {
  *   names   the name table; names_len is its room
  *   values  the value table, 8 bytes a name; values_len is its room
  *   store   the token lines; store_len is its room, of which at most 65,535 bytes are used
- *   record  the editor record, read and updated; record_len is VIRGONTEY_RECORD_LENGTH
+ *   record  the editor record, read and updated, all five counts; record_len is VIRGONTEY_RECORD_LENGTH
  *   answer  written; answer_len is VIRGONTEY_ENTER_LENGTH
  *
  * On a refusal nothing but the answer changes.

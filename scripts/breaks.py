@@ -20,7 +20,7 @@ COPY, KEPT = "target/breaks", "target/breaks.txt"
 CRATES = {"paper": "", "laws": "paper", "promises": "paper laws", "cases": "paper"}
 # what of cases is tried first on an edit of a file, as it is likely to refuse it; what is quick; the rest is only tried on what nothing else refuses
 FIRST = {"Grammar": [["Following"]], "Words": [["Kinds"], ["Worked"]]}
-QUICK = ["Answers", "Worked", "Limits", "Kinds", "Following"]
+QUICK = ["Answers", "Worked", "Limits", "Pairs", "Kinds", "Following"]
 # the files of paper that hold theorems; an error in another one is no refusal but an edit that cannot be read
 THEOREMS = ["Cases", "MachineLaws"]
 # where names that an edit may need come from
@@ -75,7 +75,7 @@ BY_HAND = {
         ("ten_before_nine", "Calls", "    pick (not (stored? n (lines-of s))) (not-listed 9 output)\n    (pick (not (well-formed? (names-of s) l)) (not-listed 10 output)", "    pick (not (well-formed? (names-of s) l)) (not-listed 10 output)\n    (pick (not (stored? n (lines-of s))) (not-listed 9 output)"),
         ("eleven_before_ten", "Calls", "    (pick (not (well-formed? (names-of s) l)) (not-listed 10 output)\n    (pick (ltb (length output) (length text)) (not-listed 11 output) listed))", "    (pick (ltb (length output) (length text)) (not-listed 11 output)\n    (pick (not (well-formed? (names-of s) l)) (not-listed 10 output) listed))"),
         ("nine_before_one", "Calls", "list n s output = let listed = list-sound n s output in pick (sound-state s) listed (not-listed 1 output)", "list n s output = let listed = list-sound n s output in pick (sound-state s || eqb (listed .number) 9) listed (not-listed 1 output)"),
-        ("values_untested_in_listing", "Calls", "list n s output = let listed = list-sound n s output in pick (sound-state s) listed (not-listed 1 output)", "list n s output = let listed = list-sound n s output in pick (sound-table (s .names) (s .name-size) (s .name-count) && sound-store (s .store) (s .used)) listed (not-listed 1 output)"),
+        ("values_untested_in_listing", "Calls", "list n s output = let listed = list-sound n s output in pick (sound-state s) listed (not-listed 1 output)", "list n s output = let listed = list-sound n s output in pick (sound-table (s .names) (s .name-size) (s .name-count) && (sound-store (s .store) (s .used) && agrees s)) listed (not-listed 1 output)"),
         ("five_for_a_constant_that_fits_nowhere", "Grammar", "if-in-range false (refuse k) = refuse k", "if-in-range false (refuse k) = refuse 5"),
         ("five_after_four", "Grammar", "look-in-range f i = if-in-range (not (out-of-range? (i .token))) (look-item f i)", "look-in-range f i = look-item f i"),
     ],

@@ -1,19 +1,19 @@
-"""Writes the tables of crates/cases/specs/Recorded.antt: recorded calls, chosen from those of crates/calls, which `enter` and `list` of paper must
-meet. What stands in the file before the tables is kept.
+"""Writes crates/cases/specs/Recorded.antt: recorded calls, chosen from those of crates/calls, which `enter` and `list` of paper must meet.
 
   python3 scripts/recorded.py      (from the repository's root)
 
-Chosen are: for every row of the grammar that an accepted text of them uses, a short one that uses it; and some calls of every answer,
-none longer than is quick to compute with. docs/PROTOCOL.md says what the fields of a call are.
+Chosen are: for every row of the grammar that an accepted text of them uses, a short one that uses it; some calls of every answer; and some whose
+record disagrees with a sound store. None is longer than is quick to compute with. docs/PROTOCOL.md says what the fields of a call are.
 """
 import re
 from collections import Counter
-from itertools import takewhile
+from itertools import islice, takewhile
 
 import grammar
 
 LONGEST = 1100  # characters of a call: the time to compute grows with it
 EACH_ANSWER = 9
+DISAGREEING = 4
 
 STATEMENTS, OPERATORS = ({w.spelling: w.class_ for w in table} for table in (grammar.words("statements"), grammar.words("functions") + grammar.words("read-operators")))
 
@@ -69,10 +69,15 @@ def rows_used(text):
 TABLE = {(f, c): ws for f, c, e, ws in grammar.ROWS}
 
 
-def calls(word):
-    """The recorded calls of a word with their answers: those before the first line that is no call."""
-    asked, answered = (open(f"crates/calls/{name}").read().split("\n") for name in ("stdin", "stdout"))
-    recorded = takewhile(lambda call: call[1] != ["bad"], ((a.split(" "), b.split(" ")) for a, b in zip(asked, answered)))
+ASKED, ANSWERED = (open(f"crates/calls/{name}", newline="\n").read().split("\n")[:-1] for name in ("stdin", "stdout"))
+CALLS = [(a.split(" "), b.split(" ")) for a, b in zip(ASKED, ANSWERED)]
+
+
+def is_call(call):
+    return call[1] != ["bad"]
+
+
+def of_word(word, recorded):
     return [call for call in recorded if call[0][0] == word]
 
 
@@ -80,9 +85,21 @@ def size(call):
     return sum(len(field) for field in call[0])
 
 
+def disagrees(call):
+    """Whether the store of a call is sound, and the record's count of lines or greatest number is not that of its lines."""
+    store, used, lines, greatest = call[0][6:10]
+    store, used, numbers, at = bytes.fromhex(store.replace("-", "")), int(used), [-1], 0
+    while at + 6 <= used <= len(store) and 6 <= store[at + 2]:
+        numbers.append(store[at] + 256 * store[at + 1])
+        at += store[at + 2]
+    sound = at == used and all(a < b <= 32767 for a, b in zip(numbers, numbers[1:]))
+    return sound and (int(lines), int(greatest)) != (len(numbers) - 1, max(numbers[-1], 0))
+
+
 def chosen():
-    """The calls of the table."""
-    entered, listed = calls("enter"), calls("list")
+    """The calls of the table. But for records that disagree they are chosen from those before the first line that is no call."""
+    first = list(takewhile(is_call, CALLS))
+    entered, listed = of_word("enter", first), of_word("list", first)
     taken, rows = [], Counter()
     for call in sorted(entered, key=size):
         text = bytes.fromhex(call[0][1].replace("-", ""))
@@ -97,6 +114,9 @@ def chosen():
             if call not in taken and size(call) <= LONGEST and answers[call[1][0]] < EACH_ANSWER:
                 answers[call[1][0]] += 1
                 taken.append(call)
+    for word in ("enter", "list"):
+        short = (call for call in of_word(word, filter(is_call, CALLS)) if size(call) <= LONGEST)
+        taken += islice((call for call in short if disagrees(call) and call not in taken), DISAGREEING)
     return taken
 
 
@@ -104,34 +124,47 @@ def quoted(field):
     return '""' if field == "-" else f'"{field}"'
 
 
-def state(names, size_of_names, count, values, store, used):
-    return f"(state {quoted(names)} {size_of_names} {count} {quoted(values)} {quoted(store)} {used})"
+def state(names, size_of_names, count, values, store, used, lines, greatest):
+    return f"(state {quoted(names)} {size_of_names} {count} {quoted(values)} {quoted(store)} {used} {lines} {greatest})"
 
 
 def row(call):
     """A call and its answer as a row of the table."""
     asked, answer = call
     if asked[0] == "enter":
-        text, names, size_of_names, count, values, store, used = asked[1:]
-        number, place, end, added, used_after, size_after, count_after, names_after, values_after, store_after = answer
-        before = state(names, size_of_names, count, values, store, used)
-        after = state(names_after, size_after, count_after, values_after, store_after, used_after)
+        text, before = asked[1], state(*asked[2:])
+        number, place, end, added, used, lines, greatest, size_of_names, count, names, values, store = answer
+        after = state(names, size_of_names, count, values, store, used, lines, greatest)
         return f"enters (hex {quoted(text)}) {before} {number} {place} {end} {added} {after}"
-    line, names, size_of_names, count, values, store, used, output = asked[1:]
-    return f"lists {line} {state(names, size_of_names, count, values, store, used)} (hex {quoted(output)}) {answer[0]} {answer[1]} (hex {quoted(answer[2])})"
+    line, before, output = asked[1], state(*asked[2:-1]), asked[-1]
+    return f"lists {line} {before} (hex {quoted(output)}) {answer[0]} {answer[1]} (hex {quoted(answer[2])})"
 
 
 FILE = "crates/cases/specs/Recorded.antt"
 GROUP = 20
+HEAD = """-- Recorded calls, on which two implementations by different hands agree, as a table that `enter` and `list` meet. (Made by scripts/recorded.py.)
+use Prim.Native.Nat.{ℕ}
+use Prim.Native.String.{String}
+use mathlib.Core.Path.{_≡_, refl}
+use mathlib.Core.List.{List, [], _∷_}
+use Rattle.paper.specs.Hex.{hex}
+use Rattle.paper.specs.Calls.{State}
+use Rattle.paper.specs.Open.{everything}
+use Rattle.cases.specs.Answers.{Call, enters, lists, same-state, meets, failing}
+
+-- names, their bytes and count, values, store, the bytes used, the count of lines and the greatest number; all bytes in hexadecimal
+unfoldable pub state : String → ℕ → ℕ → String → String → ℕ → ℕ → ℕ → State
+state ns nb nc vs st u l g = record { names = hex ns; name-size = nb; name-count = nc; values = hex vs; store = hex st; used = u; line-count = l; greatest = g }
+"""
 
 
 def main():
     table = [row(c) for c in chosen()]
-    out = open(FILE).read().partition("\nunfoldable pub calls-0 ")[0]
+    out = HEAD
     for i in range(0, len(table), GROUP):
         n = i // GROUP
         out += f"\nunfoldable pub calls-{n} : List Call\ncalls-{n} =\n    " + "\n    ∷ ".join(table[i : i + GROUP]) + "\n    ∷ []\n"
-        out += f"\npub agree-{n} : failing {i} calls-{n} ≡ []\nunfolding everything agreeing state same-state meets failing calls-{n}\nagree-{n} = refl\n"
+        out += f"\npub agree-{n} : failing {i} calls-{n} ≡ []\nunfolding everything state same-state meets failing calls-{n}\nagree-{n} = refl\n"
     open(FILE, "w").write(out)
     print(len(table), "calls")
 

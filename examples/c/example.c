@@ -1,4 +1,4 @@
-/* Enters three lines and two that are refused, then lists the program. */
+/* Enters three lines and two that are refused, lists the program, and takes its last line out. */
 #include <stdio.h>
 #include <string.h>
 
@@ -47,6 +47,13 @@ static void list(const struct program *p, size_t line)
     }
 }
 
+/* Says how many lines there are and which is the last: the record holds both, and nothing is looked for. */
+static void show(const struct program *p)
+{
+    printf("program: %zu lines, the last is %zu\n", p->record[VIRGONTEY_RECORD_LINES],
+           p->record[VIRGONTEY_RECORD_GREATEST]);
+}
+
 int main(void)
 {
     static struct program program;
@@ -56,9 +63,12 @@ int main(void)
     enter(&program, "900 PRINT \"ALARM \";V");
     enter(&program, "30 GOTO");
     enter(&program, "30 IF V<L BORT THEN 900");
+    show(&program);
     list(&program, 10);
     list(&program, 20);
     list(&program, 900);
     list(&program, 30);
+    enter(&program, "900");
+    show(&program);
     return 0;
 }

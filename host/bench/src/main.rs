@@ -131,7 +131,7 @@ fn round<S: Side>(job: &Job) -> f64 {
             }
             _ => {
                 if let Task::EnterAlone = job.task {
-                    work.record.used = 0;
+                    work.empty_store();
                 }
                 S::enter(
                     black_box(&job.texts[call]),
@@ -156,7 +156,7 @@ fn moved(job: &Job) -> f64 {
     let mut sum = 0;
     for call in 0..CALLS {
         if let Task::EnterAlone = job.task {
-            work.record.used = 0;
+            work.empty_store();
         }
         let used = work.record.used;
         let number = line_number(&job.texts[call]);

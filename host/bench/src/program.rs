@@ -61,6 +61,18 @@ pub struct Program {
     pub record: Record,
 }
 
+impl Program {
+    /// Forgets all lines; the names stay.
+    pub fn empty_store(&mut self) {
+        self.record = Record {
+            used: 0,
+            lines: 0,
+            greatest: 0,
+            ..self.record
+        };
+    }
+}
+
 /// Lines are numbered in steps of this.
 pub const STEP: usize = 10;
 

@@ -69,9 +69,13 @@ impl Side for Library {
     ) -> usize {
         let mut lent = lend(record);
         let answer = virgontey::enter(text, names, values, store, &mut lent);
-        record.used = lent.used;
-        record.name_count = lent.name_count;
-        record.name_bytes = lent.name_bytes;
+        *record = Record {
+            name_bytes: lent.name_bytes,
+            name_count: lent.name_count,
+            used: lent.used,
+            lines: lent.lines,
+            greatest: lent.greatest,
+        };
         answer.number
     }
 
@@ -93,8 +97,10 @@ impl Side for Library {
 #[cfg(feature = "library")]
 fn lend(record: &Record) -> virgontey::Record {
     virgontey::Record {
-        used: record.used,
-        name_count: record.name_count,
         name_bytes: record.name_bytes,
+        name_count: record.name_count,
+        used: record.used,
+        lines: record.lines,
+        greatest: record.greatest,
     }
 }

@@ -108,10 +108,25 @@ impl Cases {
                 text
             }
             75..=82 => any_text(random),
-            83..=88 => delete_text(random),
+            83..=85 => delete_text(random),
+            86..=88 => self.stored_number_text(),
             89..=92 => self.fitting_text(),
             _ => bulky_text(random),
         }
+    }
+
+    /// The number of a stored line, half the time of the last one: alone, or with a statement.
+    fn stored_number_text(&mut self) -> Vec<u8> {
+        let last = self.world.lines.keys().last().copied();
+        let last = last.filter(|_| self.random.chance(50));
+        let Some(number) = last.or_else(|| self.stored_line()) else {
+            return b"0 END".to_vec();
+        };
+        let mut text = number.to_string().into_bytes();
+        if self.random.chance(25) {
+            text.extend(b" REM");
+        }
+        text
     }
 
     /// A remark whose line just fills the store, or is one byte shorter or longer.
@@ -191,6 +206,7 @@ impl Cases {
         tables.record.used = store.len();
         tables.store = store;
         tables.store.extend(random.bytes(spare));
+        agree(&mut tables);
         self.list_over(line, tables)
     }
 
@@ -290,8 +306,47 @@ impl Cases {
         case
     }
 
-    /// Makes one change that tables rarely survive.
+    /// Makes one change that tables and record rarely survive.
     fn upset(&mut self, tables: &mut Tables) {
+        if self.random.chance(25) {
+            return self.disagree(tables);
+        }
+        self.upset_tables(tables);
+        // Mostly the record is right for what was changed, so that the change alone can be at fault.
+        if self.random.chance(75) {
+            agree(tables);
+        }
+    }
+
+    /// Gives the record another count of lines or greatest number, or both.
+    fn disagree(&mut self, tables: &mut Tables) {
+        let (lines, greatest) = (tables.record.lines, tables.record.greatest);
+        let huge = (self.count_bound - 1) as usize;
+        let wrong = match self.random.below(13) {
+            0 => (lines.saturating_add(1), greatest),
+            1 => (lines.saturating_sub(1), greatest),
+            2 => (lines, greatest.saturating_add(1)),
+            3 => (lines, greatest.saturating_sub(1)),
+            4 => (greatest, lines),
+            5 => (0, greatest),
+            6 => (lines, 0),
+            7 => (0, 0),
+            8 => (huge, greatest),
+            9 => (lines, huge),
+            // What would be right with one line more, and with one less.
+            10 => (
+                lines.saturating_add(1),
+                greatest.saturating_add(self.random.below(20)),
+            ),
+            11 => (lines.saturating_sub(1), self.some_line()),
+            _ => (self.wrong_count(lines), self.wrong_count(greatest)),
+        };
+        tables.record.lines = wrong.0.min(huge);
+        tables.record.greatest = wrong.1.min(huge);
+    }
+
+    /// Makes one change that tables rarely survive.
+    fn upset_tables(&mut self, tables: &mut Tables) {
         let record = tables.record;
         let name_bytes = record.name_bytes.min(tables.names.len());
         let values = record.name_count.saturating_mul(8);
@@ -370,6 +425,19 @@ impl Cases {
 fn cut(random: &mut Random, buffer: &mut Vec<u8>, used: usize) {
     let near = used.saturating_add(random.below(4)).saturating_sub(2);
     buffer.truncate(near);
+}
+
+/// Gives the record the count and the greatest number of the lines of its store, as far as they can be told.
+fn agree(tables: &mut Tables) {
+    let store = &tables.store;
+    let used = tables.record.used.min(store.len());
+    let (mut at, mut lines, mut greatest) = (0, 0, 0);
+    while at + 3 <= used {
+        lines += 1;
+        greatest = greatest.max(store[at] as usize + 256 * store[at + 1] as usize);
+        at += (store[at + 2] as usize).max(3);
+    }
+    (tables.record.lines, tables.record.greatest) = (lines, greatest);
 }
 
 /// Where the lines of a sound store start.
@@ -506,6 +574,7 @@ fn new_world(random: &mut Random) -> World {
     };
     for _ in 0..wanted {
         tables.record.used = 0;
+        agree(&mut tables);
         let text = lawful_text(random, &names);
         let call = Call::Enter { text, tables };
         let Answer::Enter { tables: left, .. } = run_reference(call) else {
@@ -539,6 +608,7 @@ fn new_world(random: &mut Random) -> World {
     tables.store.extend(spare(random, 600));
     tables.names.truncate(protocol::MOST_NAMES);
     tables.store.truncate(protocol::MOST_STORE);
+    agree(&mut tables);
     let mut world = World::default();
     world.adopt(tables);
     world

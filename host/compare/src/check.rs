@@ -17,6 +17,8 @@ pub struct Checker {
     /// Listings entered again, and pairs of equal listings seen.
     pub entered_again: u64,
     pub listed_again: u64,
+    /// Records that disagree with a store of lines end to end.
+    pub disagreeing: u64,
 }
 
 impl Checker {
@@ -28,6 +30,8 @@ impl Checker {
         if let Some(count) = self.counts.get_mut(answer.number()) {
             *count += 1;
         }
+        let (Call::Enter { tables, .. } | Call::List { tables, .. }) = &case.call;
+        self.check_record(tables, answer.number())?;
         match (&case.call, answer) {
             (
                 Call::Enter { text, tables },
@@ -86,6 +90,16 @@ impl Checker {
             }
             _ => Err("an answer of the other kind".into()),
         }
+    }
+
+    /// A record that disagrees with the store is refused with 1.
+    fn check_record(&mut self, tables: &Tables, number: usize) -> Result<(), String> {
+        let lines = lines(tables);
+        let agrees = lines
+            .as_ref()
+            .is_some_and(|lines| pair(tables) == walk(lines));
+        self.disagreeing += (lines.is_some() && !agrees) as u64;
+        require(agrees || number == 1, "a record that disagrees was taken")
     }
 
     /// A listing that was entered must have left everything as it was.
@@ -156,6 +170,17 @@ fn number_of(line: &[u8]) -> usize {
     line[0] as usize + 256 * line[1] as usize
 }
 
+/// The record's count of lines and greatest number.
+fn pair(tables: &Tables) -> (usize, usize) {
+    (tables.record.lines, tables.record.greatest)
+}
+
+/// How many lines there are, and their greatest number, 0 if there are none.
+fn walk(lines: &[&[u8]]) -> (usize, usize) {
+    let greatest = lines.iter().map(|line| number_of(line)).max();
+    (lines.len(), greatest.unwrap_or(0))
+}
+
 /// The lines of a store, if they lie end to end up to the used count.
 fn lines(tables: &Tables) -> Option<Vec<&[u8]>> {
     let mut rest = tables.store.get(..tables.record.used)?;
@@ -172,7 +197,7 @@ fn lines(tables: &Tables) -> Option<Vec<&[u8]>> {
     Some(lines)
 }
 
-/// An accepted edit: order, other lines, names, and all bytes behind the new ends.
+/// An accepted edit: order, other lines, the record, names, and all bytes behind the new ends.
 fn check_edit(before: &Tables, after: &Tables, added: usize) -> Result<(), String> {
     let (Some(old), Some(new)) = (lines(before), lines(after)) else {
         return Err("the store does not hold lines end to end".into());
@@ -181,6 +206,10 @@ fn check_edit(before: &Tables, after: &Tables, added: usize) -> Result<(), Strin
         .windows(2)
         .all(|pair| number_of(pair[0]) < number_of(pair[1]));
     require(rising, "line numbers do not rise")?;
+    require(
+        pair(after) == walk(&new),
+        "the record is not what a walk of the store finds",
+    )?;
 
     // All but at most one line are the same, in the same order.
     let front = old.iter().zip(&new).take_while(|(a, b)| a == b).count();

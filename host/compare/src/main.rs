@@ -174,6 +174,10 @@ impl Run {
             self.checker.entered_again, self.checker.listed_again
         );
         println!(
+            "  records that disagree with the store: {}",
+            self.checker.disagreeing
+        );
+        println!(
             "{} calls in {seconds:.0} s, {} differences",
             self.done, self.differences
         );
@@ -202,5 +206,6 @@ mod tests {
         assert_eq!((run.done, run.differences), (options.calls, 0));
         assert!(run.checker.counts.iter().all(|count| *count > 0));
         assert!(run.checker.entered_again > 0 && run.checker.listed_again > 0);
+        assert!(run.checker.disagreeing > 0);
     }
 }

@@ -29,9 +29,7 @@ pub fn through_library(call: &Call) -> Option<Answer> {
                 &mut tables.store,
                 &mut record,
             );
-            tables.record.used = record.used;
-            tables.record.name_count = record.name_count;
-            tables.record.name_bytes = record.name_bytes;
+            tables.record = given_back(&record);
             Answer::Enter {
                 number: answer.number,
                 place: answer.place,
@@ -68,9 +66,23 @@ pub fn through_library(call: &Call) -> Option<Answer> {
 #[cfg(feature = "library")]
 fn lend(record: &reference::Record) -> virgontey::Record {
     virgontey::Record {
-        used: record.used,
-        name_count: record.name_count,
         name_bytes: record.name_bytes,
+        name_count: record.name_count,
+        used: record.used,
+        lines: record.lines,
+        greatest: record.greatest,
+    }
+}
+
+/// The record as the wrapper gives it back.
+#[cfg(feature = "library")]
+fn given_back(record: &virgontey::Record) -> reference::Record {
+    reference::Record {
+        name_bytes: record.name_bytes,
+        name_count: record.name_count,
+        used: record.used,
+        lines: record.lines,
+        greatest: record.greatest,
     }
 }
 

@@ -115,6 +115,8 @@ pub fn read_answer(line: &[u8], to_enter: bool) -> Option<Answer> {
         let end = fields.number()?;
         let added = fields.number()?;
         let used = fields.number()?;
+        let lines = fields.number()?;
+        let greatest = fields.number()?;
         let name_bytes = fields.number()?;
         let name_count = fields.number()?;
         Answer::Enter {
@@ -128,9 +130,11 @@ pub fn read_answer(line: &[u8], to_enter: bool) -> Option<Answer> {
                 values: fields.bytes(MOST_VALUES)?,
                 store: fields.bytes(MOST_STORE)?,
                 record: Record {
-                    used,
-                    name_count,
                     name_bytes,
+                    name_count,
+                    used,
+                    lines,
+                    greatest,
                 },
             },
         }
@@ -161,6 +165,8 @@ pub fn write_answer(answer: &Answer) -> Vec<u8> {
             line.number(*end);
             line.number(*added);
             line.number(*used);
+            line.number(tables.record.lines);
+            line.number(tables.record.greatest);
             line.number(tables.record.name_bytes);
             line.number(tables.record.name_count);
             line.bytes(&tables.names);
@@ -303,14 +309,18 @@ impl<'a> Fields<'a> {
         let values = self.bytes(MOST_VALUES)?;
         let store = self.bytes(MOST_STORE)?;
         let used = self.number()?;
+        let lines = self.number()?;
+        let greatest = self.number()?;
         Some(Tables {
             names,
             values,
             store,
             record: Record {
-                used,
-                name_count,
                 name_bytes,
+                name_count,
+                used,
+                lines,
+                greatest,
             },
         })
     }
@@ -367,6 +377,8 @@ impl Line {
         self.bytes(&tables.values);
         self.bytes(&tables.store);
         self.number(tables.record.used);
+        self.number(tables.record.lines);
+        self.number(tables.record.greatest);
     }
 }
 
@@ -376,52 +388,58 @@ mod tests {
 
     #[test]
     fn lines_that_are_no_call() {
-        let bad: [&[u8]; 17] = [
+        let bad: [&[u8]; 21] = [
             b"",
             b" ",
             b"enter",
-            b"Enter 31 - 0 0 - - 0",
-            b"enter 3 - 0 0 - - 0",
-            b"enter 3g - 0 0 - - 0",
-            b"enter 3A - 0 0 - - 0",
-            b"enter  - 0 0 - - 0",
-            b"enter 31 - 0 0 - - 0 ",
+            b"Enter 31 - 0 0 - - 0 0 0",
+            b"enter 3 - 0 0 - - 0 0 0",
+            b"enter 3g - 0 0 - - 0 0 0",
+            b"enter 3A - 0 0 - - 0 0 0",
+            b"enter  - 0 0 - - 0 0 0",
+            b"enter 31 - 0 0 - - 0 0 0 ",
+            b"enter 31 - 0 0 - - 0 0 0 0",
+            b"enter 31 - 0 0 - - 0",
             b"enter 31 - 0 0 - - 0 0",
-            b"enter 31 - 0 0 - -",
-            b"enter 31 - 0 0 - - 9223372036854775808",
-            b"enter 31 - 0 0 - - +1",
-            b"enter 31 - 0 0 - - -",
-            b"list 1 - 0 0 - - 0",
-            b"list 1 - 0 0 - - 0 - -",
-            b"enter 31 - 0 0 - - 0\r",
+            b"enter 31 - 0 0 - - 9223372036854775808 0 0",
+            b"enter 31 - 0 0 - - 0 0 9223372036854775808",
+            b"enter 31 - 0 0 - - +1 0 0",
+            b"enter 31 - 0 0 - - - 0 0",
+            b"enter 31 - 0 0 - - 0 - 0",
+            b"list 1 - 0 0 - - 0 -",
+            b"list 1 - 0 0 - - 0 0 0",
+            b"list 1 - 0 0 - - 0 0 0 - -",
+            b"enter 31 - 0 0 - - 0 0 0\r",
         ];
         for line in bad {
             assert_eq!(answer_line(line), b"bad", "{line:?}");
         }
         let mut long = b"enter ".to_vec();
         long.extend_from_slice(&b"30".repeat(MOST_TEXT + 1));
-        long.extend_from_slice(b" - 0 0 - - 0");
+        long.extend_from_slice(b" - 0 0 - - 0 0 0");
         assert_eq!(answer_line(&long), b"bad");
     }
 
     #[test]
     fn calls_are_answered() {
-        let answer = answer_line(b"enter 313020454e44 - 0 0 - 00000000000000 0");
-        assert_eq!(answer, b"0 0 0 0 6 0 0 - - 0a000606151600");
-        let answer = answer_line(b"list 10 - 0 0 - 0a0006061516 6 ffffffffffffffff");
+        let answer = answer_line(b"enter 313020454e44 - 0 0 - 00000000000000 0 0 0");
+        assert_eq!(answer, b"0 0 0 0 6 1 10 0 0 - - 0a000606151600");
+        let answer = answer_line(b"enter 3130 - 0 0 - 0a0006061516 6 1 11");
+        assert_eq!(answer, b"1 0 0 0 6 1 11 0 0 - - 0a0006061516");
+        let answer = answer_line(b"list 10 - 0 0 - 0a0006061516 6 1 10 ffffffffffffffff");
         assert_eq!(answer, b"0 7 313020454e4420ff");
-        let answer = answer_line(b"list 9223372036854775807 - 0 0 - - 0 -");
+        let answer = answer_line(b"list 9223372036854775807 - 0 0 - - 0 0 0 -");
         assert_eq!(answer, b"9 0 -");
     }
 
     #[test]
     fn written_calls_and_answers_are_read_back() {
-        let line = b"list 10 c1 1 1 0000000000000000 0a0006061516 6 ff";
+        let line = b"list 10 c1 1 1 0000000000000000 0a0006061516 6 1 10 ff";
         let call = read_call(line).unwrap();
         assert_eq!(write_call(&call), line);
         let answer = run_reference(call);
         assert_eq!(read_answer(&write_answer(&answer), false), Some(answer));
-        let line = b"enter 313020413d31 ff 0 0 ffffffffffffffff - 0";
+        let line = b"enter 313020413d31 ff 0 0 ffffffffffffffff - 0 2 3";
         let call = read_call(line).unwrap();
         assert_eq!(write_call(&call), line);
         let answer = run_reference(call);

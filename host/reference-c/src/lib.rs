@@ -24,9 +24,11 @@ unsafe fn lent_mut<'a, T>(start: *mut T, length: usize) -> &'a mut [T] {
 /// Reads the editor record.
 fn read_record(record: &[usize]) -> Record {
     Record {
-        used: record[0],
+        name_bytes: record[0],
         name_count: record[1],
-        name_bytes: record[2],
+        used: record[2],
+        lines: record[3],
+        greatest: record[4],
     }
 }
 
@@ -56,9 +58,11 @@ pub unsafe extern "C" fn virgontey_enter(
         lent_mut(store, store_len),
         &mut record,
     );
-    lent_record[0] = record.used;
+    lent_record[0] = record.name_bytes;
     lent_record[1] = record.name_count;
-    lent_record[2] = record.name_bytes;
+    lent_record[2] = record.used;
+    lent_record[3] = record.lines;
+    lent_record[4] = record.greatest;
     let answer = lent_mut(answer, answer_len);
     answer[0] = given.number;
     answer[1] = given.place;

@@ -77,7 +77,12 @@ fn read_number(rest: &[u8]) -> (Kind, usize) {
 fn read_quoted(rest: &[u8]) -> (Kind, usize) {
     let inner = &rest[1..];
     match inner.iter().position(|b| *b == b'"' || *b == TEXT_END) {
-        None => (Kind::Quoted { length: inner.len() }, rest.len()),
+        None => (
+            Kind::Quoted {
+                length: inner.len(),
+            },
+            rest.len(),
+        ),
         Some(length) if inner[length] == b'"' => (Kind::Quoted { length }, length + 2),
         Some(length) => (Kind::Unknown, length + 1),
     }

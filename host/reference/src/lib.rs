@@ -1,6 +1,6 @@
-//! Document 01 in plain Rust: the entry of a numbered text line into a store of token lines, and
-//! the listing of a stored line. Written from the document alone, to be compared with the proved
-//! library. No heap, no unsafe code.
+//! Document 01 in plain Rust, with the requests of document 02 that have landed: the entry of a
+//! numbered text line into a store of token lines, and the listing of a stored line. Written from the
+//! documents alone, to be compared with the proved library. No heap, no unsafe code.
 
 #![cfg_attr(not(test), no_std)]
 #![forbid(unsafe_code)]
@@ -13,19 +13,23 @@ mod translate;
 mod words;
 
 use listing::{spell_line, well_formed, Count, Write};
-use tables::{find_line, store_room, store_sound, values_sound, Names, Variable};
+use tables::{find_line, store_room, values_sound, walk_store, Names, Place, Variable, Walk};
 use tables::{MOST_NAMES, VALUE_SIZE};
 use translate::{read_line_number, translate, NewNames, Translation, LONGEST_LINE, LONGEST_TEXT};
 
-/// The counts that go with the three buffers.
+/// The counts that go with the three buffers. All are 0 for an empty program.
 #[derive(Clone, Copy, PartialEq, Eq, Debug, Default)]
 pub struct Record {
-    /// Bytes of store in use.
-    pub used: usize,
-    /// How many names the table has.
-    pub name_count: usize,
     /// Bytes of name table in use.
     pub name_bytes: usize,
+    /// How many names the table has.
+    pub name_count: usize,
+    /// Bytes of store in use.
+    pub used: usize,
+    /// How many lines the store has.
+    pub lines: usize,
+    /// The greatest number of a line, 0 if there is none.
+    pub greatest: usize,
 }
 
 /// What an entry answers.
@@ -105,7 +109,7 @@ fn enter_or_refuse(
         if place.length == 0 {
             return Err((9, 0, 0));
         }
-        put_line(store, record, place.at, place.length, &[]);
+        take_line(store, record, &place);
         return Ok(0);
     }
 
@@ -123,7 +127,7 @@ fn enter_or_refuse(
         return Err((8, 0, 0));
     }
 
-    put_line(store, record, place.at, place.length, line.bytes());
+    put_line(store, record, &place, number, line.bytes());
     add_names(text, &new_names, names, values, record);
     Ok(new_names.count())
 }
@@ -156,7 +160,7 @@ fn list_or_refuse(
     Ok(write.written)
 }
 
-/// Tests tables and store; gives the names if all are sound.
+/// Tests tables, store and record; gives the names if all are sound and the record agrees.
 fn sound_names<'a>(
     names: &'a [u8],
     values: &[u8],
@@ -164,7 +168,12 @@ fn sound_names<'a>(
     record: &Record,
 ) -> Option<Names<'a>> {
     let table = Names::new(names, record)?;
-    (values_sound(values, record) && store_sound(store, record)).then_some(table)
+    let found = walk_store(store, record.used)?;
+    let kept = Walk {
+        lines: record.lines,
+        greatest: record.greatest,
+    };
+    (values_sound(values, record) && found == kept).then_some(table)
 }
 
 /// How many bytes of name table the new names need.
@@ -188,8 +197,28 @@ fn lacks_name_room(
             || count * VALUE_SIZE > values.len())
 }
 
-/// Puts `line` in the place of the `old` bytes at `at`, moving the lines behind once.
-fn put_line(store: &mut [u8], record: &mut Record, at: usize, old: usize, line: &[u8]) {
+/// Puts a line in at its place, over the line that stands there. It is counted if none does, and
+/// its number is the greatest if no line follows.
+fn put_line(store: &mut [u8], record: &mut Record, place: &Place, number: usize, line: &[u8]) {
+    change_bytes(store, record, place, line);
+    record.lines += (place.length == 0) as usize;
+    if place.at + line.len() == record.used {
+        record.greatest = number;
+    }
+}
+
+/// Takes the line at a place out. If no line follows it, the one before has the greatest number.
+fn take_line(store: &mut [u8], record: &mut Record, place: &Place) {
+    change_bytes(store, record, place, &[]);
+    record.lines -= 1;
+    if place.at == record.used {
+        record.greatest = place.before;
+    }
+}
+
+/// Puts bytes over the line at a place, moving the lines behind once.
+fn change_bytes(store: &mut [u8], record: &mut Record, place: &Place, line: &[u8]) {
+    let (at, old) = (place.at, place.length);
     store.copy_within(at + old..record.used, at + line.len());
     store[at..at + line.len()].copy_from_slice(line);
     record.used = record.used - old + line.len();

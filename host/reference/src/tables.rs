@@ -166,30 +166,43 @@ pub fn line_length(store: &[u8], at: usize) -> usize {
     store[at + 2] as usize
 }
 
-/// Tests the store: lines end to end, numbers rising, the last ending at the used count.
-pub fn store_sound(store: &[u8], record: &Record) -> bool {
-    let used = record.used;
+/// What a walk of a sound store finds.
+#[derive(Clone, Copy, PartialEq, Eq)]
+pub struct Walk {
+    /// How many lines there are.
+    pub lines: usize,
+    /// The greatest number of a line, 0 if there is none.
+    pub greatest: usize,
+}
+
+/// Walks the store: lines end to end, numbers rising, the last ending at the used count. None: it is
+/// unsound.
+pub fn walk_store(store: &[u8], used: usize) -> Option<Walk> {
     if used > store_room(store) {
-        return false;
+        return None;
     }
+    let mut found = Walk {
+        lines: 0,
+        greatest: 0,
+    };
     let mut at = 0;
-    let mut least = 0;
     while at < used {
         if used - at < SHORTEST_LINE {
-            return false;
+            return None;
         }
         let number = line_number(store, at);
         let length = line_length(store, at);
-        if number < least || number > GREATEST_LINE {
-            return false;
+        if found.lines > 0 && number <= found.greatest || number > GREATEST_LINE {
+            return None;
         }
         if length < SHORTEST_LINE || length > used - at {
-            return false;
+            return None;
         }
-        least = number + 1;
+        found.lines += 1;
+        found.greatest = number;
         at += length;
     }
-    true
+    Some(found)
 }
 
 /// Where a line stands in a sound store, or where it would be put.
@@ -198,15 +211,19 @@ pub struct Place {
     pub at: usize,
     /// The length of the line with just this number, 0 if there is none.
     pub length: usize,
+    /// The number of the line before, 0 if there is none.
+    pub before: usize,
 }
 
 /// Finds the place of a line in a sound store.
 pub fn find_line(store: &[u8], used: usize, number: usize) -> Place {
     let mut at = 0;
+    let mut before = 0;
     while at < used && line_number(store, at) < number {
+        before = line_number(store, at);
         at += line_length(store, at);
     }
     let there = at < used && line_number(store, at) == number;
     let length = if there { line_length(store, at) } else { 0 };
-    Place { at, length }
+    Place { at, length, before }
 }

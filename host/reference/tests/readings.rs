@@ -222,10 +222,13 @@ fn soundness(
     let mut desk = Desk::with_rooms(0, values, 0);
     desk.names = names.to_vec();
     desk.store = store.to_vec();
+    let (lines, greatest) = desk::pair(store, used);
     desk.record = Record {
-        used,
-        name_count: count,
         name_bytes: bytes,
+        name_count: count,
+        used,
+        lines,
+        greatest,
     };
     let before = desk.store.clone();
     let answer = desk.enter(b"10 END:A=");
@@ -305,10 +308,13 @@ fn listings() {
 /// The answer's number when a line stands alone over the names A, B$, C( and PRINT.
 fn listed(line: &[u8]) -> usize {
     let names = b"\xC1B\xA4C\xA8PRIN\xD4";
+    let (lines, greatest) = desk::pair(line, line.len());
     let record = Record {
-        used: line.len(),
-        name_count: 4,
         name_bytes: names.len(),
+        name_count: 4,
+        used: line.len(),
+        lines,
+        greatest,
     };
     let mut out = [0; 1024];
     list(10, names, &[0; 32], line, &record, &mut out).number

@@ -5,15 +5,20 @@
 /// Says whether the library is linked.
 pub const LINKED: bool = cfg!(feature = "library");
 
-/// The counts that go with the three buffers.
+/// The counts that go with the three buffers. All are 0 for an empty program. A call keeps them true, so
+/// they can be read at any time between calls; one that disagrees with the store is refused with 1.
 #[derive(Clone, Copy, PartialEq, Eq, Debug, Default)]
 pub struct Record {
-    /// Bytes of store in use.
-    pub used: usize,
-    /// How many names the table has.
-    pub name_count: usize,
     /// Bytes of name table in use.
     pub name_bytes: usize,
+    /// How many names the table has.
+    pub name_count: usize,
+    /// Bytes of store in use.
+    pub used: usize,
+    /// How many lines the store has.
+    pub lines: usize,
+    /// The greatest number of a line, 0 if there is none.
+    pub greatest: usize,
 }
 
 /// What an entry answers.
@@ -82,7 +87,7 @@ mod linked {
         store: &mut [u8],
         record: &mut Record,
     ) -> EnterAnswer {
-        let mut counts = [record.used, record.name_count, record.name_bytes];
+        let mut counts = counts_of(record);
         let mut answer = [0; 5];
         // Safe: every pointer comes from a slice and goes with its length; mutable slices never
         // overlap; the library keeps no pointer.
@@ -102,7 +107,13 @@ mod linked {
                 answer.len(),
             );
         }
-        [record.used, record.name_count, record.name_bytes] = counts;
+        [
+            record.name_bytes,
+            record.name_count,
+            record.used,
+            record.lines,
+            record.greatest,
+        ] = counts;
         let [number, place, end, added, used] = answer;
         EnterAnswer {
             number,
@@ -122,7 +133,7 @@ mod linked {
         record: &Record,
         out: &mut [u8],
     ) -> ListAnswer {
-        let counts = [record.used, record.name_count, record.name_bytes];
+        let counts = counts_of(record);
         let mut answer = [0; 2];
         // Safe: as above; only `out` and the answer are written.
         unsafe {
@@ -146,12 +157,26 @@ mod linked {
         ListAnswer { number, written }
     }
 
+    /// The counts in the order in which the library takes them.
+    fn counts_of(record: &Record) -> [usize; 5] {
+        [
+            record.name_bytes,
+            record.name_count,
+            record.used,
+            record.lines,
+            record.greatest,
+        ]
+    }
+
     #[cfg(test)]
     mod tests {
-        use super::{virgontey_enter, virgontey_list};
+        use super::{virgontey_enter, virgontey_list, Record};
 
         /// What an entry that a test does not expect is filled with.
         const OTHER: usize = 77;
+
+        /// The record of the program below.
+        const ONE_LINE: [usize; 5] = [0, 0, 6, 1, 10];
 
         /// The buffers of a program of one line, `10 END`, without names.
         struct Lent {
@@ -215,13 +240,13 @@ mod linked {
 
         #[test]
         fn a_record_that_lacks_a_count_is_refused() {
-            for length in 0..3 {
+            for length in 0..5 {
                 let (mut lent, before) = (self::lent(), self::lent());
-                let mut record = [6, 0, 0];
+                let mut record = ONE_LINE;
                 let mut answer = [OTHER; 5];
                 enter(b"20 END", &mut lent, &mut record[..length], &mut answer);
-                assert_eq!(answer, [1, 0, 0, 0, if length == 0 { 0 } else { 6 }]);
-                assert_eq!(record, [6, 0, 0]);
+                assert_eq!(answer, [1, 0, 0, 0, if length < 3 { 0 } else { 6 }]);
+                assert_eq!(record, ONE_LINE);
                 assert_eq!(lent.store, before.store);
 
                 let mut out = [0; 32];
@@ -236,12 +261,12 @@ mod linked {
             let whole = [0, 0, 0, 0, 12, OTHER];
             for length in 0..=6 {
                 let mut lent = lent();
-                let mut record = [6, 0, 0, OTHER];
+                let mut record = [0, 0, 6, 1, 10, OTHER];
                 let mut answer = [OTHER; 6];
                 enter(b"20 END", &mut lent, &mut record, &mut answer[..length]);
                 assert_eq!(answer[..length], whole[..length]);
                 assert_eq!(answer[length..], [OTHER; 6][length..]);
-                assert_eq!(record, [12, 0, 0, OTHER]);
+                assert_eq!(record, [0, 0, 12, 2, 20, OTHER]);
 
                 let mut out = [0; 32];
                 let mut answer = [OTHER; 6];
@@ -265,8 +290,54 @@ mod linked {
             ];
             for (text, expected) in refused {
                 let mut answer = [OTHER; 5];
-                enter(text, &mut lent(), &mut [6, 0, 0], &mut answer);
+                enter(text, &mut lent(), &mut { ONE_LINE }, &mut answer);
                 assert_eq!(answer, expected, "{}", String::from_utf8_lossy(text));
+            }
+        }
+
+        #[test]
+        fn a_record_that_disagrees_with_the_store_is_refused() {
+            for (lines, greatest) in [(0, 10), (2, 10), (1, 0), (1, 11), (10, 1), (OTHER, 10)] {
+                let (mut lent, before) = (self::lent(), self::lent());
+                let mut record = [0, 0, 6, lines, greatest];
+                let mut answer = [OTHER; 5];
+                enter(b"20 END", &mut lent, &mut record, &mut answer);
+                assert_eq!(answer, [1, 0, 0, 0, 6]);
+                assert_eq!(record, [0, 0, 6, lines, greatest]);
+                assert_eq!(lent.store, before.store);
+
+                let mut out = [0; 32];
+                let mut answer = [OTHER; 2];
+                list(&lent, &record, &mut out, &mut answer);
+                assert_eq!((answer, out), ([1, 0], [0; 32]));
+            }
+        }
+
+        #[test]
+        fn the_wrapper_keeps_count_and_greatest_number() {
+            let mut lent = lent();
+            let mut record = Record::default();
+            for (text, lines, greatest) in [
+                (&b"0 END"[..], 1, 0),
+                (b"20 END", 2, 20),
+                (b"10 END", 3, 20),
+                (b"20 STOP", 3, 20),
+                (b"20 GOTO", 3, 20),
+                (b"20", 2, 10),
+                (b"10", 1, 0),
+                (b"0", 0, 0),
+            ] {
+                let refused = text == b"20 GOTO";
+                let answer = super::enter(
+                    text,
+                    &mut lent.names,
+                    &mut lent.values,
+                    &mut lent.store,
+                    &mut record,
+                );
+                assert_eq!(answer.number, if refused { 4 } else { 0 });
+                assert_eq!((record.lines, record.greatest), (lines, greatest));
+                assert_eq!(record.used, 6 * lines);
             }
         }
     }

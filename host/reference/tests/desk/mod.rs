@@ -59,10 +59,27 @@ impl Desk {
         hex(&self.store[..self.record.used])
     }
 
+    /// The record's count of lines and greatest number.
+    pub fn pair(&self) -> (usize, usize) {
+        (self.record.lines, self.record.greatest)
+    }
+
     /// The used bytes of the name table, in hex.
     pub fn names_hex(&self) -> String {
         hex(&self.names[..self.record.name_bytes])
     }
+}
+
+/// How many lines begin in the used bytes of a store, and the greatest of their numbers, 0 if there are none.
+pub fn pair(store: &[u8], used: usize) -> (usize, usize) {
+    let mut rest = &store[..used.min(store.len())];
+    let (mut lines, mut greatest) = (0, 0);
+    while rest.len() > 2 {
+        lines += 1;
+        greatest = greatest.max(rest[0] as usize + 256 * rest[1] as usize);
+        rest = rest.get((rest[2] as usize).max(3)..).unwrap_or(&[]);
+    }
+    (lines, greatest)
 }
 
 pub fn hex(bytes: &[u8]) -> String {
@@ -83,6 +100,7 @@ pub fn gives(text: &str, line: &str) {
     assert_eq!(desk.hex(), line, "{text}");
     assert_eq!(answer.used, desk.record.used);
     assert_eq!(answer.added, desk.record.name_count);
+    assert_eq!(desk.pair(), pair(&desk.store, desk.record.used), "{text}");
 }
 
 /// Over empty tables, a text lists so.
