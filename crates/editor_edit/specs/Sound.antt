@@ -4,24 +4,43 @@ use lib.Dec.{T, leb, leb→le}
 use lib.ListN.{length}
 use Rattle.paper.specs.Names.{sound-table}
 use Rattle.paper.specs.Store.{sound-store}
-use Rattle.paper.specs.Calls.{State, sound-state}
-use Rattle.laws.specs.Tests.{and-left, and-right, is-true}
+use Rattle.paper.specs.Calls.{State, lines-of, sound-tables, agrees, sound-state}
+use Rattle.laws.specs.Tests.{and-left, and-right, and-both, is-true}
 use Rattle.laws.specs.Names.{Sound, sound-facts}
+use Rattle.store.specs.declared.Counts.{Counts}
+use Rattle.store.specs.Answers.{sound-counts}
+
+tables : (s : State) → T (sound-state s) → T (sound-tables s)
+unfolding sound-state
+tables s t = and-left (sound-tables s) (agrees s) t
+
+-- the name table, by the test
+pub table-tested : (s : State) → T (sound-state s) → T (sound-table (s .names) (s .name-size) (s .name-count))
+unfolding sound-tables
+table-tested s t = and-left (sound-table (s .names) (s .name-size) (s .name-count)) _ (tables s t)
 
 -- the name table
 pub table-sound : (s : State) → T (sound-state s) → Sound (s .names) (s .name-size) (s .name-count)
-unfolding sound-state
-table-sound s t = sound-facts (s .names) (s .name-size) (s .name-count) (is-true (sound-table (s .names) (s .name-size) (s .name-count)) (and-left (sound-table (s .names) (s .name-size) (s .name-count)) _ t))
+table-sound s t = sound-facts (s .names) (s .name-size) (s .name-count) (is-true (sound-table (s .names) (s .name-size) (s .name-count)) (table-tested s t))
 
 -- the values
 pub values-fit : (s : State) → T (sound-state s) → 8 * s .name-count ≤ length (s .values)
-unfolding sound-state
+unfolding sound-tables
 values-fit s t =
     leb→le (8 * s .name-count) (length (s .values))
-    (and-left (leb (8 * s .name-count) (length (s .values))) _ (and-right (sound-table (s .names) (s .name-size) (s .name-count)) _ t))
+    (and-left (leb (8 * s .name-count) (length (s .values))) _ (and-right (sound-table (s .names) (s .name-size) (s .name-count)) _ (tables s t)))
 
 -- the store
 pub store-sound : (s : State) → T (sound-state s) → T (sound-store (s .store) (s .used))
-unfolding sound-state
+unfolding sound-tables
 store-sound s t =
-    and-right (leb (8 * s .name-count) (length (s .values))) _ (and-right (sound-table (s .names) (s .name-size) (s .name-count)) _ t)
+    and-right (leb (8 * s .name-count) (length (s .values))) _ (and-right (sound-table (s .names) (s .name-size) (s .name-count)) _ (tables s t))
+
+-- what a state keeps of the store
+abbrev pub counts-kept : State → Counts
+counts-kept s = record { used = s .used; lines = s .line-count; greatest = s .greatest }
+
+-- the store with its counts
+pub counts-sound : (s : State) → T (sound-state s) → T (sound-counts (s .store) (counts-kept s))
+unfolding sound-state sound-counts agrees lines-of
+counts-sound s t = and-both (sound-store (s .store) (s .used)) _ (store-sound s t) (and-right (sound-tables s) (agrees s) t)
