@@ -1,6 +1,6 @@
 -- The answers of the edits, from what the functions that they call ensure.
 use Prim.Native.Nat.{ℕ, _+_, _*_, _≤_, _<_}
-use mathlib.Core.Path.{_≡_, sym, ap, _∙_, subst}
+use mathlib.Core.Path.{_≡_, sym, ap, _∙_}
 use mathlib.Core.Bool.{Bool, true, false}
 use mathlib.Core.List.{List, _++_}
 use lib.Dec.{T}
@@ -14,7 +14,7 @@ use Rattle.paper.specs.Store.{lines-in, put-line, take-out, overwritten}
 use Rattle.paper.specs.Calls.{State, names-of, lines-of, sound-state, refusal, delete}
 use Rattle.laws.specs.Names.{closed?}
 use Rattle.names_numbered.specs.Answers.{lacks, Room}
-use Rattle.store.specs.Answers.{counts-of, sound-counts, place-of, too-long, stored-answer, stored-bytes, removed-answer, removed-bytes}
+use Rattle.store.specs.Answers.{counts-of, place-of, too-long, stored-answer, stored-bytes, removed-answer, removed-bytes}
 use Rattle.store.specs.Places.{stored-done, stored-no-room, removed-done, removed-not-there}
 use Rattle.store.specs.declared.Counts.{Counts}
 use Rattle.store.specs.declared.Place.{Place}
@@ -25,7 +25,7 @@ use Rattle.store.specs.declared.Removed.the-variants.{Done as Gone, NotThere}
 use Rattle.editor_edit.specs.declared.Editor.{Editor}
 use Rattle.editor_edit.specs.declared.Entered.{Entered}
 use Rattle.editor_edit.specs.States.{state, counts-in, entered, refusing, Lies}
-use Rattle.editor_edit.specs.Sound.{counts-sound}
+use Rattle.editor_edit.specs.Sound.{lines-kept}
 use Rattle.editor_edit.specs.Lines.{Written, Accepts}
 use Rattle.editor_edit.proofs.EditLaws.{taken-out, not-there, number-is, refuses-6, refuses-7, refuses-8, takes, roomy}
 
@@ -40,26 +40,18 @@ module _ (names values store : List ℕ) (e : Editor) where
     abbrev lines-counted : List (List ℕ)
     lines-counted = lines-in (take (kept .used) store)
 
-    lines-are : lines-counted ≡ lines-of S
-    unfolding lines-of
-    lines-are = ap (λ (k : Counts). lines-in (take (k .used) store)) is
-
-    -- they are those of the store
-    pub counted : T (sound-state S) → T (sound-counts store kept)
-    counted o = subst (λ (k : Counts). T (sound-counts store k)) (sym is) (counts-sound S o)
-
-    -- a place among the lines
+    -- a place among them
     pub lies-counted : (n : ℕ) (p : Place) → Lies p n S → p ≡ place-of n lines-counted
-    lies-counted n p h = h ∙ ap (place-of n) (sym lines-are)
+    lies-counted n p h = h ∙ ap (place-of n) (sym (lines-kept S kept is))
 
     -- ---- taking a line out
 
     module _ (n : ℕ) (r : Removed) (store′ : List ℕ) (a : r ≡ removed-answer n lines-counted) (b : store′ ≡ removed-bytes n store lines-counted) where
       answered : r ≡ removed-answer n (lines-of S)
-      answered = a ∙ ap (removed-answer n) lines-are
+      answered = a ∙ ap (removed-answer n) (lines-kept S kept is)
 
       left-so : store′ ≡ removed-bytes n store (lines-of S)
-      left-so = b ∙ ap (removed-bytes n store) lines-are
+      left-so = b ∙ ap (removed-bytes n store) (lines-kept S kept is)
 
       -- the line is gone
       pub gone : T (sound-state S) → (left : Counts) → r ≡ Gone left
@@ -106,10 +98,10 @@ module _ (names values store : List ℕ) (e : Editor) where
         put = put-line part (lines-of S)
 
         put-answered : r ≡ stored-answer store put
-        put-answered = a ∙ ap (λ (ls : List (List ℕ)). stored-answer store (put-line part ls)) (lines-are kept is)
+        put-answered = a ∙ ap (λ (ls : List (List ℕ)). stored-answer store (put-line part ls)) (lines-kept S kept is)
 
         put-left : store′ ≡ stored-bytes store put
-        put-left = z ∙ ap (λ (ls : List (List ℕ)). stored-bytes store (put-line part ls)) (lines-are kept is)
+        put-left = z ∙ ap (λ (ls : List (List ℕ)). stored-bytes store (put-line part ls)) (lines-kept S kept is)
 
         -- 8
         pub answer-8 : (x : Entered) → r ≡ NoRoom → x ≡ refusing 8 no-span e → Accepts S n line size fresh (entered x names values store′)

@@ -1,9 +1,11 @@
 -- What a sound state is, as facts.
-use Prim.Native.Nat.{_*_, _≤_}
+use Prim.Native.Nat.{ℕ, _*_, _≤_}
+use mathlib.Core.Path.{_≡_, sym, ap, subst}
+use mathlib.Core.List.{List}
 use lib.Dec.{T, leb, leb→le}
-use lib.ListN.{length}
+use lib.ListN.{length, take}
 use Rattle.paper.specs.Names.{sound-table}
-use Rattle.paper.specs.Store.{sound-store}
+use Rattle.paper.specs.Store.{sound-store, lines-in}
 use Rattle.paper.specs.Calls.{State, lines-of, sound-tables, agrees, sound-state}
 use Rattle.laws.specs.Tests.{and-left, and-right, and-both, is-true}
 use Rattle.laws.specs.Names.{Sound, sound-facts}
@@ -40,7 +42,15 @@ store-sound s t =
 abbrev pub counts-kept : State → Counts
 counts-kept s = record { used = s .used; lines = s .line-count; greatest = s .greatest }
 
--- the store with its counts
-pub counts-sound : (s : State) → T (sound-state s) → T (sound-counts (s .store) (counts-kept s))
-unfolding sound-state sound-counts agrees lines-of
-counts-sound s t = and-both (sound-store (s .store) (s .used)) _ (store-sound s t) (and-right (sound-tables s) (agrees s) t)
+module _ (s : State) (kept : Counts) (is : kept ≡ counts-kept s) where
+  -- its lines
+  pub lines-kept : lines-in (take (kept .used) (s .store)) ≡ lines-of s
+  unfolding lines-of
+  lines-kept = ap (λ (k : Counts). lines-in (take (k .used) (s .store))) is
+
+  -- the store has these counts
+  pub counts-sound : T (sound-state s) → T (sound-counts (s .store) kept)
+  unfolding sound-state sound-counts agrees lines-of
+  counts-sound t =
+      subst (λ (k : Counts). T (sound-counts (s .store) k)) (sym is)
+      (and-both (sound-store (s .store) (s .used)) _ (store-sound s t) (and-right (sound-tables s) (agrees s) t))

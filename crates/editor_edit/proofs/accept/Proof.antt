@@ -1,5 +1,7 @@
 use native.Mathlib.Omega.{arith}
-use Rattle.editor_edit.proofs.AnswerLaws.{counted, answer-6, answer-7, answer-8, answer-0, place-is, room-is, few-names, name-room}
+use Rattle.editor_edit.specs.States.{state}
+use Rattle.editor_edit.specs.Sound.{counts-sound}
+use Rattle.editor_edit.proofs.AnswerLaws.{answer-6, answer-7, answer-8, answer-0, place-is, room-is, few-names, name-room}
 use borrow.Author.Needs.{needs}
 use Rattle.editor_edit.proofs.accept.Statement.{statement}
 use Rattle.editor_edit.proofs.accept.Tie as tie
@@ -32,7 +34,7 @@ front-requires c κs = search needs
 put-in-requires : tie.Need-put-in-requires
 put-in-requires c κs =
     let args = c .before .before .before .before .before .before .before .before .before .before .before .args in
-    (counted (args .names .now) (args .values .now) (args .store .now) (args .e) _ (c .before .store-counts .ensures) (c .before .before .before .before .before .before .before .before .before .before .before .pre .0), place-is (args .names .now) (args .values .now) (args .store .now) (args .e) (c .before .before .before .before .before .before .before .before .before .before .before .pre .0) (args .place .number) (args .line .now) (args .size) (args .fresh .now) _ (c .before .store-counts .ensures) _ _ (c .before .before .before .before .before .lacks-room .ensures) (c .before .before .before .before .if1 .left) (c .before .before .before .if2 .left) (c .front .ensures) (c .before .before .before .before .before .before .before .before .before .before .before .pre .2 .ts) (args .place) (c .before .before .before .before .before .before .before .before .before .before .before .pre .2 .written) (c .before .before .before .before .before .before .before .before .before .before .before .pre .1))
+    (counts-sound (state (args .names .now) (args .values .now) (args .store .now) (args .e)) _ (c .before .store-counts .ensures) (c .before .before .before .before .before .before .before .before .before .before .before .pre .0), place-is (args .names .now) (args .values .now) (args .store .now) (args .e) (c .before .before .before .before .before .before .before .before .before .before .before .pre .0) (args .place .number) (args .line .now) (args .size) (args .fresh .now) _ (c .before .store-counts .ensures) _ _ (c .before .before .before .before .before .lacks-room .ensures) (c .before .before .before .before .if1 .left) (c .before .before .before .if2 .left) (c .front .ensures) (c .before .before .before .before .before .before .before .before .before .before .before .pre .2 .ts) (args .place) (c .before .before .before .before .before .before .before .before .before .before .before .pre .2 .written) (c .before .before .before .before .before .before .before .before .before .before .before .pre .1))
 
 enum-told : tie.Need-enum-told
 enum-told c = search needs

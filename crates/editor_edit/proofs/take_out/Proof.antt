@@ -1,4 +1,6 @@
-use Rattle.editor_edit.proofs.AnswerLaws.{counted, lies-counted, gone, absent}
+use Rattle.editor_edit.specs.States.{state}
+use Rattle.editor_edit.specs.Sound.{counts-sound}
+use Rattle.editor_edit.proofs.AnswerLaws.{lies-counted, gone, absent}
 use borrow.Author.Needs.{needs}
 use Rattle.editor_edit.proofs.take_out.Statement.{statement}
 use Rattle.editor_edit.proofs.take_out.Tie as tie
@@ -9,7 +11,7 @@ store-counts-requires c κs = search needs
 take-out-requires : tie.Need-take-out-requires
 take-out-requires c κs =
     let args = c .before .before .before .before .before .args in
-    (counted (args .names .now) (args .values .now) (args .store .now) (args .e) _ (c .store-counts .ensures) (c .before .before .before .before .before .pre .0), lies-counted (args .names .now) (args .values .now) (args .store .now) (args .e) _ (c .store-counts .ensures) (args .place .number) (args .place) (c .before .before .before .before .before .pre .1))
+    (counts-sound (state (args .names .now) (args .values .now) (args .store .now) (args .e)) _ (c .store-counts .ensures) (c .before .before .before .before .before .pre .0), lies-counted (args .names .now) (args .values .now) (args .store .now) (args .e) _ (c .store-counts .ensures) (args .place .number) (args .place) (c .before .before .before .before .before .pre .1))
 
 enum-known-left : tie.Need-enum-known-left
 enum-known-left c = search needs
