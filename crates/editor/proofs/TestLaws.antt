@@ -9,61 +9,66 @@ use lib.ListN.{length}
 use Rattle.paper.specs.Items.{no-span}
 use Rattle.paper.specs.Names.{sound-table}
 use Rattle.paper.specs.Store.{sound-store}
-use Rattle.paper.specs.Calls.{State, lines-of, sound-state, refusal, enter-sound, enter, not-listed, list-sound, list}
+use Rattle.paper.specs.Calls.{State, lines-of, sound-tables, agrees, sound-state, refusal, enter-sound, enter, not-listed, list-sound, list}
 use Rattle.paper.specs.Calls.{Entered as Outcome, Listed as Written-out}
 use Rattle.laws.specs.Tests.{and-left, as-T, is-true}
 use Rattle.laws.specs.Names.{sound-facts}
+use Rattle.store.specs.declared.Counts.{Counts}
 use Rattle.store.specs.declared.Place.{Place}
 use Rattle.store.specs.declared.Found.{Found}
 use Rattle.store.specs.declared.Found.the-variants.{Unsound, At}
-use Rattle.store.specs.Answers.{place-of, found-answer}
+use Rattle.store.specs.Answers.{sound-counts, place-of, found-answer}
 use Rattle.store.specs.Places.{found-sound, found-unsound}
 use Rattle.editor_edit.specs.declared.Editor.{Editor}
 use Rattle.editor_edit.specs.declared.Entered.{Entered}
 use Rattle.editor_edit.specs.States.{state, entered, refusing, Lies}
+use Rattle.editor_edit.specs.Sound.{counts-kept, lines-kept}
 use Rattle.editor_list.specs.declared.Listed.{Listed}
 use Rattle.editor_list.specs.Answers.{unlisted, listed}
 
-both : (a b c : Bool) → a && b ≡ true → c ≡ a && (b && c)
-both true true c h = refl
-both true false c h = let z : _≡_ {A = ℕ} 0 1 = cc in absurd (omega arith)
-both false b c h = let z : _≡_ {A = ℕ} 0 1 = cc in absurd (omega arith)
+both : (a b c d : Bool) → a && b ≡ true → c && d ≡ (a && (b && c)) && d
+both true true c d h = refl
+both true false c d h = let z : _≡_ {A = ℕ} 0 1 = cc in absurd (omega arith)
+both false b c d h = let z : _≡_ {A = ℕ} 0 1 = cc in absurd (omega arith)
 
-first-fails : (a b c : Bool) → a && b ≡ false → false ≡ a && (b && c)
-first-fails true true c h = let z : _≡_ {A = ℕ} 0 1 = cc in absurd (omega arith)
-first-fails true false c h = refl
-first-fails false b c h = refl
+first-fails : (a b c d : Bool) → a && b ≡ false → false ≡ (a && (b && c)) && d
+first-fails true true c d h = let z : _≡_ {A = ℕ} 0 1 = cc in absurd (omega arith)
+first-fails true false c d h = refl
+first-fails false b c d h = refl
 
 -- the test of the name table and of the room for values
 module _ (s : State) (b : Bool) (e : b ≡ sound-table (s .names) (s .name-size) (s .name-count) && leb (8 * s .name-count) (length (s .values))) where
   -- where they are not sound, nothing else counts
   pub unsound-tables : b ≡ false → false ≡ sound-state s
-  unfolding sound-state
-  unsound-tables t = first-fails (sound-table (s .names) (s .name-size) (s .name-count)) (leb (8 * s .name-count) (length (s .values))) (sound-store (s .store) (s .used)) (sym e ∙ t)
+  unfolding sound-state sound-tables
+  unsound-tables t = first-fails (sound-table (s .names) (s .name-size) (s .name-count)) (leb (8 * s .name-count) (length (s .values))) (sound-store (s .store) (s .used)) (agrees s) (sym e ∙ t)
 
   module _ (t : b ≡ true) where
-    -- where they are, the store decides
-    pub store-decides : (c : Bool) → c ≡ sound-store (s .store) (s .used) → c ≡ sound-state s
-    unfolding sound-state
-    store-decides c h = h ∙ both (sound-table (s .names) (s .name-size) (s .name-count)) (leb (8 * s .name-count) (length (s .values))) (sound-store (s .store) (s .used)) (sym e ∙ t)
-
     -- the names have the bytes that are counted
     pub names-within : s .name-size ≤ length (s .names)
     names-within =
         sound-facts (s .names) (s .name-size) (s .name-count)
         (is-true (sound-table (s .names) (s .name-size) (s .name-count)) (and-left (sound-table (s .names) (s .name-size) (s .name-count)) _ (as-T _ (sym e ∙ t)))) .within
 
-    module _ (n : ℕ) (f : Found) (is : f ≡ found-answer (s .store) (s .used) n) where
-      -- a place was found
-      pub sound-there : (p : Place) → f ≡ At p → (T (sound-state s)) × Lies p n s
-      unfolding lines-of
-      sound-there p q =
-          let found = found-sound (s .store) (s .used) n p (sym is ∙ q) in
-          (as-T (sound-state s) (sym (store-decides true (sym (is-true (sound-store (s .store) (s .used)) (found .0))))), found .1)
+    module _ (kept : Counts) (so : kept ≡ counts-kept s) where
+      -- where they are, the store decides, with what the record keeps of it
+      pub store-decides : (c : Bool) → c ≡ sound-counts (s .store) kept → c ≡ sound-state s
+      unfolding sound-state sound-tables agrees sound-counts lines-of
+      store-decides c h =
+          h
+          ∙ ap (sound-counts (s .store)) so
+          ∙ both (sound-table (s .names) (s .name-size) (s .name-count)) (leb (8 * s .name-count) (length (s .values))) (sound-store (s .store) (s .used)) (agrees s) (sym e ∙ t)
 
-      -- none was
-      pub unsound-store : f ≡ Unsound → false ≡ sound-state s
-      unsound-store q = store-decides false (sym (found-unsound (s .store) (s .used) n (sym is ∙ q)))
+      module _ (n : ℕ) (f : Found) (is : f ≡ found-answer (s .store) kept n) where
+        -- a place was found
+        pub sound-there : (p : Place) → f ≡ At p → (T (sound-state s)) × Lies p n s
+        sound-there p q =
+            let found = found-sound (s .store) kept n p (sym is ∙ q) in
+            (as-T (sound-state s) (sym (store-decides true (sym (is-true (sound-counts (s .store) kept) (found .0))))), found .1 ∙ ap (place-of n) (lines-kept s kept so))
+
+        -- none was
+        pub unsound-store : f ≡ Unsound → false ≡ sound-state s
+        unsound-store q = store-decides false (sym (found-unsound (s .store) kept n (sym is ∙ q)))
 
 -- ---- entering
 

@@ -4,6 +4,7 @@ mod readings;
 use editor_edit::Editor;
 use editor_edit::Entered;
 use editor_edit::refused;
+use editor_edit::store_counts;
 use editor_list::Listed;
 use editor_list::list_stored;
 use editor_list::not_listed;
@@ -19,12 +20,12 @@ ghost use Rattle.paper.specs.Calls.{sound-state, enter-sound, enter as enter-ca
 ghost use Rattle.editor_edit.specs.States.{state, entered};
 ghost use Rattle.editor_list.specs.Answers.{listed};
 
-// Whether tables and store are sound.
+// Whether tables and store are sound, and the record agrees with the store.
 pub fn sound(names: &[u8], values: &[u8], store: &[u8], e: Editor) -> bool
     ensures { λ r. ⌜ r ≡ sound-state (state (now (names .entry)) (now (values .entry)) (now (store .entry)) e) ⌝ }
 {
     if names_sound::sound(names, e.name_bytes, e.name_count, values.len()) {
-        store::sound(store, e.used)
+        store::sound(store, store_counts(e))
     } else {
         false
     }
@@ -44,7 +45,7 @@ pub fn enter_sound(
     let mut line = [0u8; LINE_ROOM];
     let mut fresh = [0u8; NAMES_ROOM];
     let reading = read(text, names, e, &mut line, &mut fresh);
-    let place = store::find_sound(store, e.used, asked(reading));
+    let place = store::find_sound(store, store_counts(e), asked(reading));
     edit(reading, place, &line, &fresh, names, values, store, e)
 }
 
@@ -63,7 +64,7 @@ pub fn enter(
         let mut line = [0u8; LINE_ROOM];
         let mut fresh = [0u8; NAMES_ROOM];
         let reading = read(text, names, e, &mut line, &mut fresh);
-        match store::find(store, e.used, asked(reading)) {
+        match store::find(store, store_counts(e), asked(reading)) {
             Found::Unsound => refused(1, e),
             Found::At(place) => edit(reading, place, &line, &fresh, names, values, store, e),
         }
@@ -84,7 +85,7 @@ pub fn list(
     ensures { λ r. ⌜ listed r (now (out .exit)) ≡ list-call line (state (now (names .entry)) (now (values .entry)) (now (store .entry)) e) (now (out .entry)) ⌝ }
 {
     if names_sound::sound(names, e.name_bytes, e.name_count, values.len()) {
-        match store::find(store, e.used, line) {
+        match store::find(store, store_counts(e), line) {
             Found::Unsound => not_listed(1),
             Found::At(place) => list_stored(place, names, values, store, e, out),
         }

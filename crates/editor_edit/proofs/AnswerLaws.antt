@@ -14,8 +14,9 @@ use Rattle.paper.specs.Store.{lines-in, put-line, take-out, overwritten}
 use Rattle.paper.specs.Calls.{State, names-of, lines-of, sound-state, refusal, delete}
 use Rattle.laws.specs.Names.{closed?}
 use Rattle.names_numbered.specs.Answers.{lacks, Room}
-use Rattle.store.specs.Answers.{place-of, too-long, stored-answer, stored-bytes, removed-answer, removed-bytes}
+use Rattle.store.specs.Answers.{counts-of, place-of, too-long, stored-answer, stored-bytes, removed-answer, removed-bytes}
 use Rattle.store.specs.Places.{stored-done, stored-no-room, removed-done, removed-not-there}
+use Rattle.store.specs.declared.Counts.{Counts}
 use Rattle.store.specs.declared.Place.{Place}
 use Rattle.store.specs.declared.Stored.{Stored}
 use Rattle.store.specs.declared.Stored.the-variants.{Done, NoRoom}
@@ -23,7 +24,8 @@ use Rattle.store.specs.declared.Removed.{Removed}
 use Rattle.store.specs.declared.Removed.the-variants.{Done as Gone, NotThere}
 use Rattle.editor_edit.specs.declared.Editor.{Editor}
 use Rattle.editor_edit.specs.declared.Entered.{Entered}
-use Rattle.editor_edit.specs.States.{state, entered, refusing, Lies}
+use Rattle.editor_edit.specs.States.{state, counts-in, entered, refusing, Lies}
+use Rattle.editor_edit.specs.Sound.{lines-kept}
 use Rattle.editor_edit.specs.Lines.{Written, Accepts}
 use Rattle.editor_edit.proofs.EditLaws.{taken-out, not-there, number-is, refuses-6, refuses-7, refuses-8, takes, roomy}
 
@@ -31,25 +33,42 @@ module _ (names values store : List ℕ) (e : Editor) where
   abbrev S : State
   S = state names values store e
 
-  -- ---- taking a line out
+  -- ---- the counts that the store is asked with
 
-  -- the line is gone
-  pub gone : T (sound-state S) → (n used : ℕ) (r : Removed) (store′ : List ℕ) → r ≡ removed-answer n (lines-of S) → store′ ≡ removed-bytes n store (lines-of S) → r ≡ Gone used
-      → entered (record { number = 0; place = 0; end = 0; added = 0; editor = record { used = used; «name_count» = e .«name_count»; «name_bytes» = e .«name_bytes» } }) names values store′ ≡ delete S n
-  unfolding removed-bytes
-  gone o n used r store′ a b g =
-      let d = removed-done n (lines-of S) used (sym a ∙ g) in
-      let st : store′ ≡ overwritten (joined (take-out n (lines-of S))) store = b ∙ rw (d .0) in
-      rw (st, d .1) (taken-out S o n (d .0))
+  module _ (kept : Counts) (is : kept ≡ counts-in e) where
+    -- the lines of so many bytes
+    abbrev lines-counted : List (List ℕ)
+    lines-counted = lines-in (take (kept .used) store)
 
-  -- the line is not there
-  pub absent : (n : ℕ) (r : Removed) (store′ : List ℕ) (x : Entered) → r ≡ removed-answer n (lines-of S) → store′ ≡ removed-bytes n store (lines-of S) → r ≡ NotThere
-      → x ≡ refusing 9 no-span e → entered x names values store′ ≡ delete S n
-  unfolding removed-bytes
-  absent n r store′ x a b g q =
-      let d = removed-not-there n (lines-of S) (sym a ∙ g) in
-      let st : store′ ≡ store = b ∙ rw (d) in
-      rw (st, q) (not-there S n d)
+    -- a place among them
+    pub lies-counted : (n : ℕ) (p : Place) → Lies p n S → p ≡ place-of n lines-counted
+    lies-counted n p h = h ∙ ap (place-of n) (sym (lines-kept S kept is))
+
+    -- ---- taking a line out
+
+    module _ (n : ℕ) (r : Removed) (store′ : List ℕ) (a : r ≡ removed-answer n lines-counted) (b : store′ ≡ removed-bytes n store lines-counted) where
+      answered : r ≡ removed-answer n (lines-of S)
+      answered = a ∙ ap (removed-answer n) (lines-kept S kept is)
+
+      left-so : store′ ≡ removed-bytes n store (lines-of S)
+      left-so = b ∙ ap (removed-bytes n store) (lines-kept S kept is)
+
+      -- the line is gone
+      pub gone : T (sound-state S) → (left : Counts) → r ≡ Gone left
+          → entered (record { number = 0; place = 0; end = 0; added = 0; editor = record { used = left .used; lines = left .lines; greatest = left .greatest; «name_count» = e .«name_count»; «name_bytes» = e .«name_bytes» } }) names values store′ ≡ delete S n
+      unfolding removed-bytes counts-of
+      gone o left g =
+          let d = removed-done n (lines-of S) left (sym answered ∙ g) in
+          let st : store′ ≡ overwritten (joined (take-out n (lines-of S))) store = left-so ∙ rw (d .0) in
+          rw (st, d .1) (taken-out S o n (d .0))
+
+      -- the line is not there
+      pub absent : (x : Entered) → r ≡ NotThere → x ≡ refusing 9 no-span e → entered x names values store′ ≡ delete S n
+      unfolding removed-bytes
+      absent x g q =
+          let d = removed-not-there n (lines-of S) (sym answered ∙ g) in
+          let st : store′ ≡ store = left-so ∙ rw (d) in
+          rw (st, q) (not-there S n d)
 
   -- ---- accepting a line
 
@@ -67,34 +86,41 @@ module _ (names values store : List ℕ) (e : Editor) where
     unfolding refusal
     answer-7 b x l t k q ts w = rw q (refuses-7 S o n line size fresh (sym l ∙ t) k ts w)
 
-    -- 8
-    pub answer-8 : (b : Bool) (x : Entered) (r : Stored) (part store′ : List ℕ) → b ≡ lack → b ≡ false → closed? fresh ≡ true → size ≤ 255
-        → part ≡ take size line → r ≡ stored-answer store (put-line part (lines-of S)) → store′ ≡ stored-bytes store (put-line part (lines-of S)) → r ≡ NoRoom → x ≡ refusing 8 no-span e → Accepts S n line size fresh (entered x names values store′)
-    unfolding stored-bytes refusal
-    answer-8 b x r part store′ l t c k p a z g q ts w =
-        let d = stored-no-room store (put-line part (lines-of S)) (sym a ∙ g) in
-        let st : store′ ≡ store = z ∙ rw (d) in
-        rw (st, q) (refuses-8 S o n line size fresh (sym l ∙ t) c k (ap (λ (y : List ℕ). too-long store (put-line y (lines-of S))) (sym p) ∙ d) ts w)
+    module _ (kept : Counts) (is : kept ≡ counts-in e) (b : Bool) (part : List ℕ) (l : b ≡ lack) (t : b ≡ false) (k : size ≤ 255) (p : part ≡ take size line) where
+      -- the place of the line's number
+      pub place-is : (ts : List Token) (q : Place) → Written (names-of S) n ts line size fresh → Lies q n S → q ≡ place-of (line-number part) (lines-counted kept is)
+      place-is ts q w h =
+          let same : line-number part ≡ n = ap line-number p ∙ number-is S o n line size fresh ts w (sym l ∙ t) k in
+          lies-counted kept is n q h ∙ ap (λ (m : ℕ). place-of m (lines-counted kept is)) (sym same)
 
-    -- 0
-    pub answer-0 : (b : Bool) (r : Stored) (used added : ℕ) (part names′ values′ store′ : List ℕ) → b ≡ lack → b ≡ false → closed? fresh ≡ true → size ≤ 255
-        → part ≡ take size line → r ≡ stored-answer store (put-line part (lines-of S)) → store′ ≡ stored-bytes store (put-line part (lines-of S)) → r ≡ Done used
-        → names′ ≡ overwritten (take (e .«name_bytes») names ++ name-bytes (names-in fresh)) names
-        → values′ ≡ overwritten (take (8 * e .«name_count») values ++ value-entries (e .«name_count») (names-in fresh)) values → added ≡ length (names-in fresh)
-        → Accepts S n line size fresh (entered (record { number = 0; place = 0; end = 0; added = added; editor = record { used = used; «name_count» = e .«name_count» + added; «name_bytes» = e .«name_bytes» + length fresh } }) names′ values′ store′)
-    unfolding stored-bytes
-    answer-0 b r used added part names′ values′ store′ l t c k p a z g en ev ea ts w =
-        let d = stored-done store (put-line part (lines-of S)) used (sym a ∙ g) in
-        let st : store′ ≡ overwritten (joined (put-line part (lines-of S))) store = z ∙ rw (d .0) in
-        rw (st, en, ev, ea, d .1, p) (takes S o n line size fresh (sym l ∙ t) c k (ap (λ (y : List ℕ). too-long store (put-line y (lines-of S))) (sym p) ∙ d .0) ts w)
+      module _ (r : Stored) (store′ : List ℕ) (a : r ≡ stored-answer store (put-line part (lines-counted kept is))) (z : store′ ≡ stored-bytes store (put-line part (lines-counted kept is))) (c : closed? fresh ≡ true) where
+        abbrev put : List (List ℕ)
+        put = put-line part (lines-of S)
 
-    -- the place of the line's number
-    pub place-is : (b : Bool) (ts : List Token) (part : List ℕ) (p : Place) → b ≡ lack → b ≡ false → size ≤ 255 → Written (names-of S) n ts line size fresh → part ≡ take size line
-        → Lies p n S → p ≡ place-of (line-number part) (lines-in (take (e .used) store))
-    unfolding lines-of
-    place-is b ts part p l t k w q h =
-        let same : line-number part ≡ n = ap line-number q ∙ number-is S o n line size fresh ts w (sym l ∙ t) k in
-        h ∙ ap (λ (m : ℕ). place-of m (lines-in (take (e .used) store))) (sym same)
+        put-answered : r ≡ stored-answer store put
+        put-answered = a ∙ ap (λ (ls : List (List ℕ)). stored-answer store (put-line part ls)) (lines-kept S kept is)
+
+        put-left : store′ ≡ stored-bytes store put
+        put-left = z ∙ ap (λ (ls : List (List ℕ)). stored-bytes store (put-line part ls)) (lines-kept S kept is)
+
+        -- 8
+        pub answer-8 : (x : Entered) → r ≡ NoRoom → x ≡ refusing 8 no-span e → Accepts S n line size fresh (entered x names values store′)
+        unfolding stored-bytes refusal
+        answer-8 x g q ts w =
+            let d = stored-no-room store put (sym put-answered ∙ g) in
+            let st : store′ ≡ store = put-left ∙ rw (d) in
+            rw (st, q) (refuses-8 S o n line size fresh (sym l ∙ t) c k (ap (λ (y : List ℕ). too-long store (put-line y (lines-of S))) (sym p) ∙ d) ts w)
+
+        -- 0
+        pub answer-0 : (after : Counts) (added : ℕ) (names′ values′ : List ℕ) → r ≡ Done after
+            → names′ ≡ overwritten (take (e .«name_bytes») names ++ name-bytes (names-in fresh)) names
+            → values′ ≡ overwritten (take (8 * e .«name_count») values ++ value-entries (e .«name_count») (names-in fresh)) values → added ≡ length (names-in fresh)
+            → Accepts S n line size fresh (entered (record { number = 0; place = 0; end = 0; added = added; editor = record { used = after .used; lines = after .lines; greatest = after .greatest; «name_count» = e .«name_count» + added; «name_bytes» = e .«name_bytes» + length fresh } }) names′ values′ store′)
+        unfolding stored-bytes counts-of
+        answer-0 after added names′ values′ g en ev ea ts w =
+            let d = stored-done store put after (sym put-answered ∙ g) in
+            let st : store′ ≡ overwritten (joined put) store = put-left ∙ rw (d .0) in
+            rw (st, en, ev, ea, d .1, p) (takes S o n line size fresh (sym l ∙ t) c k (ap (λ (y : List ℕ). too-long store (put-line y (lines-of S))) (sym p) ∙ d .0) ts w)
 
     -- there is room for the new names
     pub room-is : (b : Bool) → b ≡ lack → b ≡ false → closed? fresh ≡ true → Room names (e .«name_bytes») values (e .«name_count») fresh

@@ -14,7 +14,7 @@ use Rattle.paper.specs.Tokens.{Token}
 use Rattle.paper.specs.Items.{no-span}
 use Rattle.paper.specs.Names.{names-in, name-bytes, add-names, value-entries}
 use Rattle.paper.specs.Line.{line-bytes, line-number}
-use Rattle.paper.specs.Store.{stored?, put-line, take-out, overwritten}
+use Rattle.paper.specs.Store.{greatest-number, stored?, put-line, take-out, overwritten}
 use Rattle.paper.specs.Calls.{State, names-of, lines-of, sound-state, refusal, stored, lacks-room, accept, delete}
 use Rattle.paper.specs.Calls.{Entered as Outcome}
 use Rattle.laws.specs.Names.{closed?, adds-front}
@@ -34,7 +34,7 @@ same-over k l h =
 -- the state with other lines
 abbrev pub with-lines : State → List (List ℕ) → State
 with-lines s ls =
-    record { names = s .names; name-size = s .name-size; name-count = s .name-count; values = s .values; store = overwritten (joined ls) (s .store); used = length (joined ls) }
+    record { names = s .names; name-size = s .name-size; name-count = s .name-count; values = s .values; store = overwritten (joined ls) (s .store); used = length (joined ls); line-count = length ls; greatest = greatest-number ls }
 
 -- where no name is new the tables stay
 pub tables-stay : (s : State) → T (sound-state s) → (ls : List (List ℕ)) → stored s (names-of s) ls ≡ with-lines s ls
@@ -119,6 +119,8 @@ module _ (s : State) (o : T (sound-state s)) (n : ℕ) (line : List ℕ) (size :
     values = overwritten (take (8 * s .name-count) (s .values) ++ value-entries (s .name-count) (names-in fresh)) (s .values);
     store = overwritten (joined (put-line (take size line) (lines-of s))) (s .store);
     used = length (joined (put-line (take size line) (lines-of s)));
+    line-count = length (put-line (take size line) (lines-of s));
+    greatest = greatest-number (put-line (take size line) (lines-of s));
   }
 
   -- it is the state that is stored

@@ -1,27 +1,56 @@
 -- What a sound state is, as facts.
-use Prim.Native.Nat.{_*_, _≤_}
+use Prim.Native.Nat.{ℕ, _*_, _≤_}
+use mathlib.Core.Path.{_≡_, sym, ap, subst}
+use mathlib.Core.List.{List}
 use lib.Dec.{T, leb, leb→le}
-use lib.ListN.{length}
+use lib.ListN.{length, take}
 use Rattle.paper.specs.Names.{sound-table}
-use Rattle.paper.specs.Store.{sound-store}
-use Rattle.paper.specs.Calls.{State, sound-state}
-use Rattle.laws.specs.Tests.{and-left, and-right, is-true}
+use Rattle.paper.specs.Store.{sound-store, lines-in}
+use Rattle.paper.specs.Calls.{State, lines-of, sound-tables, agrees, sound-state}
+use Rattle.laws.specs.Tests.{and-left, and-right, and-both, is-true}
 use Rattle.laws.specs.Names.{Sound, sound-facts}
+use Rattle.store.specs.declared.Counts.{Counts}
+use Rattle.store.specs.Answers.{sound-counts}
+
+tables : (s : State) → T (sound-state s) → T (sound-tables s)
+unfolding sound-state
+tables s t = and-left (sound-tables s) (agrees s) t
+
+-- the name table, by the test
+pub table-tested : (s : State) → T (sound-state s) → T (sound-table (s .names) (s .name-size) (s .name-count))
+unfolding sound-tables
+table-tested s t = and-left (sound-table (s .names) (s .name-size) (s .name-count)) _ (tables s t)
 
 -- the name table
 pub table-sound : (s : State) → T (sound-state s) → Sound (s .names) (s .name-size) (s .name-count)
-unfolding sound-state
-table-sound s t = sound-facts (s .names) (s .name-size) (s .name-count) (is-true (sound-table (s .names) (s .name-size) (s .name-count)) (and-left (sound-table (s .names) (s .name-size) (s .name-count)) _ t))
+table-sound s t = sound-facts (s .names) (s .name-size) (s .name-count) (is-true (sound-table (s .names) (s .name-size) (s .name-count)) (table-tested s t))
 
 -- the values
 pub values-fit : (s : State) → T (sound-state s) → 8 * s .name-count ≤ length (s .values)
-unfolding sound-state
+unfolding sound-tables
 values-fit s t =
     leb→le (8 * s .name-count) (length (s .values))
-    (and-left (leb (8 * s .name-count) (length (s .values))) _ (and-right (sound-table (s .names) (s .name-size) (s .name-count)) _ t))
+    (and-left (leb (8 * s .name-count) (length (s .values))) _ (and-right (sound-table (s .names) (s .name-size) (s .name-count)) _ (tables s t)))
 
 -- the store
 pub store-sound : (s : State) → T (sound-state s) → T (sound-store (s .store) (s .used))
-unfolding sound-state
+unfolding sound-tables
 store-sound s t =
-    and-right (leb (8 * s .name-count) (length (s .values))) _ (and-right (sound-table (s .names) (s .name-size) (s .name-count)) _ t)
+    and-right (leb (8 * s .name-count) (length (s .values))) _ (and-right (sound-table (s .names) (s .name-size) (s .name-count)) _ (tables s t))
+
+-- what a state keeps of the store
+abbrev pub counts-kept : State → Counts
+counts-kept s = record { used = s .used; lines = s .line-count; greatest = s .greatest }
+
+module _ (s : State) (kept : Counts) (is : kept ≡ counts-kept s) where
+  -- its lines
+  pub lines-kept : lines-in (take (kept .used) (s .store)) ≡ lines-of s
+  unfolding lines-of
+  lines-kept = ap (λ (k : Counts). lines-in (take (k .used) (s .store))) is
+
+  -- the store has these counts
+  pub counts-sound : T (sound-state s) → T (sound-counts (s .store) kept)
+  unfolding sound-state sound-counts agrees lines-of
+  counts-sound t =
+      subst (λ (k : Counts). T (sound-counts (s .store) k)) (sym is)
+      (and-both (sound-store (s .store) (s .used)) _ (store-sound s t) (and-right (sound-tables s) (agrees s) t))

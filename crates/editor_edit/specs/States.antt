@@ -5,6 +5,7 @@ use mathlib.Core.List.{List}
 use Rattle.paper.specs.Items.{Span, span}
 use Rattle.paper.specs.Calls.{State, lines-of}
 use Rattle.paper.specs.Calls.{Entered as Outcome}
+use Rattle.store.specs.declared.Counts.{Counts}
 use Rattle.store.specs.declared.Place.{Place}
 use Rattle.store.specs.Answers.{place-of}
 use Rattle.editor_edit.specs.declared.Editor.{Editor}
@@ -13,11 +14,15 @@ use Rattle.editor_edit.specs.declared.Entered.{Entered}
 -- names, values, store and the record
 abbrev pub state : List ℕ → List ℕ → List ℕ → Editor → State
 state names values store e =
-    record { names = names; name-size = e .«name_bytes»; name-count = e .«name_count»; values = values; store = store; used = e .used }
+    record { names = names; name-size = e .«name_bytes»; name-count = e .«name_count»; values = values; store = store; used = e .used; line-count = e .lines; greatest = e .greatest }
 
 -- the record of empty tables and an empty store
 abbrev pub empty-record : Editor
-empty-record = record { used = 0; «name_count» = 0; «name_bytes» = 0 }
+empty-record = record { used = 0; lines = 0; greatest = 0; «name_count» = 0; «name_bytes» = 0 }
+
+-- what a record keeps of the store
+abbrev pub counts-in : Editor → Counts
+counts-in e = record { used = e .used; lines = e .lines; greatest = e .greatest }
 
 -- what a call answered, with what it left in names, values and store
 abbrev pub entered : Entered → List ℕ → List ℕ → List ℕ → Outcome

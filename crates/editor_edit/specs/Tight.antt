@@ -11,7 +11,7 @@ use Rattle.editor_edit.specs.declared.Entered.{Entered}
 
 -- the record of a state
 abbrev pub record-of : State → Editor
-record-of s = record { used = s .used; «name_count» = s .name-count; «name_bytes» = s .name-size }
+record-of s = record { used = s .used; lines = s .line-count; greatest = s .greatest; «name_count» = s .name-count; «name_bytes» = s .name-size }
 
 -- the answer of an outcome
 abbrev answer-of : Outcome → Entered

@@ -1,5 +1,6 @@
 // The edits of a sound state: a line put in, with its new names, or taken out.
 use buffers::front;
+use store::Counts;
 use store::Place;
 use store::Removed;
 use store::Stored;
@@ -7,12 +8,15 @@ ghost use mathlib.Core.Path.{_≡_};
 ghost use lib.Dec.{T};
 ghost use Rattle.paper.specs.Items.{span, no-span};
 ghost use Rattle.paper.specs.Calls.{sound-state, delete};
-ghost use Rattle.editor_edit.specs.States.{state, empty-record, entered, refusing, Lies};
+ghost use Rattle.editor_edit.specs.States.{state, empty-record, counts-in, entered, refusing, Lies};
 ghost use Rattle.editor_edit.specs.Lines.{Readable, Accepts};
 
-// The editor's record: the bytes of the store that are used, how many names there are, and how many bytes they have.
+// The editor's record: the bytes of the store that are used, how many lines they are and the greatest number of these, 0 if there is none, how many
+// names there are, and how many bytes they have.
 pub struct Editor {
     pub used: usize,
+    pub lines: usize,
+    pub greatest: usize,
     pub name_count: usize,
     pub name_bytes: usize,
 }
@@ -35,8 +39,21 @@ pub fn empty() -> Editor
 {
     Editor {
         used: 0,
+        lines: 0,
+        greatest: 0,
         name_count: 0,
         name_bytes: 0,
+    }
+}
+
+// What a record keeps of the store.
+pub fn store_counts(e: Editor) -> Counts
+    ensures { λ r. ⌜ r ≡ counts-in e ⌝ }
+{
+    Counts {
+        used: e.used,
+        lines: e.lines,
+        greatest: e.greatest,
     }
 }
 
@@ -65,14 +82,16 @@ pub fn take_out(place: Place, names: &[u8], values: &[u8], store: &mut [u8], e: 
     requires { ⌜ (T (sound-state (state (now names) (now values) (now store) e))) × (Lies place (place .number) (state (now names) (now values) (now store) e)) ⌝ }
     ensures { λ r. ⌜ entered r (now (names .entry)) (now (values .entry)) (now (store .exit)) ≡ delete (state (now (names .entry)) (now (values .entry)) (now (store .entry)) e) (place .number) ⌝ }
 {
-    match store::take_out(store, e.used, place) {
-        Removed::Done(used) => Entered {
+    match store::take_out(store, store_counts(e), place) {
+        Removed::Done(left) => Entered {
             number: 0,
             place: 0,
             end: 0,
             added: 0,
             editor: Editor {
-                used,
+                used: left.used,
+                lines: left.lines,
+                greatest: left.greatest,
                 name_count: e.name_count,
                 name_bytes: e.name_bytes,
             },
@@ -106,9 +125,9 @@ pub fn accept(
     if LONGEST_LINE < size {
         return refused(7, e);
     }
-    match store::put_in(store, e.used, place, front(line, size)) {
+    match store::put_in(store, store_counts(e), place, front(line, size)) {
         Stored::NoRoom => refused(8, e),
-        Stored::Done(used) => {
+        Stored::Done(after) => {
             names_numbered::add(names, bytes, values, count, fresh);
             let added = names_numbered::count(fresh);
             Entered {
@@ -117,7 +136,9 @@ pub fn accept(
                 end: 0,
                 added,
                 editor: Editor {
-                    used,
+                    used: after.used,
+                    lines: after.lines,
+                    greatest: after.greatest,
                     name_count: count + added,
                     name_bytes: bytes + fresh.len(),
                 },

@@ -19,14 +19,12 @@ use Rattle.editor_list.specs.declared.Listed.{Listed as Answer}
 use Rattle.list_line.specs.declared.Outcome.{Outcome as Found}
 use Rattle.editor_list.specs.Answers.{unlisted, listed, Numbered}
 use Rattle.editor_edit.specs.States.{Lies}
-use Rattle.editor_edit.specs.Sound.{table-sound, store-sound}
+use Rattle.editor_edit.specs.Sound.{table-tested, table-sound, store-sound}
 
 -- what the lister asks of the names
 pub names-sound : (s : State) → T (sound-state s) → Sound (s .names) (s .name-size)
-unfolding sound-state
 names-sound s t =
-    subst (λ (k : ℕ). T (sound-table (s .names) (s .name-size) k)) (sym ((table-sound s t) .counted))
-    (and-left (sound-table (s .names) (s .name-size) (s .name-count)) _ t)
+    subst (λ (k : ℕ). T (sound-table (s .names) (s .name-size) k)) (sym ((table-sound s t) .counted)) (table-tested s t)
 
 module _ (s : State) (o : T (sound-state s)) (n : ℕ) (p : Place) (lies : Lies p n s) where
   e : p ≡ place-of n (lines-in (take (s .used) (s .store)))

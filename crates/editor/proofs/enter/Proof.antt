@@ -15,6 +15,9 @@ read-requires c κs =
     let args = c .before .before .before .before .before .before .before .before .before .before .args in
     (names-within (state (args .names .now) (args .values .now) (args .store .now) (args .e)) _ (c .before .before .before .before .sound .ensures) (c .before .before .before .if1 .taken), omega arith, omega arith)
 
+store-counts-requires : tie.Need-store-counts-requires
+store-counts-requires c κs = search needs
+
 asked-requires : tie.Need-asked-requires
 asked-requires c κs = search needs
 
@@ -32,9 +35,9 @@ enum-known-place c = search needs
 
 edit-requires : tie.Need-edit-requires
 edit-requires c κs =
-    let args = c .before .before .before .before .before .before .before .before .before .before .before .before .before .before .before .before .before .before .before .before .before .before .args in
-    let there = sound-there (state (args .names .now) (args .values .now) (args .store .now) (args .e)) _ (c .before .before .before .before .before .before .before .before .before .before .before .before .before .before .before .before .sound .ensures) (c .before .before .before .before .before .before .before .before .before .before .before .before .before .before .before .if1 .taken) _ _ (c .before .before .before .before .before .before .before .before .find .ensures ∙ ap (found-answer (args .store .now) (args .e .used)) (c .before .before .before .before .before .before .before .before .before .asked .ensures)) (c .before .before .before .before .before .before .place .given .0 .0) (c .before .before .before .before .before .before .place .given .1) in
-    (there .0, there .1, c .before .before .before .before .before .before .before .before .before .before .before .read .ensures .ready (args .values .now) (args .store .now))
+    let args = c .before .before .before .before .before .before .before .before .before .before .before .before .before .before .before .before .before .before .before .before .before .before .before .args in
+    let there = sound-there (state (args .names .now) (args .values .now) (args .store .now) (args .e)) _ (c .before .before .before .before .before .before .before .before .before .before .before .before .before .before .before .before .before .sound .ensures) (c .before .before .before .before .before .before .before .before .before .before .before .before .before .before .before .before .if1 .taken) _ (c .before .before .before .before .before .before .before .before .before .before .store-counts .ensures) _ _ (c .before .before .before .before .before .before .before .before .find .ensures ∙ ap (found-answer (args .store .now) _) (c .before .before .before .before .before .before .before .before .before .asked .ensures)) (c .before .before .before .before .before .before .place .given .0 .0) (c .before .before .before .before .before .before .place .given .1) in
+    (there .0, there .1, c .before .before .before .before .before .before .before .before .before .before .before .before .read .ensures .ready (args .values .now) (args .store .now))
 
 refused-requires-2 : tie.Need-refused-requires-2
 refused-requires-2 c κs = search needs
@@ -47,8 +50,8 @@ same-length-2 c = search needs
 
 returns : tie.Need-returns
 returns c =
-    let args = c .before .before .before .before .before .before .before .before .before .before .before .before .before .before .before .before .before .args in
-    enter-refused (args .names .now) (args .values .now) (args .store .now) (args .e) (args .text .now) _ (unsound-store (state (args .names .now) (args .values .now) (args .store .now) (args .e)) _ (c .before .before .before .before .before .before .before .before .before .before .before .sound .ensures) (c .before .before .before .before .before .before .before .before .before .before .if1 .taken) _ _ (c .before .before .before .find .ensures ∙ ap (found-answer (args .store .now) (args .e .used)) (c .before .before .before .before .asked .ensures)) (c .before .enum-told .given .1)) (c .refused .ensures)
+    let args = c .before .before .before .before .before .before .before .before .before .before .before .before .before .before .before .before .before .before .args in
+    enter-refused (args .names .now) (args .values .now) (args .store .now) (args .e) (args .text .now) _ (unsound-store (state (args .names .now) (args .values .now) (args .store .now) (args .e)) _ (c .before .before .before .before .before .before .before .before .before .before .before .before .sound .ensures) (c .before .before .before .before .before .before .before .before .before .before .before .if1 .taken) _ (c .before .before .before .before .before .store-counts .ensures) _ _ (c .before .before .before .find .ensures ∙ ap (found-answer (args .store .now) _) (c .before .before .before .before .asked .ensures)) (c .before .enum-told .given .1)) (c .refused .ensures)
 
 same-length-3 : tie.Need-same-length-3
 same-length-3 c = search needs
@@ -61,9 +64,9 @@ same-length-5 c = search needs
 
 returns-2 : tie.Need-returns-2
 returns-2 c =
-    let args = c .before .before .before .before .before .before .before .before .before .before .before .before .before .before .before .before .before .before .before .before .before .before .before .before .before .before .before .before .before .args in
-    let there = sound-there (state (args .names .now) (args .values .now) (args .store .now) (args .e)) _ (c .before .before .before .before .before .before .before .before .before .before .before .before .before .before .before .before .before .before .before .before .before .before .before .sound .ensures) (c .before .before .before .before .before .before .before .before .before .before .before .before .before .before .before .before .before .before .before .before .before .before .if1 .taken) _ _ (c .before .before .before .before .before .before .before .before .before .before .before .before .before .before .before .find .ensures ∙ ap (found-answer (args .store .now) (args .e .used)) (c .before .before .before .before .before .before .before .before .before .before .before .before .before .before .before .before .asked .ensures)) (c .before .before .before .before .before .before .before .before .before .before .before .before .before .place .given .0 .0) (c .before .before .before .before .before .before .before .before .before .before .before .before .before .place .given .1) in
-    enter-so (state (args .names .now) (args .values .now) (args .store .now) (args .e)) (args .text .now) _ (there .0) (c .before .before .before .before .before .before .before .before .before .before .before .before .before .before .before .before .before .before .read .ensures .enters (args .values .now) (args .store .now) _ (c .before .before .before .before .before .before .edit .ensures))
+    let args = c .before .before .before .before .before .before .before .before .before .before .before .before .before .before .before .before .before .before .before .before .before .before .before .before .before .before .before .before .before .before .args in
+    let there = sound-there (state (args .names .now) (args .values .now) (args .store .now) (args .e)) _ (c .before .before .before .before .before .before .before .before .before .before .before .before .before .before .before .before .before .before .before .before .before .before .before .before .sound .ensures) (c .before .before .before .before .before .before .before .before .before .before .before .before .before .before .before .before .before .before .before .before .before .before .before .if1 .taken) _ (c .before .before .before .before .before .before .before .before .before .before .before .before .before .before .before .before .before .store-counts .ensures) _ _ (c .before .before .before .before .before .before .before .before .before .before .before .before .before .before .before .find .ensures ∙ ap (found-answer (args .store .now) _) (c .before .before .before .before .before .before .before .before .before .before .before .before .before .before .before .before .asked .ensures)) (c .before .before .before .before .before .before .before .before .before .before .before .before .before .place .given .0 .0) (c .before .before .before .before .before .before .before .before .before .before .before .before .before .place .given .1) in
+    enter-so (state (args .names .now) (args .values .now) (args .store .now) (args .e)) (args .text .now) _ (there .0) (c .before .before .before .before .before .before .before .before .before .before .before .before .before .before .before .before .before .before .before .read .ensures .enters (args .values .now) (args .store .now) _ (c .before .before .before .before .before .before .edit .ensures))
 
 same-length-6 : tie.Need-same-length-6
 same-length-6 c = search needs
@@ -79,6 +82,7 @@ enter-spec =
     (tie.spec
     sound-requires
     read-requires
+    store-counts-requires
     asked-requires
     find-requires
     enum-told

@@ -4,7 +4,7 @@ use Prim.Native.Nat.{ℕ}
 use Rattle.paper.specs.Calls.{lines-of}
 use Rattle.store.specs.Answers.{place-of}
 use Rattle.editor_edit.specs.States.{state}
-use Rattle.editor_edit.specs.Sound.{table-sound, store-sound}
+use Rattle.editor_edit.specs.Sound.{table-sound, lines-kept, counts-sound}
 use borrow.Author.Needs.{needs}
 use Rattle.editor.proofs.enter_sound.Statement.{statement}
 use Rattle.editor.proofs.enter_sound.Tie as tie
@@ -14,20 +14,22 @@ read-requires c κs =
     let args = c .before .before .before .before .before .before .before .args in
     (table-sound (state (args .names .now) (args .values .now) (args .store .now) (args .e)) (c .before .before .before .before .before .before .before .pre) .within, omega arith, omega arith)
 
+store-counts-requires : tie.Need-store-counts-requires
+store-counts-requires c κs = search needs
+
 asked-requires : tie.Need-asked-requires
 asked-requires c κs = search needs
 
 find-sound-requires : tie.Need-find-sound-requires
 find-sound-requires c κs =
-    let args = c .before .before .before .before .before .before .before .before .before .before .args in
-    store-sound (state (args .names .now) (args .values .now) (args .store .now) (args .e)) (c .before .before .before .before .before .before .before .before .before .before .pre)
+    let args = c .before .before .before .before .before .before .before .before .before .before .before .args in
+    counts-sound (state (args .names .now) (args .values .now) (args .store .now) (args .e)) _ (c .before .store-counts .ensures) (c .before .before .before .before .before .before .before .before .before .before .before .pre)
 
 edit-requires : tie.Need-edit-requires
-unfolding lines-of
 edit-requires c κs =
-    let args = c .before .before .before .before .before .before .before .before .before .before .before .before .before .before .before .before .args in
-    let there = c .before .before .before .before .before .find-sound .ensures ∙ ap (λ (n : ℕ). place-of n (lines-of (state (args .names .now) (args .values .now) (args .store .now) (args .e)))) (c .before .before .before .before .before .before .asked .ensures) in
-    (c .before .before .before .before .before .before .before .before .before .before .before .before .before .before .before .before .pre, there, c .before .before .before .before .before .before .before .before .read .ensures .ready (args .values .now) (args .store .now))
+    let args = c .before .before .before .before .before .before .before .before .before .before .before .before .before .before .before .before .before .args in
+    let there = c .before .before .before .before .before .find-sound .ensures ∙ ap (place-of _) (lines-kept (state (args .names .now) (args .values .now) (args .store .now) (args .e)) _ (c .before .before .before .before .before .before .before .store-counts .ensures)) ∙ ap (λ (n : ℕ). place-of n (lines-of (state (args .names .now) (args .values .now) (args .store .now) (args .e)))) (c .before .before .before .before .before .before .asked .ensures) in
+    (c .before .before .before .before .before .before .before .before .before .before .before .before .before .before .before .before .before .pre, there, c .before .before .before .before .before .before .before .before .before .read .ensures .ready (args .values .now) (args .store .now))
 
 same-length : tie.Need-same-length
 same-length c = search needs
@@ -40,14 +42,15 @@ same-length-3 c = search needs
 
 returns : tie.Need-returns
 returns c =
-    let args = c .before .before .before .before .before .before .before .before .before .before .before .before .before .before .before .before .before .before .before .before .before .before .before .args in
-    c .before .before .before .before .before .before .before .before .before .before .before .before .before .before .before .read .ensures .enters (args .values .now) (args .store .now) _ (c .before .before .before .before .before .before .edit .ensures)
+    let args = c .before .before .before .before .before .before .before .before .before .before .before .before .before .before .before .before .before .before .before .before .before .before .before .before .args in
+    c .before .before .before .before .before .before .before .before .before .before .before .before .before .before .before .before .read .ensures .enters (args .values .now) (args .store .now) _ (c .before .before .before .before .before .before .edit .ensures)
 
 pub enter-sound-spec : {M : Type 1} → statement M
 enter-sound-spec =
     tie.close
     (tie.spec
     read-requires
+    store-counts-requires
     asked-requires
     find-sound-requires
     edit-requires

@@ -8,6 +8,9 @@ use Rattle.editor.proofs.list.Tie as tie
 sound-requires : tie.Need-sound-requires
 sound-requires c κs = search needs
 
+store-counts-requires : tie.Need-store-counts-requires
+store-counts-requires c κs = search needs
+
 find-requires : tie.Need-find-requires
 find-requires c κs = search needs
 
@@ -22,8 +25,8 @@ enum-known-place c = search needs
 
 list-stored-requires : tie.Need-list-stored-requires
 list-stored-requires c κs =
-    let args = c .before .before .before .before .before .before .before .before .before .before .before .args in
-    let there = sound-there (state (args .names .now) (args .values .now) (args .store .now) (args .e)) _ (c .before .before .before .before .before .before .sound .ensures) (c .before .before .before .before .before .if1 .taken) (args .line) _ (c .before .before .before .before .find .ensures) (c .before .before .place .given .0 .0) (c .before .before .place .given .1) in
+    let args = c .before .before .before .before .before .before .before .before .before .before .before .before .args in
+    let there = sound-there (state (args .names .now) (args .values .now) (args .store .now) (args .e)) _ (c .before .before .before .before .before .before .before .sound .ensures) (c .before .before .before .before .before .before .if1 .taken) _ (c .before .before .before .before .before .store-counts .ensures) (args .line) _ (c .before .before .before .before .find .ensures) (c .before .before .place .given .0 .0) (c .before .before .place .given .1) in
     (there .0, own-place (args .line) _ _ (there .1))
 
 not-listed-requires-2 : tie.Need-not-listed-requires-2
@@ -31,16 +34,16 @@ not-listed-requires-2 c κs = search needs
 
 returns : tie.Need-returns
 returns c =
-    let args = c .before .before .before .before .before .before .before .before .before .before .args in
-    list-refused (state (args .names .now) (args .values .now) (args .store .now) (args .e)) (args .line) (args .out .now) _ (unsound-store (state (args .names .now) (args .values .now) (args .store .now) (args .e)) _ (c .before .before .before .before .before .sound .ensures) (c .before .before .before .before .if1 .taken) (args .line) _ (c .before .before .before .find .ensures) (c .before .enum-told .given .1)) (c .not-listed .ensures)
+    let args = c .before .before .before .before .before .before .before .before .before .before .before .args in
+    list-refused (state (args .names .now) (args .values .now) (args .store .now) (args .e)) (args .line) (args .out .now) _ (unsound-store (state (args .names .now) (args .values .now) (args .store .now) (args .e)) _ (c .before .before .before .before .before .before .sound .ensures) (c .before .before .before .before .before .if1 .taken) _ (c .before .before .before .before .store-counts .ensures) (args .line) _ (c .before .before .before .find .ensures) (c .before .enum-told .given .1)) (c .not-listed .ensures)
 
 same-length : tie.Need-same-length
 same-length c = search needs
 
 returns-2 : tie.Need-returns-2
 returns-2 c =
-    let args = c .before .before .before .before .before .before .before .before .before .before .before .before .before .before .args in
-    let there = sound-there (state (args .names .now) (args .values .now) (args .store .now) (args .e)) _ (c .before .before .before .before .before .before .before .before .before .sound .ensures) (c .before .before .before .before .before .before .before .before .if1 .taken) (args .line) _ (c .before .before .before .before .before .before .before .find .ensures) (c .before .before .before .before .before .place .given .0 .0) (c .before .before .before .before .before .place .given .1) in
+    let args = c .before .before .before .before .before .before .before .before .before .before .before .before .before .before .before .args in
+    let there = sound-there (state (args .names .now) (args .values .now) (args .store .now) (args .e)) _ (c .before .before .before .before .before .before .before .before .before .before .sound .ensures) (c .before .before .before .before .before .before .before .before .before .if1 .taken) _ (c .before .before .before .before .before .before .before .before .store-counts .ensures) (args .line) _ (c .before .before .before .before .before .before .before .find .ensures) (c .before .before .before .before .before .place .given .0 .0) (c .before .before .before .before .before .place .given .1) in
     list-so (state (args .names .now) (args .values .now) (args .store .now) (args .e)) (args .line) _ (args .out .now) _ (there .0) (there .1) (c .before .before .list-stored .ensures)
 
 returns-3 : tie.Need-returns-3
@@ -53,6 +56,7 @@ list-spec =
     tie.close
     (tie.spec
     sound-requires
+    store-counts-requires
     find-requires
     enum-told
     not-listed-requires

@@ -7,13 +7,16 @@ use Rattle.editor.proofs.sound.Tie as tie
 sound-requires : tie.Need-sound-requires
 sound-requires c κs = search needs
 
+store-counts-requires : tie.Need-store-counts-requires
+store-counts-requires c κs = search needs
+
 sound-requires-2 : tie.Need-sound-requires-2
 sound-requires-2 c κs = search needs
 
 returns : tie.Need-returns
 returns c =
-    let args = c .before .before .before .before .before .before .args in
-    store-decides (state (args .names .now) (args .values .now) (args .store .now) (args .e)) _ (c .before .before .sound .ensures) (c .before .if1 .taken) _ (c .sound2 .ensures)
+    let args = c .before .before .before .before .before .before .before .args in
+    store-decides (state (args .names .now) (args .values .now) (args .store .now) (args .e)) _ (c .before .before .before .sound .ensures) (c .before .before .if1 .taken) _ (c .before .store-counts .ensures) _ (c .sound2 .ensures)
 
 returns-2 : tie.Need-returns-2
 returns-2 c =
@@ -21,4 +24,4 @@ returns-2 c =
     unsound-tables (state (args .names .now) (args .values .now) (args .store .now) (args .e)) _ (c .before .sound .ensures) (c .if1 .left)
 
 pub sound-spec : {M : Type 1} → statement M
-sound-spec = tie.close (tie.spec sound-requires sound-requires-2 returns returns-2)
+sound-spec = tie.close (tie.spec sound-requires store-counts-requires sound-requires-2 returns returns-2)

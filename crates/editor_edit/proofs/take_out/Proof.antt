@@ -1,19 +1,20 @@
-use Rattle.paper.specs.Calls.{lines-of}
 use Rattle.editor_edit.specs.States.{state}
-use Rattle.editor_edit.specs.Sound.{store-sound}
-use Rattle.editor_edit.proofs.AnswerLaws.{gone, absent}
+use Rattle.editor_edit.specs.Sound.{counts-sound}
+use Rattle.editor_edit.proofs.AnswerLaws.{lies-counted, gone, absent}
 use borrow.Author.Needs.{needs}
 use Rattle.editor_edit.proofs.take_out.Statement.{statement}
 use Rattle.editor_edit.proofs.take_out.Tie as tie
 
-take-out-requires : tie.Need-take-out-requires
-unfolding lines-of
-take-out-requires c κs =
-    let args = c .before .before .before .before .args in
-    (store-sound (state (args .names .now) (args .values .now) (args .store .now) (args .e)) (c .before .before .before .before .pre .0), c .before .before .before .before .pre .1)
+store-counts-requires : tie.Need-store-counts-requires
+store-counts-requires c κs = search needs
 
-enum-known-used : tie.Need-enum-known-used
-enum-known-used c = search needs
+take-out-requires : tie.Need-take-out-requires
+take-out-requires c κs =
+    let args = c .before .before .before .before .before .args in
+    (counts-sound (state (args .names .now) (args .values .now) (args .store .now) (args .e)) _ (c .store-counts .ensures) (c .before .before .before .before .before .pre .0), lies-counted (args .names .now) (args .values .now) (args .store .now) (args .e) _ (c .store-counts .ensures) (args .place .number) (args .place) (c .before .before .before .before .before .pre .1))
+
+enum-known-left : tie.Need-enum-known-left
+enum-known-left c = search needs
 
 enum-told : tie.Need-enum-told
 enum-told c = search needs
@@ -25,26 +26,25 @@ same-length : tie.Need-same-length
 same-length c = search needs
 
 returns : tie.Need-returns
-unfolding lines-of
 returns c =
-    let args = c .before .before .before .before .before .before .before .before .before .before .args in
-    gone (args .names .now) (args .values .now) (args .store .now) (args .e) (c .before .before .before .before .before .before .before .before .before .before .pre .0) (args .place .number) _ _ _ (c .before .before .before .before .before .take-out .ensures .0) (c .before .before .before .before .before .take-out .ensures .1) (c .before .used .given .1)
+    let args = c .before .before .before .before .before .before .before .before .before .before .before .args in
+    gone (args .names .now) (args .values .now) (args .store .now) (args .e) _ (c .before .before .before .before .before .before .store-counts .ensures) (args .place .number) _ _ (c .before .before .before .before .before .take-out .ensures .0) (c .before .before .before .before .before .take-out .ensures .1) (c .before .before .before .before .before .before .before .before .before .before .before .pre .0) _ (c .before .left .given .1)
 
 same-length-2 : tie.Need-same-length-2
 same-length-2 c = search needs
 
 returns-2 : tie.Need-returns-2
-unfolding lines-of
 returns-2 c =
-    let args = c .before .before .before .before .before .before .before .before .before .before .args in
-    absent (args .names .now) (args .values .now) (args .store .now) (args .e) (args .place .number) _ _ _ (c .before .before .before .before .before .take-out .ensures .0) (c .before .before .before .before .before .take-out .ensures .1) (c .before .enum-told .given .1) (c .refused .ensures)
+    let args = c .before .before .before .before .before .before .before .before .before .before .before .args in
+    absent (args .names .now) (args .values .now) (args .store .now) (args .e) _ (c .before .before .before .before .before .before .store-counts .ensures) (args .place .number) _ _ (c .before .before .before .before .before .take-out .ensures .0) (c .before .before .before .before .before .take-out .ensures .1) _ (c .before .enum-told .given .1) (c .refused .ensures)
 
 pub take-out-spec : {M : Type 1} → statement M
 take-out-spec =
     tie.close
     (tie.spec
+    store-counts-requires
     take-out-requires
-    enum-known-used
+    enum-known-left
     enum-told
     refused-requires
     same-length
