@@ -21,7 +21,7 @@ use Rattle.tag.specs.Lent.{editor-of, counts, entered-numbers, listed-nu
 pub two-put : (s s₁ s₂ : List ℕ) (a b : ℕ) → s₁ ≡ set s 0 a → s₂ ≡ set s₁ 1 b → s₂ ≡ sets s 0 (a ∷ b ∷ [])
 two-put s s₁ s₂ a b e₁ e₂ = e₂ ∙ ap (λ (x : List ℕ). set x 1 b) e₁
 
-pub three-put : (s s₁ s₂ s₃ : List ℕ) (a b d : ℕ) → s₁ ≡ set s 0 a → s₂ ≡ set s₁ 1 b → s₃ ≡ set s₂ 2 d → s₃ ≡ sets s 0 (a ∷ b ∷ d ∷ [])
+three-put : (s s₁ s₂ s₃ : List ℕ) (a b d : ℕ) → s₁ ≡ set s 0 a → s₂ ≡ set s₁ 1 b → s₃ ≡ set s₂ 2 d → s₃ ≡ sets s 0 (a ∷ b ∷ d ∷ [])
 three-put s s₁ s₂ s₃ a b d e₁ e₂ e₃ = e₃ ∙ ap (λ (x : List ℕ). set x 2 d) (two-put s s₁ s₂ a b e₁ e₂)
 
 four-put : (s s₁ s₂ s₃ s₄ : List ℕ) (a b d f : ℕ) → s₁ ≡ set s 0 a → s₂ ≡ set s₁ 1 b → s₃ ≡ set s₂ 2 d → s₄ ≡ set s₃ 3 f
@@ -33,40 +33,41 @@ pub five-put : (s s₁ s₂ s₃ s₄ s₅ : List ℕ) (a b d f g : ℕ) → s�
 five-put s s₁ s₂ s₃ s₄ s₅ a b d f g e₁ e₂ e₃ e₄ e₅ = e₅ ∙ ap (λ (x : List ℕ). set x 4 g) (four-put s s₁ s₂ s₃ s₄ a b d f e₁ e₂ e₃ e₄)
 
 -- a record's counts, read one by one
-pub read-so : (r : List ℕ) (u n b : ℕ) → u ≡ getD r 0 0 → n ≡ getD r 1 0 → b ≡ getD r 2 0 → _≡_ {A = Editor} (record { used = u; «name_count» = n; «name_bytes» = b }) (editor-of r)
-read-so r u n b p q t = rw (p, q, t)
+pub read-so : (r : List ℕ) (b n u l g : ℕ) → b ≡ getD r 0 0 → n ≡ getD r 1 0 → u ≡ getD r 2 0 → l ≡ getD r 3 0 → g ≡ getD r 4 0
+    → _≡_ {A = Editor} (record { «name_bytes» = b; «name_count» = n; used = u; lines = l; greatest = g }) (editor-of r)
+read-so r b n u l g e₁ e₂ e₃ e₄ e₅ = rw (e₁, e₂, e₃, e₄, e₅)
 
 module _ (text names values store r : List ℕ) (e : Editor) (so : e ≡ editor-of r) where
   -- a record that lacks a count
-  pub enter-lacking : (x : Entered) → x ≡ refusing 1 no-span e → length r < 3 → entered x names values store ≡ enter-by-counts text names values store r
+  pub enter-lacking : (x : Entered) → x ≡ refusing 1 no-span e → length r < 5 → entered x names values store ≡ enter-by-counts text names values store r
   unfolding refusal
   enter-lacking x given h =
       ap (λ (y : Entered). entered y names values store) given
       ∙ ap (λ (y : Editor). refusal 1 no-span (state names values store y)) so
-      ∙ ap (λ (t : Bool). pick t (refusal 1 no-span (state names values store (editor-of r))) (enter text (state names values store (editor-of r)))) (sym (lt-ltb (length r) 3 h))
+      ∙ ap (λ (t : Bool). pick t (refusal 1 no-span (state names values store (editor-of r))) (enter text (state names values store (editor-of r)))) (sym (lt-ltb (length r) 5 h))
 
   -- a record that has them all
-  pub enter-counted : (o : Outcome) → 3 ≤ length r → o ≡ enter text (state names values store e) → o ≡ enter-by-counts text names values store r
+  pub enter-counted : (o : Outcome) → 5 ≤ length r → o ≡ enter text (state names values store e) → o ≡ enter-by-counts text names values store r
   enter-counted o h given =
       given
       ∙ ap (λ (x : Editor). enter text (state names values store x)) so
-      ∙ ap (λ (t : Bool). pick t (refusal 1 no-span (state names values store (editor-of r))) (enter text (state names values store (editor-of r)))) (sym (le-ltb (length r) 3 h))
+      ∙ ap (λ (t : Bool). pick t (refusal 1 no-span (state names values store (editor-of r))) (enter text (state names values store (editor-of r)))) (sym (le-ltb (length r) 5 h))
 
 module _ (line : ℕ) (names values store r output : List ℕ) where
   -- a record that lacks a count
-  pub list-lacking : (x : Listed) → x ≡ unlisted 1 → length r < 3 → listed x output ≡ list-by-counts line names values store r output
+  pub list-lacking : (x : Listed) → x ≡ unlisted 1 → length r < 5 → listed x output ≡ list-by-counts line names values store r output
   unfolding not-listed
   list-lacking x given h =
       ap (λ (y : Listed). listed y output) given
-      ∙ ap (λ (t : Bool). pick t (not-listed 1 output) (list line (state names values store (editor-of r)) output)) (sym (lt-ltb (length r) 3 h))
+      ∙ ap (λ (t : Bool). pick t (not-listed 1 output) (list line (state names values store (editor-of r)) output)) (sym (lt-ltb (length r) 5 h))
 
   -- a record that has them all
-  pub list-counted : (e : Editor) → e ≡ editor-of r → (o : Written-out) → 3 ≤ length r → o ≡ list line (state names values store e) output
+  pub list-counted : (e : Editor) → e ≡ editor-of r → (o : Written-out) → 5 ≤ length r → o ≡ list line (state names values store e) output
       → o ≡ list-by-counts line names values store r output
   list-counted e so o h given =
       given
       ∙ ap (λ (x : Editor). list line (state names values store x) output) so
-      ∙ ap (λ (t : Bool). pick t (not-listed 1 output) (list line (state names values store (editor-of r)) output)) (sym (le-ltb (length r) 3 h))
+      ∙ ap (λ (t : Bool). pick t (not-listed 1 output) (list line (state names values store (editor-of r)) output)) (sym (le-ltb (length r) 5 h))
 
 -- what entering leaves
 pub leaves-so : (o : Outcome) (x : Entered) (r a names values store r′ a′ : List ℕ) → entered x names values store ≡ o

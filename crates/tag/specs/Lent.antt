@@ -14,11 +14,11 @@ use Rattle.editor_edit.specs.States.{state}
 
 -- the counts of a record, 0 for each that it lacks
 abbrev pub editor-of : List ℕ → Editor
-editor-of r = record { used = getD r 0 0; «name_count» = getD r 1 0; «name_bytes» = getD r 2 0 }
+editor-of r = record { «name_bytes» = getD r 0 0; «name_count» = getD r 1 0; used = getD r 2 0; lines = getD r 3 0; greatest = getD r 4 0 }
 
 -- the counts of a state, as a record has them
 abbrev pub counts : State → List ℕ
-counts s = s .used ∷ s .name-count ∷ s .name-size ∷ []
+counts s = s .name-size ∷ s .name-count ∷ s .used ∷ s .line-count ∷ s .greatest ∷ []
 
 -- the numbers that entering a text answers
 abbrev pub entered-numbers : Outcome → List ℕ
@@ -32,12 +32,12 @@ listed-numbers o = o .number ∷ o .written ∷ []
 abbrev pub enter-by-counts : List ℕ → List ℕ → List ℕ → List ℕ → List ℕ → Outcome
 enter-by-counts text names values store r =
     let s = state names values store (editor-of r) in
-    pick (ltb (length r) 3) (refusal 1 no-span s) (enter text s)
+    pick (ltb (length r) 5) (refusal 1 no-span s) (enter text s)
 
 -- a line listed: a record that lacks a count is refused with 1
 abbrev pub list-by-counts : ℕ → List ℕ → List ℕ → List ℕ → List ℕ → List ℕ → Written-out
 list-by-counts line names values store r output =
-    pick (ltb (length r) 3) (not-listed 1 output) (list line (state names values store (editor-of r)) output)
+    pick (ltb (length r) 5) (not-listed 1 output) (list line (state names values store (editor-of r)) output)
 
 -- Entering left names, values, store, record and answer so: as the outcome says. The record's counts and the answer's numbers stand at the front,
 -- as many as there is room for; what stands behind them is as it was.
@@ -58,4 +58,6 @@ pub kept : (r names values store : List ℕ) → sets r 0 (counts (state names v
 kept [] names values store = refl
 kept (a ∷ []) names values store = refl
 kept (a ∷ b ∷ []) names values store = refl
-kept (a ∷ b ∷ c ∷ r) names values store = refl
+kept (a ∷ b ∷ c ∷ []) names values store = refl
+kept (a ∷ b ∷ c ∷ d ∷ []) names values store = refl
+kept (a ∷ b ∷ c ∷ d ∷ e ∷ r) names values store = refl

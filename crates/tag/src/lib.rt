@@ -13,7 +13,7 @@ ghost use Rattle.editor_list.specs.Answers.{listed};
 ghost use Rattle.tag.specs.Lent.{editor-of, enter-by-counts, list-by-counts, Leaves, Lists};
 
 // How many counts a record has.
-const COUNTS: usize = 3;
+const COUNTS: usize = 5;
 
 // The number at a place, 0 past the end.
 fn number_at(s: &[usize], at: usize) -> usize
@@ -36,19 +36,23 @@ fn read_record(record: &[usize]) -> Editor
     ensures { λ r. ⌜ r ≡ editor-of (now («record» .entry)) ⌝ }
 {
     Editor {
-        used: number_at(record, 0),
+        name_bytes: number_at(record, 0),
         name_count: number_at(record, 1),
-        name_bytes: number_at(record, 2),
+        used: number_at(record, 2),
+        lines: number_at(record, 3),
+        greatest: number_at(record, 4),
     }
 }
 
 // Writes the counts to a record, as many as it has room for.
 fn write_record(record: &mut [usize], e: Editor)
-    ensures { λ _. ⌜ now («record» .exit) ≡ sets (now («record» .entry)) 0 (e .used ∷ e .«name_count» ∷ e .«name_bytes» ∷ []) ⌝ }
+    ensures { λ _. ⌜ now («record» .exit) ≡ sets (now («record» .entry)) 0 (e .«name_bytes» ∷ e .«name_count» ∷ e .used ∷ e .lines ∷ e .greatest ∷ []) ⌝ }
 {
-    put(record, 0, e.used);
+    put(record, 0, e.name_bytes);
     put(record, 1, e.name_count);
-    put(record, 2, e.name_bytes);
+    put(record, 2, e.used);
+    put(record, 3, e.lines);
+    put(record, 4, e.greatest);
 }
 
 // Writes what entering a text answered, as many numbers as there is room for.
