@@ -1,4 +1,4 @@
-"""Tries wrong edits of the definitions (crate paper) against the four crates that can refuse them, and says which lemma refuses each. (The edits
+"""Tries wrong edits of the definitions (crate paper) against the five crates that can refuse them, and says which lemma refuses each. (The edits
 under crates/NAME/must-fail change one crate alone; these change the definitions and are refused by the cases and theorems about them.)
 
   python3 scripts/breaks.py [--every N] [--list] [--table] [NAME...]      (from the repository's root; some ten seconds for each edit)
@@ -17,10 +17,10 @@ import sys
 import grammar
 
 COPY, KEPT = "target/breaks", "target/breaks.txt"
-CRATES = {"paper": "", "laws": "paper", "promises": "paper laws", "cases": "paper"}
-# what of cases is tried first on an edit of a file, as it is likely to refuse it; what is quick; the rest is only tried on what nothing else refuses
+CRATES = {"paper": "", "laws": "paper", "promises": "paper laws", "cases": "paper", "asked": "paper cases"}
+# what of cases is tried first on an edit of a file, as it is likely to refuse it; what is quick, and tried with asked; the rest is only tried on what nothing else refuses
 FIRST = {"Grammar": [["Following"]], "Words": [["Kinds"], ["Worked"]]}
-QUICK = ["Answers", "Worked", "Limits", "Pairs", "Kinds", "Following"]
+QUICK = ["Answers", "Worked", "Limits", "Kinds", "Following"]
 # the files of paper that hold theorems; an error in another one is no refusal but an edit that cannot be read
 THEOREMS = ["Cases", "MachineLaws"]
 # where names that an edit may need come from
@@ -268,7 +268,7 @@ def refusal(file):
             answer = checked("promises")
         else:
             cases(modules)
-            answer = checked("cases")
+            answer = checked("asked" if modules == QUICK else "cases")
         if answer:
             return answer
     return "nothing -"

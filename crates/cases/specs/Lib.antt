@@ -1,10 +1,7 @@
 pub mod Answers
 pub mod Worked
 pub mod Recorded
-pub mod Ends
 pub mod Limits
-pub mod Quotes
-pub mod Pairs
 pub mod Kinds
 pub mod Following
 pub mod Coverage

@@ -1,0 +1,3 @@
+pub mod Quotes
+pub mod Ends
+pub mod Pairs
