@@ -20,6 +20,7 @@ use console::print_bytes;
 use console::print_number;
 use console::whole;
 use editor_edit::Editor;
+use editor_edit::store_counts;
 use store::Found;
 
 // The longest row that is kept.
@@ -40,8 +41,8 @@ fn begun(source: usize) -> Program {
 }
 
 // Prints the bytes of the stored line with a number.
-fn print_line(number: usize, store: &[u8], used: usize) {
-    if let Found::At(place) = store::find(store, used, number) {
+fn print_line(number: usize, store: &[u8], record: Editor) {
+    if let Found::At(place) = store::find(store, store_counts(record), number) {
         let at = place.at;
         if at < store.len() {
             print_bytes(front(&store[at..], place.size));
@@ -57,7 +58,7 @@ fn show_line(number: usize, names: &[u8], values: &[u8], store: &[u8], record: E
         return;
     }
     print(b"B\t");
-    print_line(number, store, record.used);
+    print_line(number, store, record);
     print(b"\nL\t");
     print(front(&out, r.written));
     print(b"\n");

@@ -27,7 +27,7 @@ fn print_bytes(bytes: &[u8]) {
     console::print_bytes(bytes);
 }
 
-// Enters a text and prints the answer: number, place, its end, names added, bytes used, the counts of names and the buffers afterwards.
+// Enters a text and prints the answer: number, place, its end, names added, the record's counts and the buffers afterwards.
 fn enter(text: &[u8], names: &mut [u8], values: &mut [u8], store: &mut [u8], record: Editor) {
     let r = editor::enter(text, names, values, store, record);
     let after = r.editor;
@@ -36,6 +36,8 @@ fn enter(text: &[u8], names: &mut [u8], values: &mut [u8], store: &mut [u8], rec
     print_number(r.end);
     print_number(r.added);
     print_number(after.used);
+    print_number(after.lines);
+    print_number(after.greatest);
     print_number(after.name_bytes);
     print_number(after.name_count);
     print_bytes(names);
@@ -76,16 +78,20 @@ fn read_tables(
     let d = bytes_field(line, c.next, values);
     let e = bytes_field(line, d.next, store);
     let f = number_field(line, e.next);
+    let g = number_field(line, f.next);
+    let h = number_field(line, g.next);
     Tables {
         names: a.n,
         values: d.n,
         store: e.n,
         record: Editor {
             used: f.n,
+            lines: g.n,
+            greatest: h.n,
             name_count: c.n,
             name_bytes: b.n,
         },
-        next: f.next,
+        next: h.next,
     }
 }
 
