@@ -1,7 +1,6 @@
 -- What a sound state is, as facts.
-use Prim.Native.Nat.{ℕ, _*_, _≤_}
+use Prim.Native.Nat.{_*_, _≤_}
 use mathlib.Core.Path.{_≡_, sym, ap, subst}
-use mathlib.Core.List.{List}
 use lib.Dec.{T, leb, leb→le}
 use lib.ListN.{length, take}
 use Rattle.paper.specs.Names.{sound-table}

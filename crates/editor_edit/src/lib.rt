@@ -130,6 +130,8 @@ pub fn accept(
         Stored::Done(after) => {
             names_numbered::add(names, bytes, values, count, fresh);
             let added = names_numbered::count(fresh);
+            let name_count = count + added;
+            let name_bytes = bytes + fresh.len();
             Entered {
                 number: 0,
                 place: 0,
@@ -139,8 +141,8 @@ pub fn accept(
                     used: after.used,
                     lines: after.lines,
                     greatest: after.greatest,
-                    name_count: count + added,
-                    name_bytes: bytes + fresh.len(),
+                    name_count,
+                    name_bytes,
                 },
             }
         }

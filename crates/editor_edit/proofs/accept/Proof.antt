@@ -53,13 +53,13 @@ add-requires c κs =
 count-requires : tie.Need-count-requires
 count-requires c κs = search needs
 
-add-t28 : tie.Need-add-t28
-add-t28 c =
+add-name-count : tie.Need-add-name-count
+add-name-count c =
     let args = c .before .before .before .before .before .before .before .before .before .before .before .before .before .before .before .before .before .before .before .before .before .before .before .before .before .args in
     omega (arith, c .count .ensures, few-names (args .names .now) (args .values .now) (args .store .now) (args .e) (c .before .before .before .before .before .before .before .before .before .before .before .before .before .before .before .before .before .before .before .before .before .before .before .before .before .pre .0) (args .place .number) (args .line .now) (args .size) (args .fresh .now) _ (c .before .before .before .before .before .before .before .before .before .before .before .before .before .before .before .before .before .before .before .lacks-room .ensures) (c .before .before .before .before .before .before .before .before .before .before .before .before .before .before .before .before .before .before .if1 .left) (c .before .before .before .before .before .before .before .before .before .before .before .before .before .before .before .before .before .before .before .before .before .before .before .before .before .pre .2 .written .closed))
 
-add-t30 : tie.Need-add-t30
-add-t30 c =
+add-name-bytes : tie.Need-add-name-bytes
+add-name-bytes c =
     let args = c .before .before .before .before .before .before .before .before .before .before .before .before .before .before .before .before .before .before .before .before .before .before .before .before .before .args in
     omega (arith, c .before .before .before .before .before .before .before .before .before .before .before .before .before .before .before .before .before .before .before .before .before .before .before .before .before .good .1 .1 .1 .1 .0 .0, name-room (args .names .now) (args .values .now) (args .store .now) (args .e) (c .before .before .before .before .before .before .before .before .before .before .before .before .before .before .before .before .before .before .before .before .before .before .before .before .before .pre .0) (args .place .number) (args .line .now) (args .size) (args .fresh .now) _ (c .before .before .before .before .before .before .before .before .before .before .before .before .before .before .before .before .before .before .before .lacks-room .ensures) (c .before .before .before .before .before .before .before .before .before .before .before .before .before .before .before .before .before .before .if1 .left) (c .before .before .before .before .before .before .before .before .before .before .before .before .before .before .before .before .before .before .before .before .before .before .before .before .before .pre .2 .written .closed))
 
@@ -102,8 +102,8 @@ accept-spec =
     enum-known-after
     add-requires
     count-requires
-    add-t28
-    add-t30
+    add-name-count
+    add-name-bytes
     same-length
     returns-3
     same-length-2
