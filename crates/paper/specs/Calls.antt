@@ -85,17 +85,29 @@ translate p s = outcome (read look-in-range start (items p s))
 
 -- ---- an accepted text: refusals 6, 7, 8
 
+-- the state with these names, and the store as it was
+unfoldable pub with-names : State → List (List ℕ) → State
+with-names s ns =
+    let new-names = drop (length (names-of s)) ns in record {
+      names = overwritten (take (s .name-size) (s .names) ++ name-bytes new-names) (s .names);
+      name-size = s .name-size + length (name-bytes new-names);
+      name-count = length ns;
+      values = overwritten (take (8 * s .name-count) (s .values) ++ value-entries (s .name-count) new-names) (s .values);
+      store = s .store;
+      used = s .used;
+      line-count = s .line-count;
+      greatest = s .greatest;
+    }
+
 -- the state with these names and lines
 unfoldable pub stored : State → List (List ℕ) → List (List ℕ) → State
 stored s ns ls =
-    let old = names-of s in
-    let new-names = drop (length old) ns in
-    let size = s .name-size + length (name-bytes new-names) in
+    let named = with-names s ns in
     let lines = joined ls in record {
-      names = overwritten (take (s .name-size) (s .names) ++ name-bytes new-names) (s .names);
-      name-size = size;
-      name-count = length ns;
-      values = overwritten (take (8 * s .name-count) (s .values) ++ value-entries (s .name-count) new-names) (s .values);
+      names = named .names;
+      name-size = named .name-size;
+      name-count = named .name-count;
+      values = named .values;
       store = overwritten lines (s .store);
       used = length lines;
       line-count = length ls;
@@ -110,6 +122,10 @@ lacks-room s ns =
     ltb (length old) (length ns)
     && (ltb most-names (length ns) || (ltb (length (s .names)) (s .name-size + length (name-bytes new-names)) || ltb (length (s .values)) (8 * length ns)))
 
+-- 6, 7, 8, in this order: names lack room, the line has over 255 bytes, it does not fit where it is to stand; or what comes of it
+unfoldable pub unless-short : {A : Type 0} → (ℕ → A) → Bool → List ℕ → Bool → A → A
+unless-short refuse lacking line unfitting accepted = pick lacking (refuse 6) (pick (ltb 255 (length line)) (refuse 7) (pick unfitting (refuse 8) accepted))
+
 -- 6, 7, 8, or the line is stored
 unfoldable pub accept : State → ℕ → List Token → Entered
 accept s n ts =
@@ -117,9 +133,7 @@ accept s n ts =
     let line = line-bytes ns n ts in
     let lines = put-line line (lines-of s) in
     let entered : Entered = record { number = 0; place = no-span; added = length ns - length (names-of s); after = stored s ns lines } in
-    pick (lacks-room s ns) (refusal 6 no-span s)
-    (pick (ltb 255 (length line)) (refusal 7 no-span s)
-    (pick (ltb (room (s .store)) (length (joined lines))) (refusal 8 no-span s) entered))
+    unless-short (λ k. refusal k no-span s) (lacks-room s ns) line (ltb (room (s .store)) (length (joined lines))) entered
 
 -- the answer to a translation
 unfoldable pub answered : State → ℕ → Translated → Entered
@@ -134,10 +148,11 @@ delete s n =
 
 -- ---- the line's number: refusal 3
 
--- how a text begins: its number, the place past the digits and what stands there; digits worth too much; no digit
+-- how a text begins: its number, the place past the digits and what stands there; digits worth too much; no digit, in a text of blanks alone
+-- or in any other, which is a line without a number (document 02, §1)
 pub data Head : Type 0 where
   numbered : ℕ → ℕ → List ℕ → Head
-  too-great no-digit : Head
+  too-great only-blanks unnumbered : Head
 
 -- the number is the digit run after blanks
 unfoldable pub head-of : List ℕ → Head
@@ -146,16 +161,18 @@ head-of text =
     let t = drop blanks text in
     let digits = run digit? t in
     let n = value 0 (take digits t) in
-    pick (eqb digits 0) no-digit (pick (lawful-number? n) (numbered n (blanks + digits) (drop digits t)) too-great)
+    let without = pick (eqb blanks (length text)) only-blanks unnumbered in
+    pick (eqb digits 0) without (pick (lawful-number? n) (numbered n (blanks + digits) (drop digits t)) too-great)
 
--- by what stands after the number: nothing but blanks deletes
+-- by what stands after the number: nothing but blanks deletes; a text without a number is none for the store
 unfoldable pub at-head : State → Head → Entered
 at-head s (numbered n p rest) =
     let deleted = delete s n in
     let translated = answered s n (translate p rest) in
     pick (eqb (run blank? rest) (length rest)) deleted translated
 at-head s too-great = refusal 3 no-span s
-at-head s no-digit = refusal 3 no-span s
+at-head s only-blanks = refusal 3 no-span s
+at-head s unnumbered = refusal 3 no-span s
 
 -- ---- entering a text: refusals 1 and 2
 
@@ -178,15 +195,18 @@ pub record Listed : Type 0 where
 unfoldable pub not-listed : ℕ → List ℕ → Listed
 not-listed number output = record { number = number; written = 0; output = output }
 
+-- 10 for a line that is not well-formed, 11 for a text longer than the output, or the text stands at its front
+unfoldable pub listed-if : Bool → List ℕ → List ℕ → Listed
+listed-if formed text output =
+    let listed : Listed = record { number = 0; written = length text; output = overwritten text output } in
+    pick (not formed) (not-listed 10 output) (pick (ltb (length output) (length text)) (not-listed 11 output) listed)
+
 -- over sound tables and store: 9, 10, 11, or the listing
 unfoldable pub list-sound : ℕ → State → List ℕ → Listed
 list-sound n s output =
     let l = line-at n (lines-of s) in
-    let text = listing (names-of s) l in
-    let listed : Listed = record { number = 0; written = length text; output = overwritten text output } in
-    pick (not (stored? n (lines-of s))) (not-listed 9 output)
-    (pick (not (well-formed? (names-of s) l)) (not-listed 10 output)
-    (pick (ltb (length output) (length text)) (not-listed 11 output) listed))
+    let listed = listed-if (well-formed? (names-of s) l) (listing (names-of s) l) output in
+    pick (not (stored? n (lines-of s))) (not-listed 9 output) listed
 
 -- 1, and then over sound tables and store
 unfoldable pub list : ℕ → State → List ℕ → Listed

@@ -14,6 +14,7 @@ pub mod WellFormed
 pub mod Listing
 pub mod Store
 pub mod Calls
+pub mod Direct
 pub mod Hex
 pub mod Open
 pub mod Cases

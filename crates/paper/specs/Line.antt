@@ -68,6 +68,14 @@ line-number l = getD l 0 0 + 256 * getD l 1 0
 unfoldable pub lawful-number? : ℕ → Bool
 lawful-number? n = leb n 32767
 
+-- the number of a line that was entered without one (document 02, §1)
+abbrev pub direct-number : ℕ
+direct-number = 32768
+
+-- it is that number
+unfoldable pub direct-number? : ℕ → Bool
+direct-number? n = eqb n direct-number
+
 -- the name of the variable whose token stands at the front of some bytes; no name past the table's end
 unfoldable pub variable-name : List (List ℕ) → List ℕ → List ℕ
 variable-name ns s = getD ns (getD s 0 0 - 0x80) []

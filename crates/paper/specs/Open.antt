@@ -12,6 +12,7 @@ use Rattle.paper.specs.WellFormed as WellFormed′
 use Rattle.paper.specs.Listing as Listing′
 use Rattle.paper.specs.Store as Store′
 use Rattle.paper.specs.Calls as Calls′
+use Rattle.paper.specs.Direct as Direct′
 use Rattle.paper.specs.Hex as Hex′
 
 unfoldable pub all-Bytes : Unit {0}
@@ -47,15 +48,15 @@ unfolding Grammar′.moved Grammar′.given Grammar′.N Grammar′.term Grammar
 all-Grammar = tt
 
 unfoldable pub all-Line : Unit {0}
-unfolding Line′.variable-bytes Line′.own-bytes Line′.begins? Line′.to-next Line′.token-bytes Line′.line-bytes Line′.line-number Line′.lawful-number? Line′.variable-name Line′.raw-statement? Line′.tokens-from Line′.line-tokens
+unfolding Line′.variable-bytes Line′.own-bytes Line′.begins? Line′.to-next Line′.token-bytes Line′.line-bytes Line′.line-number Line′.lawful-number? Line′.direct-number? Line′.variable-name Line′.raw-statement? Line′.tokens-from Line′.line-tokens
 all-Line = tt
 
 unfoldable pub all-WellFormed : Unit {0}
-unfolding WellFormed′.tokens-of WellFormed′.right-token? WellFormed′.items-of WellFormed′.gives-back? WellFormed′.well-formed?
+unfolding WellFormed′.tokens-of WellFormed′.right-token? WellFormed′.items-of WellFormed′.gives-back? WellFormed′.formed?
 all-WellFormed = tt
 
 unfoldable pub all-Listing : Unit {0}
-unfolding Listing′.decimal Listing′.operator-text Listing′.token-text Listing′.body-text Listing′.listing-text Listing′.listing
+unfolding Listing′.decimal Listing′.operator-text Listing′.token-text Listing′.body-text Listing′.listing-text Listing′.direct-listing Listing′.listing
 all-Listing = tt
 
 unfoldable pub all-Store : Unit {0}
@@ -63,13 +64,17 @@ unfolding Store′.lines-from Store′.lines-in Store′.whole-line? Store′.ri
 all-Store = tt
 
 unfoldable pub all-Calls : Unit {0}
-unfolding Calls′.names-of Calls′.lines-of Calls′.sound-tables Calls′.agrees Calls′.sound-state Calls′.refusal Calls′.place-of Calls′.outcome Calls′.translate Calls′.stored Calls′.lacks-room Calls′.accept Calls′.answered Calls′.delete Calls′.head-of Calls′.at-head Calls′.enter-sound Calls′.enter Calls′.not-listed Calls′.list-sound Calls′.list
+unfolding Calls′.names-of Calls′.lines-of Calls′.sound-tables Calls′.agrees Calls′.sound-state Calls′.refusal Calls′.place-of Calls′.outcome Calls′.translate Calls′.with-names Calls′.stored Calls′.lacks-room Calls′.unless-short Calls′.accept Calls′.answered Calls′.delete Calls′.head-of Calls′.at-head Calls′.enter-sound Calls′.enter Calls′.not-listed Calls′.listed-if Calls′.list-sound Calls′.list
 all-Calls = tt
+
+unfoldable pub all-Direct : Unit {0}
+unfolding Direct′.line-kept Direct′.accept-direct Direct′.answered-direct Direct′.unnumbered? Direct′.typed Direct′.line-in Direct′.show-sound Direct′.show
+all-Direct = tt
 
 unfoldable pub all-Hex : Unit {0}
 unfolding Hex′.nibble Hex′.pairs Hex′.hex
 all-Hex = tt
 
 unfoldable pub everything : Unit {0}
-unfolding all-Bytes all-Words all-Tokens all-Constants all-Names all-Items all-Machine all-Grammar all-Line all-WellFormed all-Listing all-Store all-Calls all-Hex
+unfolding all-Bytes all-Words all-Tokens all-Constants all-Names all-Items all-Machine all-Grammar all-Line all-WellFormed all-Listing all-Store all-Calls all-Direct all-Hex
 everything = tt

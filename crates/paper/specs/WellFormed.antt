@@ -13,7 +13,7 @@ use Rattle.paper.specs.Names.{known?, less-open}
 use Rattle.paper.specs.Items.{Item, item, string-byte?, raw-byte?}
 use Rattle.paper.specs.Machine.{Taken, Run, left, done, bad, read}
 use Rattle.paper.specs.Grammar.{Gives, given, look-item, start}
-use Rattle.paper.specs.Line.{line-bytes, line-number, lawful-number?, line-tokens}
+use Rattle.paper.specs.Line.{line-bytes, line-number, lawful-number?, direct-number?, line-tokens}
 
 -- the tokens that the taken items give
 unfoldable pub tokens-of : List (Taken Gives Item) → List Token
@@ -38,16 +38,24 @@ right-token? ns (raw b) = every raw-byte? b
 right-token? ns out-of-range = false
 right-token? ns unreadable = false
 
--- Well-formed over the names ns: some lawful item sequence gives these bytes (so length and offsets are right), the number is at most
--- 32767, and each token is right.
-pub record WellFormed (ns : List (List ℕ)) (l : List ℕ) : Type 0 where
+-- Formed over the names ns, with a number that passes a test: some lawful item sequence gives these bytes (so length and offsets are right),
+-- and each token is right.
+pub record Formed (lawful? : ℕ → Bool) (ns : List (List ℕ)) (l : List ℕ) : Type 0 where
   pub number : ℕ
   pub items : List Item
   pub tokens : List Token
   pub lawful : Lawful items tokens
   pub bytes : line-bytes ns number tokens ≡ l
-  pub lawful-number : T (lawful-number? number)
+  pub lawful-number : T (lawful? number)
   pub right : T (every (right-token? ns) tokens)
+
+-- well-formed: formed, and the number is at most 32767
+abbrev pub WellFormed : List (List ℕ) → List ℕ → Type 0
+WellFormed ns l = Formed lawful-number? ns l
+
+-- well-formed as a line without a number (document 02, §1)
+abbrev pub WellFormedDirect : List (List ℕ) → List ℕ → Type 0
+WellFormedDirect ns l = Formed direct-number? ns l
 
 -- ---- the same as a test: the line's own tokens, as they are read, are lawful and give the line back
 
@@ -63,6 +71,10 @@ gives-back? ns l (left ts (f ∷ fs)) = false
 gives-back? ns l (done ts r) = false
 gives-back? ns l (bad k ts r) = false
 
+-- formed, as a test
+unfoldable pub formed? : (ℕ → Bool) → List (List ℕ) → List ℕ → Bool
+formed? lawful? ns l = lawful? (line-number l) && gives-back? ns l (read look-item start (items-of (line-tokens ns l)))
+
 -- well-formed, as a test
-unfoldable pub well-formed? : List (List ℕ) → List ℕ → Bool
-well-formed? ns l = lawful-number? (line-number l) && gives-back? ns l (read look-item start (items-of (line-tokens ns l)))
+abbrev pub well-formed? : List (List ℕ) → List ℕ → Bool
+well-formed? ns l = formed? lawful-number? ns l
