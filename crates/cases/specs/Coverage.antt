@@ -11,7 +11,7 @@ use Rattle.paper.specs.Tokens.{class}
 use Rattle.paper.specs.Items.{Item, items}
 use Rattle.paper.specs.Machine.{Row, row, find-row, Taken, Run, left, done, bad, read}
 use Rattle.paper.specs.Grammar.{Gives, itself, for-strings, as-prefix, put, grammar, may-be-empty, start}
-use Rattle.paper.specs.Calls.{Head, numbered, too-great, no-digit, head-of}
+use Rattle.paper.specs.Calls.{Head, numbered, too-great, only-blanks, unnumbered, head-of}
 use Rattle.paper.specs.Open.{everything}
 use Rattle.paper.specs.Cases.{Case, stores, refuses}
 use Rattle.cases.specs.Worked.{incomplete}
@@ -28,7 +28,8 @@ classes (i ∷ is) = class (i .token) ∷ classes is
 unfoldable pub and-text : Head → List (List ℕ) → List (List ℕ)
 and-text (numbered n p rest) more = classes (items p rest) ∷ more
 and-text too-great more = more
-and-text no-digit more = more
+and-text only-blanks more = more
+and-text unnumbered more = more
 
 -- the texts of worked cases
 unfoldable pub texts-of-cases : List Case → List (List ℕ)

@@ -14,7 +14,7 @@ use Rattle.paper.specs.Tokens.{class}
 use Rattle.paper.specs.Items.{Item, items}
 use Rattle.paper.specs.Machine.{Step, took, over, refused, step}
 use Rattle.paper.specs.Grammar.{Gives, itself, for-strings, as-prefix, put, look, start}
-use Rattle.paper.specs.Calls.{Head, numbered, too-great, no-digit, head-of}
+use Rattle.paper.specs.Calls.{Head, numbered, too-great, only-blanks, unnumbered, head-of}
 use Rattle.paper.specs.Open.{everything}
 
 -- a text, and what may come at the place of each of its items
@@ -248,7 +248,8 @@ as-expected s (i ∷ is) (f ∷ fs) = alike (all-taken s all-classes) f && as-ex
 unfoldable pub of-head : Head → List (List ℕ) → Bool
 of-head (numbered n p rest) fs = as-expected start (items p rest) fs
 of-head too-great fs = false
-of-head no-digit fs = false
+of-head only-blanks fs = false
+of-head unnumbered fs = false
 
 -- the texts of a table of which it is not so
 unfoldable pub unexpected : List Walk → List String

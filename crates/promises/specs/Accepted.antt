@@ -2,7 +2,7 @@
 use Prim.Native.Nat.{ℕ}
 use native.Mathlib.Omega.{arith}
 use mathlib.Core.Path.{_≡_, refl, subst, sym, ap, _∙_}
-use mathlib.Core.Bool.{true, false, not}
+use mathlib.Core.Bool.{Bool, true, false, not}
 use mathlib.Core.List.{List, [], _∷_, map}
 use lib.Dec.{T, eqb}
 use Rattle.paper.specs.Bytes.{run, every, among}
@@ -13,8 +13,8 @@ use Rattle.paper.specs.Names.{less-open, known?, add-name, add-names}
 use Rattle.paper.specs.Items.{Item, items}
 use Rattle.paper.specs.Machine.{Taken, Run, left, done, bad, read}
 use Rattle.paper.specs.Grammar.{Gives, given, look-item, look-in-range, start}
-use Rattle.paper.specs.Line.{line-bytes, lawful-number?}
-use Rattle.paper.specs.WellFormed.{tokens-of, Lawful, right-token?, WellFormed}
+use Rattle.paper.specs.Line.{line-bytes}
+use Rattle.paper.specs.WellFormed.{tokens-of, Lawful, right-token?, Formed}
 use Rattle.paper.specs.Calls.{tokens, outcome, translate}
 use Rattle.laws.specs.Tests.{and-left, and-right, and-both}
 use Rattle.laws.specs.Names.{name-passes}
@@ -158,8 +158,8 @@ ran p s ts e =
 pub names-new : (p : ℕ) (s : List ℕ) (ts : List Token) → translate p s ≡ tokens ts → T (every (name-passes new-name?) ts)
 names-new p s ts e = let r = ran p s ts e in subst (λ (z : List Token). T (every (name-passes new-name?) z)) (r .accepts .gives) (run-new (r .accepts .taken) (r .fit) (r .right))
 
--- A text that is translated into tokens gives, with any number and over the names with the new ones added, a well-formed line.
-pub stored-well-formed : (ns : List (List ℕ)) (n p : ℕ) (s : List ℕ) (ts : List Token) → T (lawful-number? n) → translate p s ≡ tokens ts → WellFormed (add-names ns ts) (line-bytes (add-names ns ts) n ts)
+-- A text that is translated into tokens gives, with any lawful number and over the names with the new ones added, a well-formed line.
+pub stored-well-formed : {lawful? : ℕ → Bool} (ns : List (List ℕ)) (n p : ℕ) (s : List ℕ) (ts : List Token) → T (lawful? n) → translate p s ≡ tokens ts → Formed lawful? (add-names ns ts) (line-bytes (add-names ns ts) n ts)
 stored-well-formed ns n p s ts h e =
     let r = ran p s ts e in
     let a = r .accepts in

@@ -1,4 +1,4 @@
--- All answers that `enter` and `list` give, each with what holds where it is given.
+-- All answers that `enter` gives, each with what holds where it is given.
 use Prim.Native.Nat.{ℕ, _-_, _≤_}
 use native.Mathlib.Omega.{arith}
 use mathlib.Core.Path.{_≡_, refl, subst, sym, _∙_}
@@ -13,15 +13,24 @@ use Rattle.paper.specs.Bytes.{pick, blank?, run, every, among, joined}
 use Rattle.paper.specs.Tokens.{Token}
 use Rattle.paper.specs.Items.{Span, no-span}
 use Rattle.paper.specs.Line.{lawful-number?}
-use Rattle.paper.specs.WellFormed.{well-formed?}
-use Rattle.paper.specs.Listing.{listing}
-use Rattle.paper.specs.Store.{room, stored?, line-at, put-line, take-out, overwritten}
-use Rattle.paper.specs.Calls.{State, names-of, lines-of, sound-state, Entered, refusal, Translated, tokens, refused-at, translate, stored, lacks-room, accept, answered, delete, numbered, too-great, no-digit, head-of, at-head, enter-sound, enter, Listed, not-listed, list-sound, list}
+use Rattle.paper.specs.Store.{room, stored?, put-line, take-out}
+use Rattle.paper.specs.Calls.{State, names-of, lines-of, sound-state, Entered, refusal, Translated, tokens, refused-at, translate, stored, lacks-room, unless-short, accept, answered, delete, numbered, too-great, only-blanks, unnumbered, head-of, at-head, enter-sound, enter}
 use Rattle.laws.specs.Tests.{as-T}
-use Rattle.promises.specs.Terms.{after-blanks, digit-count, number-in, number-end, past-number, items-in, NoReading, OutOfRange, EndsThere, names-with, line-with, Written}
+use Rattle.promises.specs.Terms.{after-blanks, digit-count, number-in, number-end, past-number, items-in, NoReading, OutOfRange, EndsThere, names-with, line-with}
 use Rattle.promises.specs.Lists.{run-whole}
 use Rattle.promises.specs.Refusals.{Refusal, is-four, is-five, four-or-five, translation-refused, translation-ends}
-use Rattle.promises.specs.Stored.{over-take, over-past, over-length}
+
+-- what is so of the refusals 6, 7 and 8, and of what comes of a line that has room, is so of the answer
+pub unless-short-says : {A : Type 0} (P : A → Type 0) (refuse : ℕ → A) (lacking : Bool) (line : List ℕ) (unfitting : Bool) (accepted : A) → P (refuse 6) → P (refuse 7) → P (refuse 8) → (lacking ≡ false → unfitting ≡ false → P accepted)
+    → P (unless-short refuse lacking line unfitting accepted)
+unfolding unless-short
+unless-short-says P refuse lacking line unfitting accepted six seven eight h = go lacking refl (ltb 255 (length line)) unfitting refl
+  where
+    go : (a : Bool) → lacking ≡ a → (b c : Bool) → unfitting ≡ c → P (pick a (refuse 6) (pick b (refuse 7) (pick c (refuse 8) accepted)))
+    go true x b c z = six
+    go false x true c z = seven
+    go false x false true z = eight
+    go false x false false z = h x z
 
 -- the refusals that have no place
 abbrev placeless : List ℕ
@@ -48,20 +57,7 @@ module _ (text : List ℕ) (s : State) where
 
   accept-says : Numbered text s → (ts : List Token) → translate (number-end text) (past-number text) ≡ tokens ts → Answer text s (accept s (number-in text) ts)
   unfolding accept among
-  accept-says t ts e = go (lacks-room s (names-with s ts)) (ltb 255 (length line)) (ltb (room (s .store)) (length (joined lines))) refl refl
-    where
-      line : List ℕ
-      line = line-with s (number-in text) ts
-
-      lines : List (List ℕ)
-      lines = put-line line (lines-of s)
-
-      go : (a b c : Bool) → lacks-room s (names-with s ts) ≡ a → ltb (room (s .store)) (length (joined lines)) ≡ c
-          → Answer text s (pick a (refusal 6 no-span s) (pick b (refusal 7 no-span s) (pick c (refusal 8 no-span s) (record { number = 0; place = no-span; added = length (names-with s ts) - length (names-of s); after = stored s (names-with s ts) lines }))))
-      go true b c x z = outright 6 tt
-      go false true c x z = outright 7 tt
-      go false false true x z = outright 8 tt
-      go false false false x z = puts-line t ts e x (ltb-false _ _ z)
+  accept-says t ts e = unless-short-says (Answer text s) _ _ _ _ _ (outright 6 tt) (outright 7 tt) (outright 8 tt) (λ x z. puts-line t ts e x (ltb-false _ _ z))
 
   -- what stands after the number stands in the text at the number's end
   stands-there : drop (number-end text) text ≡ past-number text
@@ -87,12 +83,13 @@ module _ (text : List ℕ) (s : State) where
 
   head-says : T (sound-state s) → Answer text s (at-head s (head-of text))
   unfolding at-head head-of after-blanks digit-count number-in number-end past-number among
-  head-says o = go (eqb (digit-count text) 0) (lawful-number? (number-in text)) refl
+  head-says o = go (eqb (digit-count text) 0) (eqb (run blank? text) (length text)) (lawful-number? (number-in text)) refl
     where
-      go : (a b : Bool) → lawful-number? (number-in text) ≡ b → Answer text s (at-head s (pick a no-digit (pick b (numbered (number-in text) (number-end text) (past-number text)) too-great)))
-      go true b e = outright 3 tt
-      go false false e = outright 3 tt
-      go false true e = rw (run-whole blank? (past-number text)) (number-go (record { sound = o; lawful = as-T _ e }) (every blank? (past-number text)) refl)
+      go : (a b c : Bool) → lawful-number? (number-in text) ≡ c → Answer text s (at-head s (pick a (pick b only-blanks unnumbered) (pick c (numbered (number-in text) (number-end text) (past-number text)) too-great)))
+      go true true c e = outright 3 tt
+      go true false c e = outright 3 tt
+      go false b false e = outright 3 tt
+      go false b true e = rw (run-whole blank? (past-number text)) (number-go (record { sound = o; lawful = as-T _ e }) (every blank? (past-number text)) refl)
 
   short-go : T (sound-state s) → (b : Bool) → Answer text s (pick b (refusal 2 no-span s) (at-head s (head-of text)))
   unfolding among
@@ -174,57 +171,3 @@ unchanged-so text s e (drops-line t b st) n = absurd (n refl)
 -- a refused text changes nothing
 pub unchanged : (text : List ℕ) (s : State) → ((enter text s) .number ≡ 0 → ⊥) → ((enter text s) .after ≡ s) × ((enter text s) .added ≡ 0)
 unchanged text s n = unchanged-so text s (enter text s) (answer text s) n
-
--- ---- listing
-
--- what `list` answers: a refusal, or the listing of a well-formed line
-pub data ListAnswer (n : ℕ) (s : State) (output : List ℕ) : Listed → Type 0 where
-  not-written : (k : ℕ) → T (among k (1 ∷ 9 ∷ 10 ∷ 11 ∷ [])) → ListAnswer n s output (not-listed k output)
-  written-out : T (sound-state s) → T (stored? n (lines-of s)) → T (well-formed? (names-of s) (line-at n (lines-of s))) → length (listing (names-of s) (line-at n (lines-of s))) ≤ length output
-      → ListAnswer n s output (record { number = 0; written = length (listing (names-of s) (line-at n (lines-of s))); output = overwritten (listing (names-of s) (line-at n (lines-of s))) output })
-
-module _ (n : ℕ) (s : State) (output : List ℕ) where
-  list-go : T (sound-state s) → (a : Bool) → stored? n (lines-of s) ≡ a → (b : Bool) → well-formed? (names-of s) (line-at n (lines-of s)) ≡ b → (c : Bool) → ltb (length output) (length (listing (names-of s) (line-at n (lines-of s)))) ≡ c
-      → ListAnswer n s output (pick (not a) (not-listed 9 output) (pick (not b) (not-listed 10 output) (pick c (not-listed 11 output) (record { number = 0; written = length (listing (names-of s) (line-at n (lines-of s))); output = overwritten (listing (names-of s) (line-at n (lines-of s))) output }))))
-  unfolding among
-  list-go o false x b y c z = not-written 9 tt
-  list-go o true x false y c z = not-written 10 tt
-  list-go o true x true y true z = not-written 11 tt
-  list-go o true x true y false z = written-out o (as-T _ x) (as-T _ y) (ltb-false _ _ z)
-
-  list-sound-go : (b : Bool) → sound-state s ≡ b → ListAnswer n s output (pick b (list-sound n s output) (not-listed 1 output))
-  unfolding list-sound among
-  list-sound-go true e = list-go (as-T (sound-state s) e) (stored? n (lines-of s)) refl (well-formed? (names-of s) (line-at n (lines-of s))) refl (ltb (length output) (length (listing (names-of s) (line-at n (lines-of s))))) refl
-  list-sound-go false e = not-written 1 tt
-
-  -- every answer of `list` is one of these
-  pub list-answer : ListAnswer n s output (list n s output)
-  unfolding list
-  list-answer = list-sound-go (sound-state s) refl
-
-not-listed-is : (k : ℕ) (output : List ℕ) → ((not-listed k output) .number ≡ k) × ((not-listed k output) .written ≡ 0) × ((not-listed k output) .output ≡ output)
-unfolding not-listed
-not-listed-is k output = (refl, refl, refl)
-
--- no refusal has number 0
-pub not-listed-so : (k : ℕ) (output : List ℕ) → T (among k (1 ∷ 9 ∷ 10 ∷ 11 ∷ [])) → (not-listed k output) .number ≡ 0 → ⊥
-unfolding among
-not-listed-so k output h e = subst (λ (z : ℕ). T (among z (1 ∷ 9 ∷ 10 ∷ 11 ∷ []))) (sym (not-listed-is k output .0) ∙ e) h
-
-unwritten-so : (n : ℕ) (s : State) (output : List ℕ) (e : Listed) → ListAnswer n s output e → (e .number ≡ 0 → ⊥) → (e .output ≡ output) × (e .written ≡ 0)
-unwritten-so n s output e (not-written k h) x = (not-listed-is k output .2, not-listed-is k output .1)
-unwritten-so n s output e (written-out o st wf fits) x = absurd (x refl)
-
--- a refused listing writes nothing
-pub unwritten : (n : ℕ) (s : State) (output : List ℕ) → ((list n s output) .number ≡ 0 → ⊥) → ((list n s output) .output ≡ output) × ((list n s output) .written ≡ 0)
-unwritten n s output x = unwritten-so n s output (list n s output) (list-answer n s output) x
-
-writes-so : (n : ℕ) (s : State) (output : List ℕ) (e : Listed) → ListAnswer n s output e → e .number ≡ 0 → Written n s output e
-writes-so n s output e (not-written k h) z = absurd (not-listed-so k output h z)
-writes-so n s output e (written-out o st wf fits) z =
-    let text : List ℕ = listing (names-of s) (line-at n (lines-of s)) in
-    record { text = over-take text output; past = over-past text output; same-size = over-length text output fits }
-
--- an accepted one writes the listing of the line, and no other byte
-pub writes : (n : ℕ) (s : State) (output : List ℕ) → (list n s output) .number ≡ 0 → Written n s output (list n s output)
-writes n s output z = writes-so n s output (list n s output) (list-answer n s output) z

@@ -9,15 +9,15 @@ use lib.Dec.{T, T-not, eqb, leb, ltb, ltb→lt, eqb→eq}
 use lib.ListN.{length, length-append}
 use lib.Seq.{drop-append-seam, length-take-le}
 use borrow.Author.Tests.{leb-true, leb-false, eqb-true, eqb-false, lt-ltb, le-ltb, eq-eqb, not-false}
-use Rattle.paper.specs.Bytes.{pick, blank?, every, joined}
+use Rattle.paper.specs.Bytes.{pick, blank?, run, every, joined}
 use Rattle.paper.specs.Tokens.{Token}
 use Rattle.paper.specs.Names.{most-names, name-bytes}
-use Rattle.paper.specs.Items.{Item, Span, items}
+use Rattle.paper.specs.Items.{Item, Span, no-span, items}
 use Rattle.paper.specs.Line.{line-number, lawful-number?}
 use Rattle.paper.specs.WellFormed.{Lawful, well-formed?}
 use Rattle.paper.specs.Listing.{listing}
 use Rattle.paper.specs.Store.{whole-line?, rising-above, rising, sound-lines, room, lines-not-below, first-is?, first-line, stored?, line-at, put-line}
-use Rattle.paper.specs.Calls.{State, names-of, lines-of, sound-state, Entered, refusal, Translated, tokens, refused-at, translate, lacks-room, accept, answered, delete, numbered, too-great, no-digit, head-of, at-head, enter-sound, enter, Listed, not-listed, list-sound, list}
+use Rattle.paper.specs.Calls.{State, names-of, lines-of, sound-state, Entered, refusal, Translated, tokens, refused-at, translate, lacks-room, unless-short, accept, answered, delete, numbered, too-great, only-blanks, unnumbered, head-of, at-head, enter-sound, enter, Listed, not-listed, listed-if, list-sound, list}
 use Rattle.laws.specs.Tests.{and-left, and-right, as-T, or-else}
 use Rattle.laws.specs.Names.{names-added, adds-front, name-bytes-append}
 use Rattle.promises.specs.Terms.{after-blanks, digit-count, number-in, number-end, past-number, FirstHolding, none-holds, this-holds, later-holds, Exactly, SoundState, Unsound, TextTooLong, NoLineNumber, Unread, TooFar, Giving, names-with, NamesLackRoom, line-with, LineTooLong, old-size, StoreLacksRoom, NoSuchLine, OfLine, entry-refusals, deletion-refusals, text-refusals, listing-refusals}
@@ -88,17 +88,22 @@ says-giving {P = P} is ts l t = ((λ e. (ts, l, t .0 e)), (λ e g. t .1 e (subst
 abbrev number-of : Entered → ℕ
 number-of e = e .number
 
-module _ (s : State) (o : T (sound-state s)) (n : ℕ) where
-  -- what is asked of a text's items
-  abbrev item-refusals : List Item → List (ℕ × Type 0)
-  item-refusals is = (4, Unread is) ∷ (5, TooFar is) ∷ (6, Giving is (λ ts. NamesLackRoom s (names-with s ts))) ∷ (7, Giving is (LineTooLong s n)) ∷ (8, Giving is (StoreLacksRoom s n)) ∷ []
+module _ (s : State) (n : ℕ) (Unfitting : List Token → Type 0) where
+  -- what is asked of tokens, where 8 is asked so
+  abbrev pub token-refusals : List Item → List (ℕ × Type 0)
+  token-refusals is = (6, Giving is (λ ts. NamesLackRoom s (names-with s ts))) ∷ (7, Giving is (LineTooLong s n)) ∷ (8, Giving is Unfitting) ∷ []
+
+  -- and of a text's items
+  abbrev pub item-refusals : List Item → List (ℕ × Type 0)
+  item-refusals is = (4, Unread is) ∷ (5, TooFar is) ∷ token-refusals is
 
   -- 6, 7 and 8
-  accept-first : (is : List Item) (ts : List Token) → Lawful is ts → FirstHolding ((6, Giving is (λ ts. NamesLackRoom s (names-with s ts))) ∷ (7, Giving is (LineTooLong s n)) ∷ (8, Giving is (StoreLacksRoom s n)) ∷ []) ((accept s n ts) .number)
-  unfolding accept refusal
-  accept-first is ts l =
-      tested number-of _ _ _ (says-giving is ts l (says-lacking s (state-says s o) ts))
-      (λ e. tested number-of _ _ _ (says-giving is ts l (says-less 255 (length (line-with s n ts)))) (λ e. tested number-of _ _ _ (says-giving is ts l (says-full s o n ts)) (λ e. none-holds)))
+  pub short-first : {A : Type 0} (number : A → ℕ) (refuse : ℕ → A) (unfitting : Bool) (accepted : A) → T (sound-state s) → (is : List Item) (ts : List Token) → Lawful is ts → Says unfitting (Unfitting ts) → number accepted ≡ 0
+      → FirstHolding ((number (refuse 6), Giving is (λ ts. NamesLackRoom s (names-with s ts))) ∷ (number (refuse 7), Giving is (LineTooLong s n)) ∷ (number (refuse 8), Giving is Unfitting) ∷ []) (number (unless-short refuse (lacks-room s (names-with s ts)) (line-with s n ts) unfitting accepted))
+  unfolding unless-short
+  short-first number refuse unfitting accepted o is ts l says none =
+      tested number _ _ _ (says-giving is ts l (says-lacking s (state-says s o) ts))
+      (λ e. tested number _ _ _ (says-giving is ts l (says-less 255 (length (line-with s n ts)))) (λ e. tested number _ _ _ (says-giving is ts l says) (λ e. subst (FirstHolding []) (sym none) none-holds)))
 
   -- 4 and 5
   refused-first : (is : List Item) (k : ℕ) (q : Span) → Refusal is k q → FirstHolding (item-refusals is) k
@@ -106,10 +111,20 @@ module _ (s : State) (o : T (sound-state s)) (n : ℕ) where
   refused-first is k q (too-far h) = let f : TooFar is = (q, h) in later-holds (λ (u : Unread is). not-both is (u .0) q (u .1) h) (this-holds f)
 
   -- all five
-  answered-first : (p : ℕ) (rest : List ℕ) (r : Translated) → translate p rest ≡ r → FirstHolding (item-refusals (items p rest)) ((answered s n r) .number)
-  unfolding answered refusal
-  answered-first p rest (tokens ts) e = let r = not-refused (items p rest) (translated-readable p rest ts e) in later-holds (r .0) (later-holds (r .1) (accept-first (items p rest) ts (translated-lawful p rest ts e)))
-  answered-first p rest (refused-at k q) e = refused-first (items p rest) k q (translation-refused p rest k q e)
+  pub answered-first : (p : ℕ) (rest : List ℕ) (number : Translated → ℕ) → ((k : ℕ) (q : Span) → number (refused-at k q) ≡ k) → ((ts : List Token) → Lawful (items p rest) ts → FirstHolding (token-refusals (items p rest)) (number (tokens ts)))
+      → FirstHolding (item-refusals (items p rest)) (number (translate p rest))
+  answered-first p rest number there first = go (translate p rest) refl
+    where
+      go : (r : Translated) → translate p rest ≡ r → FirstHolding (item-refusals (items p rest)) (number r)
+      go (tokens ts) e = let r = not-refused (items p rest) (translated-readable p rest ts e) in later-holds (r .0) (later-holds (r .1) (first ts (translated-lawful p rest ts e)))
+      go (refused-at k q) e = subst (FirstHolding (item-refusals (items p rest))) (sym (there k q)) (refused-first (items p rest) k q (translation-refused p rest k q e))
+
+-- of a line for the store
+stored-first : (s : State) → T (sound-state s) → (n p : ℕ) (rest : List ℕ) → FirstHolding (item-refusals s n (StoreLacksRoom s n) (items p rest)) ((answered s n (translate p rest)) .number)
+unfolding answered accept refusal
+stored-first s o n p rest =
+    answered-first s n (StoreLacksRoom s n) p rest (λ r. (answered s n r) .number) (λ k q. refl)
+    (λ ts l. short-first s n (StoreLacksRoom s n) number-of (λ k. refusal k no-span s) _ _ o (items p rest) ts l (says-full s o n ts) refl)
 
 -- ---- 9: the line with a number
 
@@ -181,13 +196,14 @@ module _ (text : List ℕ) (s : State) where
   number-first : (cs : List (ℕ × Type 0)) → FirstHolding cs ((pick alone (delete s (number-in text)) (answered s (number-in text) (translate (number-end text) (past-number text)))) .number)
       → FirstHolding ((3, NoLineNumber text) ∷ cs) ((at-head s (head-of text)) .number)
   unfolding at-head head-of refusal after-blanks digit-count number-in number-end past-number lawful-number?
-  number-first cs f = go (eqb (digit-count text) 0) refl (leb (number-in text) 32767) refl
+  number-first cs f = go (eqb (digit-count text) 0) refl (eqb (run blank? text) (length text)) (leb (number-in text) 32767) refl
     where
-      go : (a : Bool) → eqb (digit-count text) 0 ≡ a → (b : Bool) → leb (number-in text) 32767 ≡ b
-          → FirstHolding ((3, NoLineNumber text) ∷ cs) ((at-head s (pick a no-digit (pick b (numbered (number-in text) (number-end text) (past-number text)) too-great))) .number)
-      go true x b y = this-holds (inl (eqb-true _ _ x))
-      go false x false y = this-holds (inr (leb-false _ _ y))
-      go false x true y = let k = leb-true (number-in text) 32767 y in
+      go : (a : Bool) → eqb (digit-count text) 0 ≡ a → (b c : Bool) → leb (number-in text) 32767 ≡ c
+          → FirstHolding ((3, NoLineNumber text) ∷ cs) ((at-head s (pick a (pick b only-blanks unnumbered) (pick c (numbered (number-in text) (number-end text) (past-number text)) too-great))) .number)
+      go true x true c y = this-holds (inl (eqb-true _ _ x))
+      go true x false c y = this-holds (inl (eqb-true _ _ x))
+      go false x b false y = this-holds (inr (leb-false _ _ y))
+      go false x b true y = let k = leb-true (number-in text) 32767 y in
           let n : NoLineNumber text → ⊥ = ⊎-elim (eqb-false _ _ x) (λ h. omega arith) in
           rw (run-whole blank? (past-number text)) (later-holds n f)
 
@@ -204,7 +220,7 @@ module _ (text : List ℕ) (s : State) where
     where
       go : (b : Bool) → alone ≡ b → Exactly (pick b (deletion-refusals text s) (entry-refusals text s)) ((enter text s) .number)
       go true e = exactly _ _ tt (begin-first _ (λ o. rw e (passed number-of (stored? (number-in text) (lines-of s)) _ _ (says-missing s o (number-in text)) (λ h. none-holds))))
-      go false e = exactly _ _ tt (begin-first _ (λ o. rw e (answered-first s o (number-in text) (number-end text) (past-number text) _ refl)))
+      go false e = exactly _ _ tt (begin-first _ (λ o. rw e (stored-first s o (number-in text) (number-end text) (past-number text))))
 
 -- ---- a listing
 
@@ -214,7 +230,7 @@ listed-number e = e .number
 
 -- 1, 9, 10, 11
 pub listing-exactly : (n : ℕ) (s : State) (output : List ℕ) → Exactly (listing-refusals n s output) ((list n s output) .number)
-unfolding list list-sound not-listed
+unfolding list list-sound listed-if not-listed
 listing-exactly n s output =
     let l : List ℕ = line-at n (lines-of s) in
     exactly _ _ tt

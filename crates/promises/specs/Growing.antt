@@ -11,7 +11,7 @@ use Rattle.paper.specs.Words.{statement-word?}
 use Rattle.paper.specs.Tokens.{Token, statement, assigned, operator, variable, constant, string, raw, out-of-range, unreadable}
 use Rattle.paper.specs.Names.{less-open, number-of, known?}
 use Rattle.paper.specs.Line.{variable-bytes, own-bytes, begins?, to-next, token-bytes, line-bytes}
-use Rattle.paper.specs.WellFormed.{right-token?, WellFormed}
+use Rattle.paper.specs.WellFormed.{right-token?, Formed}
 use Rattle.laws.specs.Tests.{and-left, and-right, and-both}
 
 module _ (new : List (List ℕ)) where
@@ -87,7 +87,7 @@ module _ (new : List (List ℕ)) where
   line-stays ns n ts r = rw (bytes-stay ns ts r 3)
 
   -- well-formed over some names, well-formed over more
-  pub grown : (ns : List (List ℕ)) (l : List ℕ) → WellFormed ns l → WellFormed (ns ++ new) l
+  pub grown : {lawful? : ℕ → Bool} (ns : List (List ℕ)) (l : List ℕ) → Formed lawful? ns l → Formed lawful? (ns ++ new) l
   grown ns l w =
       record {
         number = w .number;

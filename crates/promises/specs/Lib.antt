@@ -30,6 +30,7 @@ pub mod NameTable
 pub mod Ending
 pub mod Refusals
 pub mod Answers
+pub mod Listings
 pub mod Accepted
 pub mod Entering
 pub mod States

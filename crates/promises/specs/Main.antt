@@ -21,6 +21,7 @@ use Rattle.promises.specs.ConstantSize as ConstantSize′
 use Rattle.promises.specs.RoundTrip as RoundTrip′
 use Rattle.promises.specs.WellFormedTest as WellFormedTest′
 use Rattle.promises.specs.Answers as Answers′
+use Rattle.promises.specs.Listings as Listings′
 use Rattle.promises.specs.Editing as Editing′
 use Rattle.promises.specs.WellFormedLines as WellFormedLines′
 use Rattle.promises.specs.ReEntry as ReEntry′
@@ -48,11 +49,11 @@ refused-text text s h = Answers′.unchanged text s h
 
 -- a refused listing
 pub refused-listing : (n : ℕ) (s : State) (output : List ℕ) → ((list n s output) .number ≡ 0 → ⊥) → ((list n s output) .output ≡ output) × ((list n s output) .written ≡ 0)
-refused-listing n s output h = Answers′.unwritten n s output h
+refused-listing n s output h = Listings′.unwritten _ output (list n s output) (Listings′.list-answer n s output) h
 
 -- an accepted listing
-pub accepted-listing : (n : ℕ) (s : State) (output : List ℕ) → (list n s output) .number ≡ 0 → Written n s output (list n s output)
-accepted-listing n s output h = Answers′.writes n s output h
+pub accepted-listing : (n : ℕ) (s : State) (output : List ℕ) → (list n s output) .number ≡ 0 → Written (listing (names-of s) (line-at n (lines-of s))) output (list n s output)
+accepted-listing n s output h = Listings′.writes _ output (list n s output) (Listings′.list-answer n s output) h
 
 -- 3. The store. An accepted text has put one line in, in the place of the one with its number if there was one, or taken one out. Every
 -- other line's bytes are the same; the whole state is sound, so the numbers rise; old names and values stand; the new names come after

@@ -2,7 +2,7 @@
 use Prim.Native.Nat.{ℕ, _+_, _-_, _*_, _≤_}
 use native.Mathlib.Nat.{add-zero}
 use native.Mathlib.Omega.{arith}
-use mathlib.Core.Path.{_≡_, refl, sym, ap, _∙_}
+use mathlib.Core.Path.{_≡_, refl, subst, sym, ap, _∙_}
 use mathlib.Core.Bool.{Bool, false}
 use mathlib.Core.List.{List, [], _∷_, _++_, append-nil}
 use lib.Dec.{T, eqb→eq}
@@ -16,7 +16,7 @@ use Rattle.paper.specs.Line.{line-bytes, line-number}
 use Rattle.paper.specs.Listing.{listing}
 use Rattle.paper.specs.WellFormed.{WellFormed}
 use Rattle.paper.specs.Store.{room, lines-below, lines-not-below, lines-above, first-is?, first-line, stored?, line-at, put-line, overwritten}
-use Rattle.paper.specs.Calls.{State, names-of, lines-of, sound-state, stored, lacks-room, accept, enter, Listed, list}
+use Rattle.paper.specs.Calls.{State, names-of, lines-of, sound-state, with-names, stored, lacks-room, unless-short, accept, enter, list}
 use Rattle.laws.specs.Tests.{is-true}
 use Rattle.laws.specs.Lines.{joined-append, both-sides, old-line, three-parts, room-lent}
 use Rattle.promises.specs.Terms.{SoundState, old-size, with-lines, accepted-with}
@@ -24,7 +24,7 @@ use Rattle.promises.specs.RoundTrip.{no-new-names}
 use Rattle.promises.specs.WellFormedTest.{test-says}
 use Rattle.promises.specs.Stored.{over-take}
 use Rattle.promises.specs.States.{state-says}
-use Rattle.promises.specs.Answers.{ListAnswer, not-written, written-out, list-answer, not-listed-so}
+use Rattle.promises.specs.Listings.{ListedLine, list-answer, writes, written-so}
 use Rattle.promises.specs.Entering.{enter-listing}
 use Rattle.promises.specs.Editing.{used-bytes}
 
@@ -57,7 +57,7 @@ same-over k l h =
     ap (λ (z : List ℕ). z ++ drop (length z) l) (append-nil (take k l)) ∙ ap (λ (z : ℕ). take k l ++ drop z l) (length-take-le k l h) ∙ take-append-drop k l
 
 tables-stay : (s : State) → SoundState s → (ls : List (List ℕ)) → stored s (names-of s) ls ≡ with-lines s ls
-unfolding stored name-bytes value-entries with-lines
+unfolding stored with-names name-bytes value-entries with-lines
 tables-stay s o ls =
     rw (drop-length (names-of s), same-over (s .name-size) (s .names) (o .table-fits), same-over (8 * s .name-count) (s .values) (o .values-fit), o .count, add-zero (s .name-size))
 
@@ -69,7 +69,7 @@ no-lack s = rw (le-ltb (length (names-of s)) (length (names-of s)) (omega arith)
 
 accepted : (s : State) → SoundState s → (n : ℕ) (ts : List Token) (l : List ℕ) → add-names (names-of s) ts ≡ names-of s → line-bytes (names-of s) n ts ≡ l → length l ≤ 255 → length (joined (put-line l (lines-of s))) ≤ room (s .store)
     → accept s n ts ≡ accepted-with (with-lines s (put-line l (lines-of s)))
-unfolding accept accepted-with
+unfolding accept unless-short accepted-with
 accepted s o n ts l names line short fits =
     let none : length (names-of s) - length (names-of s) ≡ 0 = omega arith in
     rw (names, line, no-lack s, le-ltb 255 (length l) short, le-ltb (room (s .store)) (length (joined (put-line l (lines-of s)))) fits, tables-stay s o (put-line l (lines-of s)), none)
@@ -110,18 +110,17 @@ size-there : (n : ℕ) (s : State) → T (stored? n (lines-of s)) → old-size n
 unfolding old-size
 size-there n s t = rw (is-true (stored? n (lines-of s)) t)
 
-again-so : (n : ℕ) (s : State) (output : List ℕ) (e : Listed) → ListAnswer n s output e → e .number ≡ 0 → e .written ≤ 120 → length (line-at n (lines-of s)) ≤ 255 → enter (take (e .written) (e .output)) s ≡ accepted-with s
-again-so n s output e (not-written k h) z short b = absurd (not-listed-so k output h z)
-again-so n s output e (written-out o st wf fits) z short b =
-    let l : List ℕ = line-at n (lines-of s) in
-    let text : List ℕ = listing (names-of s) l in
-    let p = put-same n (lines-of s) st in
-    let size : old-size (line-number l) s ≡ length l = ap (λ (z : ℕ). old-size z s) (p .0) ∙ size-there n s st in
-    ap (λ (z : List ℕ). enter z s) (over-take text output)
-    ∙ entered-again s o l (test-says (names-of s) l wf) short b (omega (arith, state-says s o .used-fits))
-    ∙ ap accepted-with (ap (with-lines s) (p .1) ∙ store-same s o)
-
 -- a line of the store that is listed, entered again, leaves the state as it is
 pub listed-again : (n : ℕ) (s : State) (output : List ℕ) → (list n s output) .number ≡ 0 → (list n s output) .written ≤ 120 → length (line-at n (lines-of s)) ≤ 255
     → enter (take ((list n s output) .written) ((list n s output) .output)) s ≡ accepted-with s
-listed-again n s output z short b = again-so n s output (list n s output) (list-answer n s output) z short b
+listed-again n s output z short b =
+    let l : List ℕ = line-at n (lines-of s) in
+    let text : List ℕ = listing (names-of s) l in
+    let so : ListedLine n s output = written-so text output (list n s output) (list-answer n s output) z in
+    let w = writes text output (list n s output) (list-answer n s output) z in
+    let p = put-same n (lines-of s) (so .1) in
+    let size : old-size (line-number l) s ≡ length l = ap (λ (z : ℕ). old-size z s) (p .0) ∙ size-there n s (so .1) in
+    ap (λ (z : ℕ). enter (take z ((list n s output) .output)) s) (w .count)
+    ∙ ap (λ (z : List ℕ). enter z s) (w .there .front)
+    ∙ entered-again s (so .0) l (test-says (names-of s) l (so .2)) (subst (λ (z : ℕ). z ≤ 120) (w .count) short) b (omega (arith, state-says s (so .0) .used-fits))
+    ∙ ap accepted-with (ap (with-lines s) (p .1) ∙ store-same s (so .0))

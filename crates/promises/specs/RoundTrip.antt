@@ -19,7 +19,7 @@ use Rattle.paper.specs.Grammar.{Gives, given, look-item, start}
 use Rattle.paper.specs.Line.{to-next, line-bytes, line-number, lawful-number?, line-tokens}
 use Rattle.paper.specs.Constants.{value}
 use Rattle.paper.specs.Listing.{decimal, body-text, listing-text, listing}
-use Rattle.paper.specs.WellFormed.{tokens-of, Lawful, right-token?, WellFormed}
+use Rattle.paper.specs.WellFormed.{tokens-of, Lawful, right-token?, Formed, WellFormed}
 use Rattle.paper.specs.Calls.{tokens, outcome, translate}
 use Rattle.laws.specs.Tests.{and-left, and-right, is-true}
 use Rattle.laws.specs.Runs.{All, all-append, run-all, past}
@@ -164,10 +164,10 @@ no-new-names ns (raw b ∷ ts) r = no-new-names ns ts (and-right (right-token? n
 no-new-names ns (out-of-range ∷ ts) r = absurd r
 no-new-names ns (unreadable ∷ ts) r = absurd r
 
--- ---- a well-formed line
+-- ---- a well-formed line, whichever numbers are lawful
 
 -- its own tokens are the ones that it was made of
-pub decoded : (ns : List (List ℕ)) (l : List ℕ) (w : WellFormed ns l) → line-tokens ns l ≡ w .tokens
+pub decoded : {lawful? : ℕ → Bool} (ns : List (List ℕ)) (l : List ℕ) (w : Formed lawful? ns l) → line-tokens ns l ≡ w .tokens
 unfolding on-run
 decoded ns l w =
     let es : List (Taken Gives Token) = on-taken token-of (w .lawful .taken) in
@@ -180,7 +180,7 @@ decoded ns l w =
     ∙ line-decode ns (w .number) (w .tokens) (subst (Shapes ns) g sh) (ap (to-next ns) (sym g) ∙ starts-statement ns es (k .fit) (k .side-by-side) (k .fine))
 
 -- the number of a well-formed line
-pub numbered-so : (ns : List (List ℕ)) (l : List ℕ) (w : WellFormed ns l) → line-number l ≡ w .number
+pub numbered-so : {lawful? : ℕ → Bool} (ns : List (List ℕ)) (l : List ℕ) (w : Formed lawful? ns l) → line-number l ≡ w .number
 numbered-so ns l w = ap line-number (sym (w .bytes)) ∙ line-number-of ns (w .number) (w .tokens)
 
 -- ---- the line's number in the text

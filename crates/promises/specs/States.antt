@@ -11,7 +11,7 @@ use borrow.Author.Tests.{ltb-false, lt-ltb, eq-eqb}
 use Rattle.paper.specs.Bytes.{every, same, joined}
 use Rattle.paper.specs.Names.{names-in, name-bytes, name?, all-different, most-names, sound-names, sound-table, value-entries}
 use Rattle.paper.specs.Store.{greatest-number, room, sound-store, overwritten}
-use Rattle.paper.specs.Calls.{State, names-of, lines-of, sound-tables, agrees, sound-state, stored, lacks-room}
+use Rattle.paper.specs.Calls.{State, names-of, lines-of, sound-tables, agrees, sound-state, with-names, stored, lacks-room}
 use Rattle.laws.specs.Tests.{and-left, and-right, and-both, as-T, is-true}
 use Rattle.laws.specs.Names.{same-self, same-eq, name-bytes-append}
 use Rattle.laws.specs.Tables.{length-entries}
@@ -139,7 +139,7 @@ made s new ls =
 
 -- it is the same state
 pub stored-made : (s : State) (new ls : List (List ℕ)) → stored s (names-of s ++ new) ls ≡ made s new ls
-unfolding stored made
+unfolding stored with-names made
 stored-made s new ls = rw (drop-append-seam (names-of s) new)
 
 table-sound : (s : State) (new : List (List ℕ)) → SoundState s → NamesGood (names-of s ++ new) → Room s new → (out : List ℕ) → take (s .name-size + length (name-bytes new)) out ≡ take (s .name-size) (s .names) ++ name-bytes new → length out ≡ length (s .names)

@@ -13,6 +13,7 @@ use Rattle.paper.specs.Line.{line-number}
 use Rattle.paper.specs.Store.{lines-in, whole-line?, rising-above, rising, sound-lines, room, sound-store, lines-below, lines-not-below, first-is?, lines-above, put-line, take-out, overwritten}
 use Rattle.laws.specs.Tests.{and-left, and-right, and-both}
 use Rattle.laws.specs.Lines.{lines-back, room-lent}
+use Rattle.promises.specs.Terms.{AtFront}
 use Rattle.promises.specs.Lists.{every-append}
 
 -- ---- an edit, line by line
@@ -151,6 +152,10 @@ over-take new old = take-append-seam new (drop (length new) old)
 pub over-past : (new old : List ℕ) → drop (length new) (overwritten new old) ≡ drop (length new) old
 unfolding overwritten
 over-past new old = drop-append-seam new (drop (length new) old)
+
+-- bytes that fit stand at the front, and every other byte is as it was
+pub at-front : (new old : List ℕ) → length new ≤ length old → AtFront new old (overwritten new old)
+at-front new old h = record { front = over-take new old; past = over-past new old; same-size = over-length new old h }
 
 -- A buffer whose first k bytes are kept, with new bytes after them
 pub record Extended (k : ℕ) (new old : List ℕ) : Type 0 where

@@ -258,11 +258,16 @@ pub data Edited (text : List ℕ) (s : State) (e : Entered) : Type 0 where
 abbrev pub HoldsWellFormed : State → Type 0
 HoldsWellFormed s = (l : List ℕ) → List·Memᴰ l (lines-of s) → WellFormed (names-of s) l
 
--- What an accepted listing leaves in the output: the line's text at the front, and every other byte as it was
-pub record Written (n : ℕ) (s : State) (output : List ℕ) (e : Listed) : Type 0 where
-  pub text : take (e .written) (e .output) ≡ listing (names-of s) (line-at n (lines-of s))
-  pub past : drop (e .written) (e .output) ≡ drop (e .written) output
-  pub same-size : length (e .output) ≡ length output
+-- Bytes written at the front of a buffer: they stand there, and every other byte is as it was
+pub record AtFront (written old new : List ℕ) : Type 0 where
+  pub front : take (length written) new ≡ written
+  pub past : drop (length written) new ≡ drop (length written) old
+  pub same-size : length new ≡ length old
+
+-- what an accepted listing answers and leaves in the output
+pub record Written (text output : List ℕ) (e : Listed) : Type 0 where
+  pub count : e .written ≡ length text
+  pub there : AtFront text output (e .output)
 
 -- ---- the record
 
