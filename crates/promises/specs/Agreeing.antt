@@ -6,10 +6,12 @@ use mathlib.Core.List.{List}
 use lib.ListN.{length, take}
 use Rattle.paper.specs.Store.{lines-in, lines-from, greatest-number}
 use Rattle.paper.specs.Calls.{State, lines-of, sound-state, Entered, refusal, enter, not-listed, list}
+use Rattle.paper.specs.Direct.{typed}
 use Rattle.laws.specs.Tests.{as-T}
-use Rattle.promises.specs.Terms.{Agrees, Edited, Reached, empty-record, after-text}
+use Rattle.promises.specs.Terms.{Agrees, Edited, Reached, empty-record, after-text, after-typed}
 use Rattle.promises.specs.States.{state-says}
 use Rattle.promises.specs.Editing.{sound-after, after-any}
+use Rattle.promises.specs.DirectLines.{after-any-typed}
 
 -- an empty record agrees
 empty-agrees : (s : State) → s .used ≡ 0 → s .line-count ≡ 0 → s .greatest ≡ 0 → Agrees s
@@ -26,10 +28,15 @@ edit-agrees text s e d = state-says (e .after) (sound-after text s e d) .agrees
 pub stays-agreeing : (text : List ℕ) (s : State) → Agrees s → Agrees ((enter text s) .after)
 stays-agreeing text s a = after-any Agrees text s a (edit-agrees text s)
 
+-- whatever is typed
+pub typed-stays-agreeing : (text : List ℕ) (s : State) (buffer : List ℕ) → Agrees s → Agrees ((typed text s buffer) .entered .after)
+typed-stays-agreeing text s buffer a = after-any-typed text s buffer Agrees a (edit-agrees text s) (λ t m. state-says (t .entered .after) (m .kept .sound) .agrees)
+
 -- a record reached from an empty one agrees
 pub reached-agrees : (s : State) → Reached s → Agrees s
 reached-agrees s (empty-record t u n g) = empty-agrees t u n g
 reached-agrees s (after-text text t r) = stays-agreeing text t (reached-agrees t r)
+reached-agrees s (after-typed text t buffer r) = typed-stays-agreeing text t buffer (reached-agrees t r)
 
 -- ---- a record that disagrees
 

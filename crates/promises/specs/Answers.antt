@@ -33,7 +33,7 @@ unless-short-says P refuse lacking line unfitting accepted six seven eight h = g
     go false x false false z = h x z
 
 -- the refusals that have no place
-abbrev placeless : List ℕ
+abbrev pub placeless : List ℕ
 placeless = 1 ∷ 2 ∷ 3 ∷ 6 ∷ 7 ∷ 8 ∷ 9 ∷ []
 
 -- a text with a number, over a sound state
@@ -108,7 +108,8 @@ module _ (text : List ℕ) (s : State) where
 
 -- ---- what the answers of `enter` have in common
 
-refused-is : (k : ℕ) (q : Span) (s : State) → ((refusal k q s) .number ≡ k) × ((refusal k q s) .place ≡ q) × ((refusal k q s) .added ≡ 0) × ((refusal k q s) .after ≡ s)
+-- what a refusal answers and leaves
+pub refused-is : (k : ℕ) (q : Span) (s : State) → ((refusal k q s) .number ≡ k) × ((refusal k q s) .place ≡ q) × ((refusal k q s) .added ≡ 0) × ((refusal k q s) .after ≡ s)
 unfolding refusal
 refused-is k q s = (refl, refl, refl, refl)
 

@@ -219,7 +219,7 @@ unfolding letter?
 no-letter x h = rw (lt-leb 65 x (omega (arith, digit-most x h)))
 
 -- where the first byte is a digit, the item is a number
-number-item : (first : Bool) (p : ℕ) (a s : List ℕ) → All digit? a → (a ≡ [] → ⊥) → item-at first p (a ++ s) ≡ number-at p (a ++ s)
+pub number-item : (first : Bool) (p : ℕ) (a s : List ℕ) → All digit? a → (a ≡ [] → ⊥) → item-at first p (a ++ s) ≡ number-at p (a ++ s)
 unfolding item-at
 number-item first p [] s h n = absurd (n refl)
 number-item first p (x ∷ xs) s h n = rw (no-letter x (h .0), h .0)

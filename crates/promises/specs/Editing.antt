@@ -157,28 +157,39 @@ lines-are : (s : State) (ns ls : List (List ℕ)) → Holds ls (s .store) → li
 unfolding stored lines-of
 lines-are s ns ls h = h .lines
 
+-- the names that a translated text adds, with these lines in the store
+pub names-kept : (s : State) → T (sound-state s) → (p : ℕ) (rest : List ℕ) (ts : List Token) → translate p rest ≡ tokens ts → (ns : List (List ℕ)) → names-with s ts ≡ ns → lacks-room s ns ≡ false → (ls : List (List ℕ)) → Holds ls (s .store)
+    → Kept s (stored s ns ls) (names-added (names-of s) ts)
+names-kept s sound p rest ts tr ns en lacks ls h =
+    let o : SoundState s = state-says s sound in
+    let new : List (List ℕ) = names-added (names-of s) ts in
+    let is : ns ≡ names-of s ++ new = sym en ∙ adds-front (names-of s) ts in
+    let good : NamesGood (names-of s ++ new) = subst NamesGood (en ∙ is) (adds-good ts (names-of s) (names-new p rest ts tr) (names-good (names-of s) (o .table .names))) in
+    let r : Room s new = room-for s new o (subst (λ (z : List (List ℕ)). lacks-room s z ≡ false) is lacks) in
+    let made-so : stored s ns ls ≡ made s new ls = ap (λ (z : List (List ℕ)). stored s z ls) is ∙ stored-made s new ls in
+    subst (λ (z : State). Kept s z new) (sym made-so) (kept s new ls o good r h)
+
+-- how many they are
+pub count-added : (s : State) (ts : List Token) → length (names-with s ts) - length (names-of s) ≡ length (names-added (names-of s) ts)
+count-added s ts = let new : List (List ℕ) = names-added (names-of s) ts in omega (arith, ap length (adds-front (names-of s) ts), length-append (names-of s) new)
+
 put-done : (text : List ℕ) (s : State) → Numbered text s → (ts : List Token) → translate (number-end text) (past-number text) ≡ tokens ts → (ns : List (List ℕ)) → names-with s ts ≡ ns → lacks-room s ns ≡ false
     → length (joined (put-line (line-bytes ns (number-in text) ts) (lines-of s))) ≤ room (s .store)
     → Edited text s (record { number = 0; place = no-span; added = length ns - length (names-of s); after = stored s ns (put-line (line-bytes ns (number-in text) ts) (lines-of s)) })
 put-done text s t ts tr ns en lacks fits =
-    let o : SoundState s = state-says s (t .sound) in
     let new : List (List ℕ) = names-added (names-of s) ts in
-    let is : ns ≡ names-of s ++ new = sym en ∙ adds-front (names-of s) ts in
     let n : ℕ = number-in text in
     let l : List ℕ = line-bytes ns n ts in
     let ls : List (List ℕ) = put-line l (lines-of s) in
     let a : State = stored s ns ls in
     let p : ℕ = number-end text in
     let wf : WellFormed ns l = subst (λ (z : List (List ℕ)). WellFormed z (line-bytes z n ts)) en (stored-well-formed (names-of s) n p (past-number text) ts (t .lawful) tr) in
-    let good : NamesGood (names-of s ++ new) = subst NamesGood (en ∙ is) (adds-good ts (names-of s) (names-new p (past-number text) ts tr) (names-good (names-of s) (o .names))) in
-    let r : Room s new = room-for s new o (subst (λ (z : List (List ℕ)). lacks-room s z ≡ false) is lacks) in
-    let h : Holds ls (s .store) = holds ls (s .store) (put-sound l (lines-of s) (well-formed-whole ns l wf) (o .lines)) fits in
-    let made-so : a ≡ made s new ls = ap (λ (z : List (List ℕ)). stored s z ls) is ∙ stored-made s new ls in
-    let k : Kept s a new = subst (λ (z : State). Kept s z new) (sym made-so) (kept s new ls o good r h) in
-    let names : names-of a ≡ ns = k .names ∙ sym is in
+    let h : Holds ls (s .store) = holds ls (s .store) (put-sound l (lines-of s) (well-formed-whole ns l wf) (state-says s (t .sound) .lines)) fits in
+    let k : Kept s a new = names-kept s (t .sound) p (past-number text) ts tr ns en lacks ls h in
+    let names : names-of a ≡ ns = k .names ∙ sym (adds-front (names-of s) ts) ∙ en in
     let put : PutIn n l (lines-of s) ls = subst (λ (z : ℕ). PutIn z l (lines-of s) ls) (line-number-of ns n ts) (put-in l (lines-of s)) in
     let line : l ≡ line-with s n ts = ap (λ (z : List (List ℕ)). line-bytes z n ts) (sym en) in
-    line-put ts new (translated-lawful p (past-number text) ts tr) (names ∙ sym en) (omega (arith, ap length is, length-append (names-of s) new)) k
+    line-put ts new (translated-lawful p (past-number text) ts tr) (names ∙ sym en) (ap (λ (z : List (List ℕ)). length z - length (names-of s)) (sym en) ∙ count-added s ts) k
     (subst (λ (z : List ℕ). PutIn n z (lines-of s) (lines-of a)) line (subst (PutIn n l (lines-of s)) (sym (lines-are s ns ls h)) put))
     (subst (λ (z : List (List ℕ)). WellFormed z (line-with s n ts)) (sym names) (subst (WellFormed ns) line wf))
 
@@ -194,7 +205,7 @@ gone-done text s t b st =
     let fits : length (joined ls) ≤ room (s .store) = le-trans (out-less n (lines-of s)) used in
     let h : Holds ls (s .store) = holds ls (s .store) (out-sound n (lines-of s) (o .lines)) fits in
     let made-so : a ≡ made s [] ls = ap (λ (z : List (List ℕ)). stored s z ls) is ∙ stored-made s [] ls in
-    let k : Kept s a [] = subst (λ (z : State). Kept s z []) (sym made-so) (kept s [] ls o (subst NamesGood is (names-good (names-of s) (o .names))) (no-more s o) h) in
+    let k : Kept s a [] = subst (λ (z : State). Kept s z []) (sym made-so) (kept s [] ls o (subst NamesGood is (names-good (names-of s) (o .table .names))) (no-more s o) h) in
     line-gone b refl k (subst (TakenOut n (lines-of s)) (sym (lines-are s (names-of s) ls h)) (taken-out n (lines-of s) st))
 
 -- an answer with number 0 is one of the two edits

@@ -8,57 +8,20 @@ use lib.Dec.{T, leb, ltb}
 use lib.ListN.{length, take, drop, length-append}
 use lib.Seq.{take-append-seam, drop-append-seam}
 use borrow.Author.Tests.{ne-eqb, le-ltb}
-use Rattle.paper.specs.Bytes.{every, pick, digit?, blank, blank?, run}
-use Rattle.paper.specs.Tokens.{Token, operator}
+use Rattle.paper.specs.Bytes.{pick, digit?, blank, blank?, run}
+use Rattle.paper.specs.Tokens.{Token}
 use Rattle.paper.specs.Constants.{value}
-use Rattle.paper.specs.Items.{Item, item, span-of, items, scan}
-use Rattle.paper.specs.Machine.{read}
-use Rattle.paper.specs.Grammar.{look-in-range, start}
+use Rattle.paper.specs.Items.{items}
 use Rattle.paper.specs.Line.{lawful-number?}
 use Rattle.paper.specs.Listing.{decimal, body-text, listing-text, listing}
 use Rattle.paper.specs.WellFormed.{WellFormed}
-use Rattle.paper.specs.Calls.{State, names-of, sound-state, tokens, refused-at, place-of, outcome, translate, accept, answered, numbered, head-of, at-head, enter-sound, enter}
-use Rattle.paper.specs.Open.{all-Bytes, all-Words, all-Tokens, all-Items, all-Grammar, all-Machine}
-use Rattle.laws.specs.Tests.{and-left, and-right, is-true, as-T}
+use Rattle.paper.specs.Calls.{State, names-of, sound-state, tokens, translate, accept, answered, numbered, head-of, at-head, enter-sound, enter}
+use Rattle.laws.specs.Tests.{is-true}
 use Rattle.laws.specs.Runs.{All, run-all}
 use Rattle.promises.specs.Lists.{run-whole}
+use Rattle.promises.specs.Beginning.{not-blank, after-blank}
 use Rattle.promises.specs.RoundTrip.{blank-no-digit, number-text, translated-again, decoded, numbered-so}
 use Rattle.promises.specs.States.{state-says}
-
--- ---- the listing of a well-formed line, entered
-
--- blanks alone are no statement
-scan-blank : (b : ℕ) (s : List ℕ) (first : Bool) (p : ℕ) → blank? b ≡ true → scan 0 first p (b ∷ s) ≡ scan 0 first (suc p) s
-unfolding scan
-scan-blank b s first p h = rw h
-
-end-scan : (first : Bool) (p : ℕ) → scan 0 first p [] ≡ item p 0 (operator 0x16) ∷ []
-unfolding scan
-end-scan first p = refl
-
-scan-blanks : (s : List ℕ) (first : Bool) (p : ℕ) → T (every blank? s) → (q : ℕ) × (scan 0 first p s ≡ item q 0 (operator 0x16) ∷ [])
-unfolding every
-scan-blanks [] first p t = (p, end-scan first p)
-scan-blanks (b ∷ s) first p t =
-    let r = scan-blanks s first (suc p) (and-right (blank? b) _ t) in
-    (r .0, scan-blank b s first p (is-true (blank? b) (and-left (blank? b) _ t)) ∙ r .1)
-
-only-end : (q : ℕ) → outcome (read look-in-range start (item q 0 (operator 0x16) ∷ [])) ≡ refused-at 4 (span-of (item q 0 (operator 0x16)))
-unfolding outcome place-of all-Bytes all-Words all-Tokens all-Items all-Grammar all-Machine
-only-end q = refl
-
--- a text that is translated is not only blanks
-not-blank : (p : ℕ) (s : List ℕ) (ts : List Token) → translate p s ≡ tokens ts → every blank? s ≡ false
-unfolding translate items
-not-blank p s ts e = go (every blank? s) refl
-  where
-    go : (b : Bool) → every blank? s ≡ b → b ≡ false
-    go false h = refl
-    go true h =
-        let r = scan-blanks s true p (as-T _ h) in
-        let a : refused-at 4 (span-of (item (r .0) 0 (operator 0x16))) ≡ tokens ts = sym (only-end (r .0)) ∙ ap (λ (z : List Item). outcome (read look-in-range start z)) (sym (r .1)) ∙ e in
-        let z : _≡_ {A = ℕ} 0 1 = cc in
-        absurd (omega arith)
 
 digit-no-blank : (x : ℕ) → digit? x ≡ true → blank? x ≡ false
 unfolding digit? blank?
@@ -72,10 +35,6 @@ unfolding run
 no-blanks [] ys a n = absurd (n refl)
 no-blanks (x ∷ l) ys a n = rw (digit-no-blank x (a .0))
 
-is-blank : blank? blank ≡ true
-unfolding blank?
-is-blank = refl
-
 decimal-some : (n : ℕ) → length (decimal 5 n) ≡ 0 → ⊥
 unfolding decimal
 decimal-some n = go (ltb n 10)
@@ -83,10 +42,6 @@ decimal-some n = go (ltb n 10)
     go : (b : Bool) → length (pick b ((48 + n) ∷ []) (decimal 4 (n / 10) ++ (48 + n % 10) ∷ [])) ≡ 0 → ⊥
     go true e = omega arith
     go false e = omega (arith, length-append (decimal 4 (n / 10)) ((48 + n % 10) ∷ []), e)
-
-after-blank : (p : ℕ) (s : List ℕ) → translate p (blank ∷ s) ≡ translate (suc p) s
-unfolding translate items
-after-blank p s = ap (λ (z : List Item). outcome (read look-in-range start z)) (scan-blank blank s true p is-blank)
 
 -- digits, and then something that is no digit
 head-is : (n : ℕ) (ds rest : List ℕ) → run blank? (ds ++ rest) ≡ 0 → run digit? (ds ++ rest) ≡ length ds → take (length ds) (ds ++ rest) ≡ ds → drop (length ds) (ds ++ rest) ≡ rest → value 0 ds ≡ n
@@ -102,7 +57,7 @@ entered s n p ts text rest o h hd tr = rw (is-true (sound-state s) o, le-ltb 120
 pub enter-listing : (s : State) → T (sound-state s) → (l : List ℕ) (w : WellFormed (names-of s) l) → length (listing (names-of s) l) ≤ 120 → enter (listing (names-of s) l) s ≡ accept s (w .number) (w .tokens)
 unfolding listing listing-text
 enter-listing s o l w h =
-    let ns = state-says s o .names in
+    let ns = state-says s o .table .names in
     let n : ℕ = w .number in
     let ts : List Token = w .tokens in
     let text : List ℕ = decimal 5 n ++ blank ∷ body-text ts in

@@ -3,7 +3,7 @@ use Prim.Native.Nat.{ℕ, _+_, _<_}
 use native.Mathlib.Omega.{arith}
 use mathlib.Core.Path.{_≡_, refl, subst, sym, ap, _∙_}
 use mathlib.Core.Bool.{Bool, true, false, not}
-use mathlib.Core.Logic.{_⊎_, inl, inr, ⊎-elim}
+use mathlib.Core.Logic.{inl, inr, ⊎-elim}
 use mathlib.Core.List.{List, [], _∷_, _++_, List·Memᴰ, List·Memᴰ·head, List·Memᴰ·tail, List·Memᴰ·cases-cons, List·Memᴰ·not-nil}
 use lib.Dec.{T, T-not, eqb, leb, ltb, ltb→lt, eqb→eq}
 use lib.ListN.{length, length-append}
@@ -35,7 +35,7 @@ use Rattle.promises.specs.Tested.{exactly, Says, says-less, says-not, te
 -- ---- 1
 
 -- the test of sound tables and store
-says-unsound : (s : State) → Says (not (sound-state s)) (Unsound s)
+pub says-unsound : (s : State) → Says (not (sound-state s)) (Unsound s)
 says-unsound s = says-not (sound-state s) (state-says s) (says-state s)
 
 -- ---- 6: names
@@ -44,7 +44,7 @@ module _ (s : State) (o : SoundState s) (new : List (List ℕ)) where
   -- how many bytes all names take
   names-size : length (name-bytes (names-of s ++ new)) ≡ s .name-size + length (name-bytes new)
   names-size =
-      let front : length (name-bytes (names-of s)) ≡ s .name-size = ap length (o .bytes) ∙ length-take-le (s .name-size) (s .names) (o .table-fits) in
+      let front : length (name-bytes (names-of s)) ≡ s .name-size = ap length (o .table .bytes) ∙ length-take-le (s .name-size) (s .names) (o .table .fits) in
       omega (arith, ap length (name-bytes-append (names-of s) new), length-append (name-bytes (names-of s)) (name-bytes new))
 
   lacks-so : lacks-room s (names-of s ++ new) ≡ true → NamesLackRoom s (names-of s ++ new)
@@ -225,17 +225,21 @@ module _ (text : List ℕ) (s : State) where
 -- ---- a listing
 
 -- the number of a listing's answer
-abbrev listed-number : Listed → ℕ
+abbrev pub listed-number : Listed → ℕ
 listed-number e = e .number
+
+-- 10 and 11
+pub listed-first : {P Q : Type 0} (formed : Bool) (text output : List ℕ) → Says (not formed) P → Says (ltb (length output) (length text)) Q → FirstHolding ((10, P) ∷ (11, Q) ∷ []) ((listed-if formed text output) .number)
+unfolding listed-if not-listed
+listed-first formed text output p q = tested listed-number _ _ _ p (λ e. tested listed-number _ _ _ q (λ e. none-holds))
 
 -- 1, 9, 10, 11
 pub listing-exactly : (n : ℕ) (s : State) (output : List ℕ) → Exactly (listing-refusals n s output) ((list n s output) .number)
-unfolding list list-sound listed-if not-listed
+unfolding list list-sound not-listed
 listing-exactly n s output =
     let l : List ℕ = line-at n (lines-of s) in
     exactly _ _ tt
     (passed listed-number (sound-state s) _ _ (says-unsound s)
     (λ o. tested listed-number _ _ _ (says-missing s o n)
     (λ e. let st : T (stored? n (lines-of s)) = as-T (stored? n (lines-of s)) (not-false _ e) in
-    tested listed-number _ _ _ (says-line s o n st (says-not (well-formed? (names-of s) l) (test-says (names-of s) l) (says-test (names-of s) l)))
-    (λ e. tested listed-number _ _ _ (says-line s o n st (says-less (length output) (length (listing (names-of s) l)))) (λ e. none-holds)))))
+    listed-first _ _ output (says-line s o n st (says-not (well-formed? (names-of s) l) (test-says (names-of s) l) (says-test (names-of s) l))) (says-line s o n st (says-less (length output) (length (listing (names-of s) l)))))))

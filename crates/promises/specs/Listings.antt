@@ -36,45 +36,40 @@ formed-answer {So = So} formed text output so = go formed so (ltb (length output
     go true h true e = not-written 11 tt
     go true h false e = written-out (h tt) (ltb-false _ _ e)
 
-module _ (n : ℕ) (s : State) (output : List ℕ) where
-  -- what is so of a line of the store that is listed
-  abbrev pub ListedLine : Type 0
-  ListedLine = T (sound-state s) × T (stored? n (lines-of s)) × T (well-formed? (names-of s) (line-at n (lines-of s)))
+-- what is so of a line of the store that is listed
+abbrev pub ListedLine : ℕ → State → Type 0
+ListedLine n s = T (sound-state s) × T (stored? n (lines-of s)) × T (well-formed? (names-of s) (line-at n (lines-of s)))
 
-  -- the text of the line with a number
-  abbrev pub text-of-line : List ℕ
-  text-of-line = listing (names-of s) (line-at n (lines-of s))
+module _ (n : ℕ) (s : State) (output : List ℕ) where
+  abbrev line-text : List ℕ
+  line-text = listing (names-of s) (line-at n (lines-of s))
 
   list-go : (a : Bool) → sound-state s ≡ a → (b : Bool) → stored? n (lines-of s) ≡ b
-      → ListAnswer ListedLine text-of-line output (pick a (pick (not b) (not-listed 9 output) (listed-if (well-formed? (names-of s) (line-at n (lines-of s))) text-of-line output)) (not-listed 1 output))
+      → ListAnswer (ListedLine n s) line-text output (pick a (pick (not b) (not-listed 9 output) (listed-if (well-formed? (names-of s) (line-at n (lines-of s))) line-text output)) (not-listed 1 output))
   unfolding among
   list-go false x b y = not-written 1 tt
   list-go true x false y = not-written 9 tt
-  list-go true x true y = formed-answer _ text-of-line output (λ w. (as-T _ x, as-T _ y, w))
+  list-go true x true y = formed-answer _ line-text output (λ w. (as-T _ x, as-T _ y, w))
 
   -- every answer of `list` is one of these
-  pub list-answer : ListAnswer ListedLine text-of-line output (list n s output)
+  pub list-answer : ListAnswer (ListedLine n s) (listing (names-of s) (line-at n (lines-of s))) output (list n s output)
   unfolding list list-sound
   list-answer = list-go (sound-state s) refl (stored? n (lines-of s)) refl
 
-module _ (buffer names : List ℕ) (size count : ℕ) (values output : List ℕ) where
-  -- what is so of a line buffer that is listed
-  abbrev pub ShownLine : Type 0
-  ShownLine = T (formed? direct-number? (names-in (take size names)) (line-in buffer))
+-- what is so of a line buffer that is listed over these names
+abbrev pub ShownLine : List ℕ → List (List ℕ) → Type 0
+ShownLine buffer ns = T (formed? direct-number? ns (line-in buffer))
 
-  -- the text of its line
-  abbrev pub text-of-buffer : List ℕ
-  text-of-buffer = direct-listing (names-in (take size names)) (line-in buffer)
+show-go : (buffer : List ℕ) (ns : List (List ℕ)) (output : List ℕ) (a : Bool) → ListAnswer (ShownLine buffer ns) (direct-listing ns (line-in buffer)) output (pick a (show-sound buffer ns output) (not-listed 1 output))
+unfolding show-sound among
+show-go buffer ns output true = formed-answer _ (direct-listing ns (line-in buffer)) output (λ w. w)
+show-go buffer ns output false = not-written 1 tt
 
-  show-go : (a : Bool) → ListAnswer ShownLine text-of-buffer output (pick a (show-sound buffer (names-in (take size names)) output) (not-listed 1 output))
-  unfolding show-sound among
-  show-go true = formed-answer _ text-of-buffer output (λ w. w)
-  show-go false = not-written 1 tt
-
-  -- every answer of `show` is one of these
-  pub show-answer : ListAnswer ShownLine text-of-buffer output (show buffer names size count values output)
-  unfolding show
-  show-answer = show-go (sound-table names size count && leb (8 * count) (length values))
+-- every answer of `show` is one of these
+pub show-answer : (buffer names : List ℕ) (size count : ℕ) (values output : List ℕ)
+    → ListAnswer (ShownLine buffer (names-in (take size names))) (direct-listing (names-in (take size names)) (line-in buffer)) output (show buffer names size count values output)
+unfolding show
+show-answer buffer names size count values output = show-go buffer (names-in (take size names)) output (sound-table names size count && leb (8 * count) (length values))
 
 -- ---- what the answers have in common
 

@@ -22,7 +22,6 @@ use Rattle.laws.specs.Lines.{joined-append, both-sides, old-line, three-parts, 
 use Rattle.promises.specs.Terms.{SoundState, old-size, with-lines, accepted-with}
 use Rattle.promises.specs.RoundTrip.{no-new-names}
 use Rattle.promises.specs.WellFormedTest.{test-says}
-use Rattle.promises.specs.Stored.{over-take}
 use Rattle.promises.specs.States.{state-says}
 use Rattle.promises.specs.Listings.{ListedLine, list-answer, writes, written-so}
 use Rattle.promises.specs.Entering.{enter-listing}
@@ -34,7 +33,7 @@ used-in : (s : State) → T (sound-state s) → s .used ≤ length (s .store)
 used-in s o = omega (arith, state-says s o .used-fits, room-lent (s .store))
 
 -- the lines take as many bytes as are used
-lines-size : (s : State) → T (sound-state s) → length (joined (lines-of s)) ≡ s .used
+pub lines-size : (s : State) → T (sound-state s) → length (joined (lines-of s)) ≡ s .used
 lines-size s o = ap length (used-bytes s o) ∙ length-take-le (s .used) (s .store) (used-in s o)
 
 -- the bytes of all lines with one put in, and of the one that it replaces
@@ -56,14 +55,16 @@ unfolding overwritten
 same-over k l h =
     ap (λ (z : List ℕ). z ++ drop (length z) l) (append-nil (take k l)) ∙ ap (λ (z : ℕ). take k l ++ drop z l) (length-take-le k l h) ∙ take-append-drop k l
 
-tables-stay : (s : State) → SoundState s → (ls : List (List ℕ)) → stored s (names-of s) ls ≡ with-lines s ls
+-- the tables stay
+pub tables-stay : (s : State) → SoundState s → (ls : List (List ℕ)) → stored s (names-of s) ls ≡ with-lines s ls
 unfolding stored with-names name-bytes value-entries with-lines
 tables-stay s o ls =
-    rw (drop-length (names-of s), same-over (s .name-size) (s .names) (o .table-fits), same-over (8 * s .name-count) (s .values) (o .values-fit), o .count, add-zero (s .name-size))
+    rw (drop-length (names-of s), same-over (s .name-size) (s .names) (o .table .fits), same-over (8 * s .name-count) (s .values) (o .values-fit), o .table .counted, add-zero (s .name-size))
 
 -- ---- the listing entered
 
-no-lack : (s : State) → lacks-room s (names-of s) ≡ false
+-- and no room is lacking
+pub no-lack : (s : State) → lacks-room s (names-of s) ≡ false
 unfolding lacks-room
 no-lack s = rw (le-ltb (length (names-of s)) (length (names-of s)) (omega arith))
 
@@ -102,7 +103,8 @@ put-same : (n : ℕ) (ls : List (List ℕ)) → T (stored? n ls) → (line-numbe
 unfolding stored? line-at
 put-same n ls t = same-go n ls (lines-not-below n ls) refl t
 
-store-same : (s : State) → T (sound-state s) → with-lines s (lines-of s) ≡ s
+-- the state with its own lines
+pub store-same : (s : State) → T (sound-state s) → with-lines s (lines-of s) ≡ s
 unfolding with-lines overwritten
 store-same s o = rw (used-bytes s o, length-take-le (s .used) (s .store) (used-in s o), take-append-drop (s .used) (s .store), sym (state-says s o .agrees .counted), sym (state-says s o .agrees .greatest))
 
@@ -116,7 +118,7 @@ pub listed-again : (n : ℕ) (s : State) (output : List ℕ) → (list n s outpu
 listed-again n s output z short b =
     let l : List ℕ = line-at n (lines-of s) in
     let text : List ℕ = listing (names-of s) l in
-    let so : ListedLine n s output = written-so text output (list n s output) (list-answer n s output) z in
+    let so : ListedLine n s = written-so text output (list n s output) (list-answer n s output) z in
     let w = writes text output (list n s output) (list-answer n s output) z in
     let p = put-same n (lines-of s) (so .1) in
     let size : old-size (line-number l) s ≡ length l = ap (λ (z : ℕ). old-size z s) (p .0) ∙ size-there n s (so .1) in

@@ -1,21 +1,34 @@
 -- The promises that document 02 adds, a section for each request in the order in which they landed.
-use Prim.Native.Nat.{ℕ}
-use mathlib.Core.Path.{_≡_, ap}
+use Prim.Native.Nat.{ℕ, _≤_, _<_}
+use mathlib.Core.Path.{_≡_, refl, ap}
 use mathlib.Core.Bool.{Bool, false}
-use mathlib.Core.Logic.{_⊎_}
+use mathlib.Core.Logic.{_↔_, _⊎_}
 use mathlib.Core.List.{List, [], _∷_, _++_}
 use lib.Dec.{T}
-use lib.ListN.{length}
-use Rattle.paper.specs.Bytes.{every}
+use lib.ListN.{length, take}
+use Rattle.paper.specs.Bytes.{blank?, every}
 use Rattle.paper.specs.Tokens.{string, unreadable}
-use Rattle.paper.specs.Items.{Item, item, string-byte?, item-at, size-at}
-use Rattle.paper.specs.Calls.{State, enter, list}
+use Rattle.paper.specs.Names.{names-in, sound-names}
+use Rattle.paper.specs.Items.{Item, no-span, item, string-byte?, item-at, size-at, items}
+use Rattle.paper.specs.Line.{direct-number?}
+use Rattle.paper.specs.WellFormed.{WellFormedDirect, formed?}
+use Rattle.paper.specs.Listing.{direct-listing}
+use Rattle.paper.specs.Store.{overwritten}
+use Rattle.paper.specs.Calls.{State, names-of, sound-state, enter, Listed, list}
+use Rattle.paper.specs.Direct.{line-kept, typed, line-in, show}
 use Rattle.laws.specs.Runs.{all-every}
-use Rattle.promises.specs.Terms.{EndsThere, Agrees, Reached}
+use Rattle.promises.specs.Terms.{number-in, direct?, NoReading, OutOfRange, EndsThere, Readable, Exactly, NoLineNumber, Unread, TooFar, typed-refusals, show-refusals, Unchanged, LineMade, over-store, typed-over-store, HoldsWellFormed, Written, Agrees, Reached, accepted-with}
 use Rattle.laws.specs.Ends as Ends′
 use Rattle.promises.specs.Strings as Strings′
 use Rattle.promises.specs.Answers as Answers′
 use Rattle.promises.specs.Agreeing as Agreeing′
+use Rattle.promises.specs.DirectLines as DirectLines′
+use Rattle.promises.specs.DirectAgain as DirectAgain′
+use Rattle.promises.specs.Listings as Listings′
+use Rattle.promises.specs.WellFormedTest as WellFormedTest′
+use Rattle.promises.specs.WellFormedLines as WellFormedLines′
+use Rattle.promises.specs.OnePlace as OnePlace′
+use Rattle.promises.specs.ExactlyTyped as ExactlyTyped′
 
 -- ---- §2 A quote left open
 
@@ -78,3 +91,99 @@ disagreeing-text text s h = Agreeing′.text-refused text s h
 -- and whatever is listed
 pub disagreeing-listing : (n : ℕ) (s : State) (output : List ℕ) → (Agrees s → ⊥) → (list n s output) .number ≡ 1
 disagreeing-listing n s output h = Agreeing′.listing-refused n s output h
+
+-- ---- §1 Lines without a number
+
+-- The call is now `typed`, which is lent a line buffer as well. Every text but a line without a number (`Terms.direct?`) is entered, and the line buffer stays as it was: so each
+-- promise of `Main` about `enter` holds of the call. What follows is said of every text that is typed, or of lines without a number.
+pub typed-as-entered : (text : List ℕ) (s : State) (buffer : List ℕ) → direct? text ≡ false → ((typed text s buffer) .entered ≡ enter text s) × ((typed text s buffer) .line ≡ buffer)
+unfolding line-kept
+typed-as-entered text s buffer d = let e = DirectLines′.other-typed text s buffer d in rw e (refl, refl)
+
+-- Places are those of `Main`, 1. In a line without a number they are counted from the text's start, among the items of the whole text.
+pub direct-place-of-4 : (text : List ℕ) (s : State) (buffer : List ℕ) → T (direct? text) → (typed text s buffer) .entered .number ≡ 4 → NoReading (items 0 text) ((typed text s buffer) .entered .place)
+direct-place-of-4 text s buffer d h = DirectLines′.direct-four text s buffer _ (DirectLines′.direct-answer text s buffer d) h
+
+-- refusal 5
+pub direct-place-of-5 : (text : List ℕ) (s : State) (buffer : List ℕ) → T (direct? text) → (typed text s buffer) .entered .number ≡ 5 → OutOfRange (items 0 text) ((typed text s buffer) .entered .place)
+direct-place-of-5 text s buffer d h = DirectLines′.direct-five text s buffer _ (DirectLines′.direct-answer text s buffer d) h
+
+-- The end is past the item that stands there.
+pub typed-place-ends : (text : List ℕ) (s : State) (buffer : List ℕ) → ((typed text s buffer) .entered .number ≡ 4) ⊎ ((typed text s buffer) .entered .number ≡ 5) → EndsThere text ((typed text s buffer) .entered .place)
+typed-place-ends text s buffer h = DirectLines′.typed-ends text s buffer h
+
+-- Every other answer has no place.
+pub typed-no-place : (text : List ℕ) (s : State) (buffer : List ℕ) → ((typed text s buffer) .entered .number ≡ 4 → ⊥) → ((typed text s buffer) .entered .number ≡ 5 → ⊥) → (typed text s buffer) .entered .place ≡ no-span
+typed-no-place text s buffer h k = DirectLines′.typed-no-place text s buffer h k
+
+-- A refused text leaves every buffer and count as given, the line buffer too, and answers no name added.
+pub refused-typed : (text : List ℕ) (s : State) (buffer : List ℕ) → ((typed text s buffer) .entered .number ≡ 0 → ⊥) → Unchanged s buffer (typed text s buffer)
+refused-typed text s buffer h = DirectLines′.typed-unchanged text s buffer h
+
+-- An accepted line without a number stands at the front of the line buffer, well-formed with number 32768, and nothing past it is written; its new names are
+-- added as for a stored line; store, bytes used and the record's pair are untouched.
+pub accepted-direct : (text : List ℕ) (s : State) (buffer : List ℕ) → T (direct? text) → (typed text s buffer) .entered .number ≡ 0 → LineMade text s buffer (typed text s buffer)
+accepted-direct text s buffer d h = DirectLines′.made-so text s buffer _ (DirectLines′.direct-answer text s buffer d) h
+
+-- No store has any part in it, as long as it is sound: over any other the answer, the names and the line are the same.
+pub direct-any-store : (store : List ℕ) (used lines greatest : ℕ) (text : List ℕ) (s : State) (buffer : List ℕ) → T (direct? text) → T (sound-state s) → T (sound-state (over-store store used lines greatest s))
+    → typed text (over-store store used lines greatest s) buffer ≡ typed-over-store store used lines greatest (typed text s buffer)
+direct-any-store store used lines greatest text s buffer d o t = DirectLines′.any-store store used lines greatest s buffer text d o t
+
+-- A sound state stays sound, whatever is typed;
+pub typed-stays-sound : (text : List ℕ) (s : State) (buffer : List ℕ) → T (sound-state s) → T (sound-state ((typed text s buffer) .entered .after))
+typed-stays-sound text s buffer h = DirectLines′.typed-stays-sound text s buffer h
+
+-- a record that agrees with the store stays so (and `record-agrees` holds after typed texts too);
+pub typed-stays-agreeing : (text : List ℕ) (s : State) (buffer : List ℕ) → Agrees s → Agrees ((typed text s buffer) .entered .after)
+typed-stays-agreeing text s buffer a = Agreeing′.typed-stays-agreeing text s buffer a
+
+-- and a store of well-formed lines stays one.
+pub typed-stored-lines : (text : List ℕ) (s : State) (buffer : List ℕ) → HoldsWellFormed s → HoldsWellFormed ((typed text s buffer) .entered .after)
+typed-stored-lines text s buffer h = WellFormedLines′.typed-stays-well-formed text s buffer h
+
+-- Demand 3, with 32768 allowed and the line buffer in the store's place. Over sound tables and store, a well-formed line of at most 255 bytes whose listing has at most 120
+-- is put in the line buffer, byte for byte, by typing that listing; no name is added, and nothing else changes.
+pub direct-re-entry : (s : State) → T (sound-state s) → (l buffer : List ℕ) → length l ≤ 255 → WellFormedDirect (names-of s) l → length (direct-listing (names-of s) l) ≤ 120 → length l ≤ length buffer
+    → typed (direct-listing (names-of s) l) s buffer ≡ record { entered = accepted-with s; line = overwritten l buffer }
+direct-re-entry s o l buffer b w h fits = DirectAgain′.typed-again s o l buffer w b h fits
+
+-- No two different ones over one sound name table have the same listing, of any length.
+pub one-direct-listing : (ns : List (List ℕ)) → T (sound-names ns) → (l m : List ℕ) → WellFormedDirect ns l → WellFormedDirect ns m → direct-listing ns l ≡ direct-listing ns m → l ≡ m
+one-direct-listing ns s l m v w e = DirectAgain′.one-direct-listing ns s l m v w e
+
+-- The test that is made before a line buffer is listed says what the definition says.
+pub direct-test : (ns : List (List ℕ)) (l : List ℕ) → (T (formed? direct-number? ns l) → WellFormedDirect ns l) × (WellFormedDirect ns l → T (formed? direct-number? ns l))
+direct-test ns l = (WellFormedTest′.test-says ns l, WellFormedTest′.says-test ns l)
+
+-- The listing of a line buffer: refused, it writes nothing and answers a count of 0.
+pub refused-showing : (buffer names : List ℕ) (size count : ℕ) (values output : List ℕ) → ((show buffer names size count values output) .number ≡ 0 → ⊥)
+    → ((show buffer names size count values output) .output ≡ output) × ((show buffer names size count values output) .written ≡ 0)
+refused-showing buffer names size count values output h = Listings′.unwritten _ output _ (Listings′.show-answer buffer names size count values output) h
+
+-- Accepted, it writes the text of the line at the buffer's front, and leaves every other byte as it was.
+pub accepted-showing : (buffer names : List ℕ) (size count : ℕ) (values output : List ℕ) → (show buffer names size count values output) .number ≡ 0
+    → Written (direct-listing (names-in (take size names)) (line-in buffer)) output (show buffer names size count values output)
+accepted-showing buffer names size count values output h = Listings′.writes _ output _ (Listings′.show-answer buffer names size count values output) h
+
+-- What was shown, typed again, leaves tables, store and line buffer as they are.
+pub shown-again : (s : State) → T (sound-state s) → (buffer output : List ℕ) → length (line-in buffer) ≤ 255 → (e : Listed) → e ≡ show buffer (s .names) (s .name-size) (s .name-count) (s .values) output → e .number ≡ 0 → e .written ≤ 120
+    → typed (take (e .written) (e .output)) s buffer ≡ record { entered = accepted-with s; line = buffer }
+shown-again s o buffer output b e is h k = DirectAgain′.shown-again s o buffer output b e is h k
+
+-- Exactly when (see `Main`, 8). Terms.antt lists the numbers of `typed`, for a line without a number 1, 2, 4 and 5, 6, 7 and 8, which is asked of the line buffer alone, and for any
+-- other text those of `enter`; and the numbers of `show`: 1, 10, 11.
+pub typed-exactly : (text : List ℕ) (s : State) (buffer : List ℕ) → Exactly (typed-refusals text s buffer) ((typed text s buffer) .entered .number)
+typed-exactly text s buffer = ExactlyTyped′.typed-exactly text s buffer
+
+-- So 3 is answered only to an empty or blank text, or a number above 32767.
+pub typed-3 : (text : List ℕ) → direct? text ≡ false → NoLineNumber text ↔ (T (every blank? text) ⊎ (32767 < number-in text))
+typed-3 text d = ExactlyTyped′.no-number text d
+
+-- Of a line without a number, neither 4 nor 5 is there exactly when its items are a lawful sequence with every constant in range.
+pub direct-neither-4-nor-5 : (text : List ℕ) → ((Unread (items 0 text) → ⊥) × (TooFar (items 0 text) → ⊥)) ↔ Readable (items 0 text)
+direct-neither-4-nor-5 text = OnePlace′.neither 0 text
+
+-- the listing of a line buffer
+pub show-exactly : (buffer names : List ℕ) (size count : ℕ) (values output : List ℕ) → Exactly (show-refusals buffer names size count values output) ((show buffer names size count values output) .number)
+show-exactly buffer names size count values output = ExactlyTyped′.show-exactly buffer names size count values output

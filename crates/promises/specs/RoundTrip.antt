@@ -245,7 +245,8 @@ number-read n ts h =
 
 -- ---- no two well-formed lines over one sound table have the same listing
 
-tokens-apart : (xs ys : List Token) → tokens xs ≡ tokens ys → xs ≡ ys
+-- equal answers, equal tokens
+pub tokens-apart : (xs ys : List Token) → tokens xs ≡ tokens ys → xs ≡ ys
 tokens-apart xs ys e = cc
 
 -- one listing, one line

@@ -1,7 +1,7 @@
 -- The state after an accepted edit: sound again, with the old names and values in front of the new ones, and every other byte as it was.
 use Prim.Native.Nat.{ℕ, _+_, _*_, _≤_}
 use native.Mathlib.Omega.{arith}
-use mathlib.Core.Path.{_≡_, refl, subst, sym, ap, ap₂, _∙_}
+use mathlib.Core.Path.{_≡_, subst, sym, ap, ap₂, _∙_}
 use mathlib.Core.Bool.{Bool, true, false, _||_}
 use mathlib.Core.List.{List, [], _∷_, _++_}
 use lib.Dec.{T, leb, ltb, eqb, leb→le, le→leb, eqb→eq, eqb-refl}
@@ -15,7 +15,7 @@ use Rattle.paper.specs.Calls.{State, names-of, lines-of, sound-tables, agrees, 
 use Rattle.laws.specs.Tests.{and-left, and-right, and-both, as-T, is-true}
 use Rattle.laws.specs.Names.{same-self, same-eq, name-bytes-append}
 use Rattle.laws.specs.Tables.{length-entries}
-use Rattle.promises.specs.Terms.{Agrees, SoundState, Kept}
+use Rattle.promises.specs.Terms.{Agrees, SoundTable, SoundState, Kept}
 use Rattle.promises.specs.Lists.{or-false-left, or-false-right}
 use Rattle.promises.specs.NameTable.{NamesGood, names-back}
 use Rattle.promises.specs.Stored.{Extended, extended, over-past, Holds}
@@ -35,22 +35,39 @@ says-pair : (s : State) → Agrees s → T (agrees s)
 unfolding agrees
 says-pair s a = and-both (eqb (s .line-count) (length (lines-of s))) _ (as-T _ (eq-eqb _ _ (a .counted))) (as-T _ (eq-eqb _ _ (a .greatest)))
 
+-- what the test of a table of names says
+pub table-says : (table : List ℕ) (size count : ℕ) → T (sound-table table size count) → SoundTable (names-in (take size table)) table size count
+unfolding sound-table
+table-says table size count t =
+    let bs : List ℕ = take size table in
+    let ns : List (List ℕ) = names-in bs in
+    let b = and-right (leb size (length table)) _ t in
+    let c = and-right (same (name-bytes ns) bs) _ b in
+    record {
+      fits = leb→le size (length table) (and-left (leb size (length table)) _ t);
+      bytes = same-eq (name-bytes ns) bs (is-true (same (name-bytes ns) bs) (and-left (same (name-bytes ns) bs) _ b));
+      counted = eqb→eq (length ns) count (and-left (eqb (length ns) count) _ c);
+      names = and-right (eqb (length ns) count) _ c;
+    }
+
+-- and the other way round
+pub says-table : (table : List ℕ) (size count : ℕ) → SoundTable (names-in (take size table)) table size count → T (sound-table table size count)
+unfolding sound-table
+says-table table size count o =
+    let bs : List ℕ = take size table in
+    and-both (leb size (length table)) _ (le→leb _ _ (o .fits))
+    (and-both (same (name-bytes (names-in bs)) bs) _ (as-T _ (ap (λ (z : List ℕ). same z bs) (o .bytes) ∙ same-self bs))
+    (and-both (eqb (length (names-in bs)) count) _ (as-T _ (eq-eqb _ _ (o .counted))) (o .names)))
+
 -- what the test of soundness says
 pub state-says : (s : State) → T (sound-state s) → SoundState s
-unfolding sound-state sound-tables sound-table sound-store names-of lines-of
+unfolding sound-state sound-tables sound-store names-of lines-of
 state-says s both =
     let t = and-left (sound-tables s) (agrees s) both in
-    let bs : List ℕ = take (s .name-size) (s .names) in
-    let a = and-left (sound-table (s .names) (s .name-size) (s .name-count)) _ t in
-    let b = and-right (leb (s .name-size) (length (s .names))) _ a in
-    let c = and-right (same (name-bytes (names-in bs)) bs) _ b in
     let d = and-right (sound-table (s .names) (s .name-size) (s .name-count)) _ t in
     let e = and-right (leb (8 * s .name-count) (length (s .values))) _ d in
     record {
-      table-fits = leb→le (s .name-size) (length (s .names)) (and-left (leb (s .name-size) (length (s .names))) _ a);
-      bytes = same-eq (name-bytes (names-in bs)) bs (is-true (same (name-bytes (names-in bs)) bs) (and-left (same (name-bytes (names-in bs)) bs) _ b));
-      count = eqb→eq (length (names-in bs)) (s .name-count) (and-left (eqb (length (names-in bs)) (s .name-count)) _ c);
-      names = and-right (eqb (length (names-in bs)) (s .name-count)) _ c;
+      table = table-says (s .names) (s .name-size) (s .name-count) (and-left (sound-table (s .names) (s .name-size) (s .name-count)) _ t);
       values-fit = leb→le (8 * s .name-count) (length (s .values)) (and-left (leb (8 * s .name-count) (length (s .values))) _ d);
       used-fits = leb→le (s .used) (room (s .store)) (and-left (leb (s .used) (room (s .store))) _ e);
       lines = and-right (leb (s .used) (room (s .store))) _ e;
@@ -59,14 +76,10 @@ state-says s both =
 
 -- and the other way round
 pub says-state : (s : State) → SoundState s → T (sound-state s)
-unfolding sound-state sound-tables sound-table sound-store names-of lines-of
+unfolding sound-state sound-tables sound-store names-of lines-of
 says-state s o =
-    let bs : List ℕ = take (s .name-size) (s .names) in
     and-both (sound-tables s) (agrees s)
-    (and-both (sound-table (s .names) (s .name-size) (s .name-count)) _
-    (and-both (leb (s .name-size) (length (s .names))) _ (le→leb _ _ (o .table-fits))
-    (and-both (same (name-bytes (names-in bs)) bs) _ (as-T _ (ap (λ (z : List ℕ). same z bs) (o .bytes) ∙ same-self bs))
-    (and-both (eqb (length (names-in bs)) (s .name-count)) _ (as-T _ (eq-eqb _ _ (o .count))) (o .names))))
+    (and-both (sound-table (s .names) (s .name-size) (s .name-count)) _ (says-table (s .names) (s .name-size) (s .name-count) (o .table))
     (and-both (leb (8 * s .name-count) (length (s .values))) _ (le→leb _ _ (o .values-fit)) (and-both (leb (s .used) (room (s .store))) _ (le→leb _ _ (o .used-fits)) (o .lines))))
     (says-pair s (o .agrees))
 
@@ -101,7 +114,7 @@ pub record Room (s : State) (new : List (List ℕ)) : Type 0 where
 -- no new names need no room
 pub no-more : (s : State) → SoundState s → Room s []
 unfolding name-bytes
-no-more s o = let f = few (names-of s) (o .names) in record { count = omega (arith, f); bytes = omega (arith, o .table-fits); values = omega (arith, o .count, o .values-fit) }
+no-more s o = let f = few (names-of s) (o .table .names) in record { count = omega (arith, f); bytes = omega (arith, o .table .fits); values = omega (arith, o .table .counted, o .values-fit) }
 
 room-go : (s : State) (new : List (List ℕ)) (k : ℕ) → k ≡ length (names-of s) + length new
     → ltb most-names k || (ltb (length (s .names)) (s .name-size + length (name-bytes new)) || ltb (length (s .values)) (8 * k)) ≡ false → Room s new
@@ -148,7 +161,7 @@ unfolding sound-table
 table-sound s new o g r out e l =
     let ns : List (List ℕ) = names-of s ++ new in
     let size : ℕ = s .name-size + length (name-bytes new) in
-    let bytes : take size out ≡ name-bytes ns = e ∙ ap (λ (z : List ℕ). z ++ name-bytes new) (sym (o .bytes)) ∙ sym (name-bytes-append (names-of s) new) in
+    let bytes : take size out ≡ name-bytes ns = e ∙ ap (λ (z : List ℕ). z ++ name-bytes new) (sym (o .table .bytes)) ∙ sym (name-bytes-append (names-of s) new) in
     let back : names-in (take size out) ≡ ns = ap names-in bytes ∙ names-back ns (g .names) in
     let few : length ns ≤ 128 = subst (λ (z : ℕ). z ≤ 128) (sym (length-append (names-of s) new)) (r .count) in (
       back,
@@ -167,9 +180,9 @@ kept s new ls o g r h =
     let n : Extended (s .name-size) (name-bytes new) (s .names) = extended (s .name-size) (name-bytes new) (s .names) (r .bytes) in
     let es : List ℕ = value-entries (s .name-count) new in
     let el : length es ≡ 8 * length new = length-entries (s .name-count) new in
-    let v : Extended (8 * s .name-count) es (s .values) = extended (8 * s .name-count) es (s .values) (omega (arith, r .values, o .count)) in
+    let v : Extended (8 * s .name-count) es (s .values) = extended (8 * s .name-count) es (s .values) (omega (arith, r .values, o .table .counted)) in
     let t = table-sound s new o g r (overwritten (take (s .name-size) (s .names) ++ name-bytes new) (s .names)) (n .both) (n .same-size) in
-    let c : 8 * length (names-of s ++ new) ≡ 8 * s .name-count + length es = omega (arith, length-append (names-of s) new, o .count) in
+    let c : 8 * length (names-of s ++ new) ≡ 8 * s .name-count + length es = omega (arith, length-append (names-of s) new, o .table .counted) in
     let fits : 8 * length (names-of s ++ new) ≤ length (s .values) = omega (arith, r .values, length-append (names-of s) new) in
     record {
       sound =

@@ -1,21 +1,22 @@
 -- The terms in which the promises are stated.
 use Prim.Native.Nat.{ℕ, _+_, _*_, _^_, _≤_, _<_}
 use mathlib.Core.Path.{_≡_}
-use mathlib.Core.Bool.{Bool, not}
+use mathlib.Core.Bool.{Bool, not, _&&_}
 use mathlib.Core.Logic.{_↔_, _⊎_}
 use mathlib.Core.List.{List, [], _∷_, _++_, List·Memᴰ}
-use lib.Dec.{T}
+use lib.Dec.{T, eqb}
 use lib.ListN.{length, take, drop}
 use Rattle.paper.specs.Bytes.{pick, every, joined, blank?, digit?, run}
 use Rattle.paper.specs.Tokens.{Token, out-of-range, out-of-range?}
 use Rattle.paper.specs.Constants.{value, five, six}
-use Rattle.paper.specs.Names.{most-names, sound-names, name-bytes, add-names, value-entries}
+use Rattle.paper.specs.Names.{most-names, names-in, sound-names, name-bytes, add-names, value-entries}
 use Rattle.paper.specs.Items.{Item, Span, span-of, no-span, size-at, items}
-use Rattle.paper.specs.Line.{line-bytes, line-number}
-use Rattle.paper.specs.WellFormed.{Lawful, WellFormed}
-use Rattle.paper.specs.Listing.{listing}
+use Rattle.paper.specs.Line.{line-bytes, line-number, direct-number}
+use Rattle.paper.specs.WellFormed.{Lawful, WellFormed, WellFormedDirect}
+use Rattle.paper.specs.Listing.{listing, direct-listing}
 use Rattle.paper.specs.Store.{greatest-number, sound-lines, room, stored?, line-at, overwritten}
 use Rattle.paper.specs.Calls.{State, names-of, lines-of, sound-state, Entered, enter, Listed}
+use Rattle.paper.specs.Direct.{Typed, typed, line-in}
 
 -- ---- a text's number and items
 
@@ -42,6 +43,10 @@ past-number text = drop (digit-count text) (after-blanks text)
 -- the items of a text: those after its number, with places counted from the whole text's start
 abbrev pub items-in : List ℕ → List Item
 items-in text = items (number-end text) (past-number text)
+
+-- a line without a number (document 02, §1): after its blanks no digit stands, and it is not blank
+unfoldable pub direct? : List ℕ → Bool
+direct? text = eqb (digit-count text) 0 && not (every blank? text)
 
 -- ---- the place of a refusal
 
@@ -108,13 +113,17 @@ pub record Agrees (s : State) : Type 0 where
   pub counted : s .line-count ≡ length (lines-of s)
   pub greatest : s .greatest ≡ greatest-number (lines-of s)
 
--- Sound tables and store, in the parts that document 01 ("Tables") lists: the counted names end exactly at the byte count given, and are sound;
--- the values have room for all; the bytes used are within the room, and are sound lines. And the record agrees with the store.
+-- A sound table of names, in the parts that document 01 ("Tables") lists: the counted names end exactly at the byte count given, and are sound.
+pub record SoundTable (ns : List (List ℕ)) (table : List ℕ) (size count : ℕ) : Type 0 where
+  pub fits : size ≤ length table
+  pub bytes : name-bytes ns ≡ take size table
+  pub counted : length ns ≡ count
+  pub names : T (sound-names ns)
+
+-- Sound tables and store: the names; the values have room for all; the bytes used are within the room, and are sound lines. And the record agrees
+-- with the store.
 pub record SoundState (s : State) : Type 0 where
-  pub table-fits : s .name-size ≤ length (s .names)
-  pub bytes : name-bytes (names-of s) ≡ take (s .name-size) (s .names)
-  pub count : length (names-of s) ≡ s .name-count
-  pub names : T (sound-names (names-of s))
+  pub table : SoundTable (names-of s) (s .names) (s .name-size) (s .name-count)
   pub values-fit : 8 * s .name-count ≤ length (s .values)
   pub used-fits : s .used ≤ room (s .store)
   pub lines : T (sound-lines (lines-of s))
@@ -197,6 +206,26 @@ deletion-refusals text s = (1, Unsound s) ∷ (2, TextTooLong text) ∷ (3, NoLi
 abbrev pub text-refusals : List ℕ → State → List (ℕ × Type 0)
 text-refusals text s = pick (every blank? (past-number text)) (deletion-refusals text s) (entry-refusals text s)
 
+-- 8 of a line without a number: the line buffer is shorter than the line
+abbrev pub BufferTooShort : List ℕ → State → List Token → Type 0
+BufferTooShort buffer s ts = length buffer < length (line-with s direct-number ts)
+
+-- typing a line without a number, whose items are those of the whole text
+abbrev pub direct-refusals : List ℕ → State → List ℕ → List (ℕ × Type 0)
+direct-refusals text s buffer =
+    (1, Unsound s)
+    ∷ (2, TextTooLong text)
+    ∷ (4, Unread (items 0 text))
+    ∷ (5, TooFar (items 0 text))
+    ∷ (6, Giving (items 0 text) (λ ts. NamesLackRoom s (names-with s ts)))
+    ∷ (7, Giving (items 0 text) (LineTooLong s direct-number))
+    ∷ (8, Giving (items 0 text) (BufferTooShort buffer s))
+    ∷ []
+
+-- typing any text
+abbrev pub typed-refusals : List ℕ → State → List ℕ → List (ℕ × Type 0)
+typed-refusals text s buffer = pick (direct? text) (direct-refusals text s buffer) (text-refusals text s)
+
 -- listing a line; 10: it is not well-formed; 11: its listing is longer than the output buffer
 abbrev pub listing-refusals : ℕ → State → List ℕ → List (ℕ × Type 0)
 listing-refusals n s output =
@@ -204,6 +233,14 @@ listing-refusals n s output =
     ∷ (9, NoSuchLine n s)
     ∷ (10, OfLine n s (λ l. WellFormed (names-of s) l → ⊥))
     ∷ (11, OfLine n s (λ l. length output < length (listing (names-of s) l)))
+    ∷ []
+
+-- listing a line buffer; 1: the names are unsound, or the values lack room for all; 10: the line at its front is not well-formed with number 32768
+abbrev pub show-refusals : List ℕ → List ℕ → ℕ → ℕ → List ℕ → List ℕ → List (ℕ × Type 0)
+show-refusals buffer names size count values output =
+    (1, SoundTable (names-in (take size names)) names size count × (8 * count ≤ length values) → ⊥)
+    ∷ (10, WellFormedDirect (names-in (take size names)) (line-in buffer) → ⊥)
+    ∷ (11, length output < length (direct-listing (names-in (take size names)) (line-in buffer)))
     ∷ []
 
 -- ---- what an edit leaves
@@ -264,6 +301,41 @@ pub record AtFront (written old new : List ℕ) : Type 0 where
   pub past : drop (length written) new ≡ drop (length written) old
   pub same-size : length new ≡ length old
 
+-- a text that is typed changed nothing and added no name
+abbrev pub Unchanged : State → List ℕ → Typed → Type 0
+Unchanged s buffer e = (e .entered .after ≡ s) × (e .entered .added ≡ 0) × (e .line ≡ buffer)
+
+-- The store is untouched: its bytes, how many are used, and the record's pair.
+pub record SameStore (s after : State) : Type 0 where
+  pub store : after .store ≡ s .store
+  pub used : after .used ≡ s .used
+  pub line-count : after .line-count ≡ s .line-count
+  pub greatest : after .greatest ≡ s .greatest
+
+-- the state with another store, and the record's pair for it
+unfoldable pub over-store : List ℕ → ℕ → ℕ → ℕ → State → State
+over-store store used lines greatest s =
+    record { names = s .names; name-size = s .name-size; name-count = s .name-count; values = s .values; store = store; used = used; line-count = lines; greatest = greatest }
+
+-- the same answer, and the state that is left with another store
+unfoldable pub typed-over-store : List ℕ → ℕ → ℕ → ℕ → Typed → Typed
+typed-over-store store used lines greatest e =
+    let after = over-store store used lines greatest (e .entered .after) in
+    record { entered = record { number = e .entered .number; place = e .entered .place; added = e .entered .added; after = after }; line = e .line }
+
+-- What an accepted line without a number did. Its items are a lawful sequence, and the line of their tokens over the new names, well-formed with
+-- number 32768, stands at the front of the line buffer, and the names that are new were added in order.
+pub record LineMade (text : List ℕ) (s : State) (buffer : List ℕ) (e : Typed) : Type 0 where
+  pub tokens : List Token
+  pub new : List (List ℕ)
+  pub lawful : Lawful (items 0 text) tokens
+  pub names : names-of (e .entered .after) ≡ names-with s tokens
+  pub added : e .entered .added ≡ length new
+  pub kept : Kept s (e .entered .after) new
+  pub same-store : SameStore s (e .entered .after)
+  pub well-formed : WellFormedDirect (names-of (e .entered .after)) (line-with s direct-number tokens)
+  pub line : AtFront (line-with s direct-number tokens) buffer (e .line)
+
 -- what an accepted listing answers and leaves in the output
 pub record Written (text output : List ℕ) (e : Listed) : Type 0 where
   pub count : e .written ≡ length text
@@ -276,6 +348,7 @@ pub record Written (text output : List ℕ) (e : Listed) : Type 0 where
 pub data Reached : State → Type 0 where
   empty-record : (s : State) → s .used ≡ 0 → s .line-count ≡ 0 → s .greatest ≡ 0 → Reached s
   after-text : (text : List ℕ) (s : State) → Reached s → Reached ((enter text s) .after)
+  after-typed : (text : List ℕ) (s : State) (buffer : List ℕ) → Reached s → Reached ((typed text s buffer) .entered .after)
 
 -- ---- constants
 

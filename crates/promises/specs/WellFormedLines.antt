@@ -1,13 +1,17 @@
 -- The lines of the store after an edit: old ones, or well-formed; and a store of well-formed lines stays one.
 use Prim.Native.Nat.{ℕ}
-use mathlib.Core.Path.{_≡_, subst, sym}
+use mathlib.Core.Path.{_≡_, subst, sym, ap₂}
 use mathlib.Core.Logic.{_⊎_, inl, inr}
 use mathlib.Core.List.{List, [], _∷_, _++_, List·Memᴰ, List·Memᴰ·append-cases, List·Memᴰ·cases-cons, Memᴰ·append-left, Memᴰ·append-right, List·Memᴰ·tail}
+use lib.ListN.{take}
 use Rattle.paper.specs.WellFormed.{WellFormed}
+use Rattle.paper.specs.Store.{lines-in}
 use Rattle.paper.specs.Calls.{State, names-of, lines-of, Entered, enter}
-use Rattle.promises.specs.Terms.{number-in, line-with, PutIn, TakenOut, Edited, line-put, line-gone, HoldsWellFormed}
+use Rattle.paper.specs.Direct.{typed}
+use Rattle.promises.specs.Terms.{number-in, line-with, PutIn, TakenOut, Edited, line-put, line-gone, HoldsWellFormed, SameStore}
 use Rattle.promises.specs.Editing.{after-any}
 use Rattle.promises.specs.Growing.{grown}
+use Rattle.promises.specs.DirectLines.{after-any-typed}
 
 -- a line of the store with one put in is that one, or stood there before
 put-lines : (n : ℕ) (line : List ℕ) (old new : List (List ℕ)) → PutIn n line old new → (l : List ℕ) → List·Memᴰ l new → List·Memᴰ l old ⊎ (l ≡ line)
@@ -53,6 +57,17 @@ edit-holds text s e d h l m = go (lines-after text s e d l m)
     go (inl x) = let n = names-longer text s e d in subst (λ (z : List (List ℕ)). WellFormed z l) (sym (n .1)) (grown (n .0) (names-of s) l (h l x))
     go (inr x) = x
 
+-- a store that is untouched, over more names
+same-holds : (s after : State) (new : List (List ℕ)) → names-of after ≡ names-of s ++ new → SameStore s after → HoldsWellFormed s → HoldsWellFormed after
+unfolding lines-of
+same-holds s after new names same h l m =
+    let lines : lines-of after ≡ lines-of s = ap₂ (λ (k : ℕ) (b : List ℕ). lines-in (take k b)) (same .used) (same .store) in
+    subst (λ (z : List (List ℕ)). WellFormed z l) (sym names) (grown new (names-of s) l (h l (subst (List·Memᴰ l) lines m)))
+
 -- a store of well-formed lines stays one
 pub stays-well-formed : (text : List ℕ) (s : State) → HoldsWellFormed s → HoldsWellFormed ((enter text s) .after)
 stays-well-formed text s h = after-any HoldsWellFormed text s h (λ e d. edit-holds text s e d h)
+
+-- whatever is typed
+pub typed-stays-well-formed : (text : List ℕ) (s : State) (buffer : List ℕ) → HoldsWellFormed s → HoldsWellFormed ((typed text s buffer) .entered .after)
+typed-stays-well-formed text s buffer h = after-any-typed text s buffer HoldsWellFormed h (λ e d. edit-holds text s e d h) (λ t m. same-holds s (t .entered .after) (m .new) (m .kept .names) (m .same-store) h)
