@@ -1,3 +1,4 @@
 pub mod Quotes
 pub mod Ends
 pub mod Pairs
+pub mod Typed
