@@ -1,4 +1,5 @@
 -- The promises, about the definitions of `paper`. The terms in which they are stated are in Terms.antt.
+-- Of the call that is lent a line buffer (document 02, §1) those about `enter` hold for every text but a line without a number: `Requests.typed-as-entered`.
 use Prim.Native.Nat.{ℕ, zero, _+_, _≤_, _<_}
 use mathlib.Core.Path.{_≡_}
 use mathlib.Core.Bool.{Bool}

@@ -94,8 +94,8 @@ disagreeing-listing n s output h = Agreeing′.listing-refused n s output h
 
 -- ---- §1 Lines without a number
 
--- The call is now `typed`, which is lent a line buffer as well. Every text but a line without a number (`Terms.direct?`) is entered, and the line buffer stays as it was: so each
--- promise of `Main` about `enter` holds of the call. What follows is said of every text that is typed, or of lines without a number.
+-- The call is now `typed`, which is lent a line buffer as well. Every text but a line without a number (`Terms.direct?`) is entered, and the line buffer stays
+-- as it was: so each promise of `Main` about `enter` holds of the call. What follows is said of every text that is typed, or of lines without a number.
 pub typed-as-entered : (text : List ℕ) (s : State) (buffer : List ℕ) → direct? text ≡ false → ((typed text s buffer) .entered ≡ enter text s) × ((typed text s buffer) .line ≡ buffer)
 unfolding line-kept
 typed-as-entered text s buffer d = let e = DirectLines′.other-typed text s buffer d in rw e (refl, refl)
@@ -142,8 +142,8 @@ typed-stays-agreeing text s buffer a = Agreeing′.typed-stays-agreeing text s b
 pub typed-stored-lines : (text : List ℕ) (s : State) (buffer : List ℕ) → HoldsWellFormed s → HoldsWellFormed ((typed text s buffer) .entered .after)
 typed-stored-lines text s buffer h = WellFormedLines′.typed-stays-well-formed text s buffer h
 
--- Demand 3, with 32768 allowed and the line buffer in the store's place. Over sound tables and store, a well-formed line of at most 255 bytes whose listing has at most 120
--- is put in the line buffer, byte for byte, by typing that listing; no name is added, and nothing else changes.
+-- Demand 3, with 32768 allowed and the line buffer in the store's place. Over sound tables and store, a well-formed line of at most 255 bytes whose listing has
+-- at most 120 is put in the line buffer, byte for byte, by typing that listing; no name is added, and nothing else changes.
 pub direct-re-entry : (s : State) → T (sound-state s) → (l buffer : List ℕ) → length l ≤ 255 → WellFormedDirect (names-of s) l → length (direct-listing (names-of s) l) ≤ 120 → length l ≤ length buffer
     → typed (direct-listing (names-of s) l) s buffer ≡ record { entered = accepted-with s; line = overwritten l buffer }
 direct-re-entry s o l buffer b w h fits = DirectAgain′.typed-again s o l buffer w b h fits
@@ -171,8 +171,8 @@ pub shown-again : (s : State) → T (sound-state s) → (buffer output : List �
     → typed (take (e .written) (e .output)) s buffer ≡ record { entered = accepted-with s; line = buffer }
 shown-again s o buffer output b e is h k = DirectAgain′.shown-again s o buffer output b e is h k
 
--- Exactly when (see `Main`, 8). Terms.antt lists the numbers of `typed`, for a line without a number 1, 2, 4 and 5, 6, 7 and 8, which is asked of the line buffer alone, and for any
--- other text those of `enter`; and the numbers of `show`: 1, 10, 11.
+-- Exactly when (see `Main`, 8). Terms.antt lists the numbers of `typed`: for a line without a number 1, 2, 4, 5, 6, 7 and 8, which is asked of the line buffer
+-- alone, and for any other text those of `enter`; and the numbers of `show`: 1, 10, 11.
 pub typed-exactly : (text : List ℕ) (s : State) (buffer : List ℕ) → Exactly (typed-refusals text s buffer) ((typed text s buffer) .entered .number)
 typed-exactly text s buffer = ExactlyTyped′.typed-exactly text s buffer
 
