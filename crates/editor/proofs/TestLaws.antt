@@ -5,11 +5,12 @@ use mathlib.Core.Path.{_≡_, refl, sym, ap, _∙_}
 use mathlib.Core.Bool.{Bool, true, false, _&&_}
 use mathlib.Core.List.{List}
 use lib.Dec.{T, leb}
-use lib.ListN.{length}
+use lib.ListN.{length, take}
 use Rattle.paper.specs.Items.{no-span}
-use Rattle.paper.specs.Names.{sound-table}
+use Rattle.paper.specs.Names.{names-in, sound-table}
 use Rattle.paper.specs.Store.{sound-store}
 use Rattle.paper.specs.Calls.{State, lines-of, sound-tables, agrees, sound-state, refusal, enter-sound, enter, not-listed, list-sound, list}
+use Rattle.paper.specs.Direct.{show-sound, show}
 use Rattle.paper.specs.Calls.{Entered as Outcome, Listed as Written-out}
 use Rattle.laws.specs.Tests.{and-left, as-T, is-true}
 use Rattle.laws.specs.Names.{sound-facts}
@@ -25,6 +26,8 @@ use Rattle.editor_edit.specs.States.{state, entered, refusing, Lies}
 use Rattle.editor_edit.specs.Sound.{counts-kept, lines-kept}
 use Rattle.editor_list.specs.declared.Listed.{Listed}
 use Rattle.editor_list.specs.Answers.{unlisted, listed}
+use Rattle.list_pieces.specs.NameLaws.{sound-own}
+use Rattle.list_pieces.specs.Rest.{Sound}
 
 both : (a b c d : Bool) → a && b ≡ true → c && d ≡ (a && (b && c)) && d
 both true true c d h = refl
@@ -96,3 +99,20 @@ list-so s n p out r t lies h =
 pub list-refused : (s : State) (n : ℕ) (out : List ℕ) (x : Listed) → false ≡ sound-state s → x ≡ unlisted 1 → listed x out ≡ list n s out
 unfolding list not-listed
 list-refused s n out x t q = rw q (sym (rw (sym t)))
+
+-- ---- listing a line buffer
+
+module _ (buffer names values out : List ℕ) (size count : ℕ) (b : Bool) (e : b ≡ sound-table names size count && leb (8 * count) (length values)) where
+  -- the names are sound
+  pub shown-names : b ≡ true → Sound names size
+  shown-names t = sound-own names size count (and-left (sound-table names size count) _ (as-T _ (sym e ∙ t)))
+
+  -- over sound names with room for their values
+  pub show-so : (r : Written-out) → b ≡ true → r ≡ show-sound buffer (names-in (take size names)) out → r ≡ show buffer names size count values out
+  unfolding show
+  show-so r t h = h ∙ sym (rw (sym e ∙ t))
+
+  -- 1
+  pub show-refused : (x : Listed) → b ≡ false → x ≡ unlisted 1 → listed x out ≡ show buffer names size count values out
+  unfolding show not-listed
+  show-refused x t q = rw q (sym (rw (sym e ∙ t)))

@@ -1,4 +1,4 @@
-// The calls over lent tables and a lent store: a text entered, a stored line listed.
+// The calls over lent tables and a lent store: a text entered, a stored line listed, the line in a line buffer listed.
 mod readings;
 
 use editor_edit::Editor;
@@ -8,6 +8,7 @@ use editor_edit::store_counts;
 use editor_list::Listed;
 use editor_list::list_stored;
 use editor_list::not_listed;
+use editor_list::show_sound;
 use enter_item::LINE_ROOM;
 use enter_item::NAMES_ROOM;
 use readings::asked;
@@ -17,6 +18,7 @@ use store::Found;
 ghost use mathlib.Core.Path.{_≡_};
 ghost use lib.Dec.{T};
 ghost use Rattle.paper.specs.Calls.{sound-state, enter-sound, enter as enter-call, list as list-call};
+ghost use Rattle.paper.specs.Direct.{show as show-call};
 ghost use Rattle.editor_edit.specs.States.{state, entered};
 ghost use Rattle.editor_list.specs.Answers.{listed};
 
@@ -89,6 +91,24 @@ pub fn list(
             Found::Unsound => not_listed(1),
             Found::At(place) => list_stored(place, names, values, store, e, out),
         }
+    } else {
+        not_listed(1)
+    }
+}
+
+// Lists the line in a line buffer into another, or refuses with 1, 10 or 11 and writes nothing.
+pub fn show(
+    line: &[u8],
+    names: &[u8],
+    name_bytes: usize,
+    name_count: usize,
+    values: &[u8],
+    out: &mut [u8],
+) -> Listed
+    ensures { λ r. ⌜ listed r (now (out .exit)) ≡ show-call (now (line .entry)) (now (names .entry)) «name_bytes» «name_count» (now (values .entry)) (now (out .entry)) ⌝ }
+{
+    if names_sound::sound(names, name_bytes, name_count, values.len()) {
+        show_sound(line, names, name_bytes, out)
     } else {
         not_listed(1)
     }

@@ -1,10 +1,15 @@
-// The listing of a stored line.
+// The listing of a stored line, and of the line in a line buffer.
 use editor_edit::Editor;
 use list_line::Outcome;
 use store::Place;
+use store::heads;
 ghost use mathlib.Core.Path.{_≡_};
 ghost use lib.Dec.{T};
+ghost use lib.ListN.{take};
+ghost use Rattle.paper.specs.Names.{names-in};
 ghost use Rattle.paper.specs.Calls.{sound-state, list-sound};
+ghost use Rattle.paper.specs.Direct.{show-sound};
+ghost use Rattle.list_pieces.specs.Rest.{Sound};
 ghost use Rattle.editor_edit.specs.States.{state, Lies};
 ghost use Rattle.editor_list.specs.Answers.{unlisted, listed, Numbered};
 
@@ -53,5 +58,14 @@ pub fn list_stored(
         return not_listed(9);
     }
     let end = at + size;
-    numbered(list_line::list(&store[at..end], names, e.name_bytes, out))
+    numbered(list_line::list(&store[at..end], false, names, e.name_bytes, out))
+}
+
+// Lists the line at the front of a line buffer over a sound name table of `size` bytes, or refuses with 10 or 11.
+pub fn show_sound(line: &[u8], names: &[u8], size: usize, out: &mut [u8]) -> Listed
+    requires { ⌜ Sound (now names) size ⌝ }
+    ensures { λ r. ⌜ listed r (now (out .exit)) ≡ show-sound (now (line .entry)) (names-in (take size (now (names .entry)))) (now (out .entry)) ⌝ }
+{
+    let own = buffers::front(line, heads::size(line));
+    numbered(list_line::list(own, true, names, size, out))
 }

@@ -3,21 +3,21 @@ use Prim.Native.Nat.{ℕ, zero, suc, _+_, _-_, _*_, _≤_, _<_}
 use native.Mathlib.Omega.{arith}
 use native.Mathlib.Numerals.{add-one}
 use mathlib.Core.Path.{_≡_, refl, subst, sym, ap, ap₂, _∙_}
-use mathlib.Core.Bool.{Bool, true, false}
+use mathlib.Core.Bool.{Bool, true, false, not}
 use mathlib.Core.Logic.{_⊎_, inl, inr, ⊎-elim}
 use mathlib.Core.List.{List, [], _∷_, _++_, append-nil, append-assoc}
-use lib.Dec.{T, leb, leb→le, le→leb}
+use lib.Dec.{T, leb}
 use lib.ListN.{length, drop, getD, length-append, length-drop, drop-of-length-le}
 use lib.Seq.{sets, sets-eq, drop-drop}
 use borrow.Author.Tests.{le-leb, lt-leb, lt-ltb, le-ltb, leb-true, leb-false}
 use Rattle.paper.specs.Bytes.{blank, every}
 use Rattle.paper.specs.Tokens.{Token}
 use Rattle.paper.specs.Grammar.{start}
-use Rattle.paper.specs.Line.{line-number, lawful-number?, token-bytes, to-next, tokens-from, line-tokens}
-use Rattle.paper.specs.WellFormed.{well-formed?}
-use Rattle.paper.specs.Listing.{decimal, token-text, body-text, listing-text, listing}
+use Rattle.paper.specs.Line.{line-number, token-bytes, to-next, tokens-from, line-tokens}
+use Rattle.paper.specs.WellFormed.{formed?}
+use Rattle.paper.specs.Listing.{decimal, token-text, body-text, listing-text, listing, direct-listing}
 use Rattle.paper.specs.Store.{overwritten}
-use Rattle.paper.specs.Calls.{not-listed}
+use Rattle.paper.specs.Calls.{not-listed, listed-if}
 use Rattle.laws.specs.Tests.{is-true, as-T}
 use Rattle.buffers.specs.Sets.{sets-append}
 use Rattle.list_pieces.specs.declared.Piece.{Piece}
@@ -29,7 +29,7 @@ use Rattle.list_pieces.specs.Rest.{Takes, Written, Rest, Whole, Head}
 use Rattle.grammar.specs.Stack.{stack}
 use Rattle.list_check.specs.Passes.{Onward}
 use Rattle.list_text.specs.Texts.{piece-text, Writes}
-use Rattle.list_line.specs.Listed.{capped, found, measured, answer, lists}
+use Rattle.list_line.specs.Listed.{lawful-for, listing-for, head-for, capped, found, measured, answer, lists}
 use Rattle.list_pieces.specs.WellFormed.{passes-whole, whole-passes}
 use Rattle.list_pieces.specs.Decoded.{pieces}
 use Rattle.list_pieces.specs.RestLaws.{later, written-here}
@@ -88,9 +88,10 @@ text-first ns l at end c h e =
     ∙ body-append (tokens-of-piece ns (drop at l) c) (later ns at end (drop at l) c)
     ∙ ap (λ (z : List ℕ). body-text (tokens-of-piece ns (drop at l) c) ++ body-text (tokens-from ns 0 (at + size-of c) (end-after end (drop at l) c) z)) m
 
-head-listing : (ns : List (List ℕ)) (l : List ℕ) → (decimal 5 (line-number l) ++ blank ∷ []) ++ body-text (tokens-at ns l 3 3) ≡ listing ns l
-unfolding listing listing-text line-tokens
-head-listing ns l = append-assoc (decimal 5 (line-number l)) (blank ∷ []) (body-text (tokens-at ns l 3 3))
+head-listing : (direct : Bool) (ns : List (List ℕ)) (l : List ℕ) → head-for direct (line-number l) ++ body-text (tokens-at ns l 3 3) ≡ listing-for direct ns l
+unfolding listing listing-text direct-listing line-tokens
+head-listing true ns l = refl
+head-listing false ns l = append-assoc (decimal 5 (line-number l)) (blank ∷ []) (body-text (tokens-at ns l 3 3))
 
 -- ---- a line that is not well-formed
 
@@ -98,49 +99,49 @@ not-formed : (b : Bool) → (T b → ⊥) → b ≡ false
 not-formed true n = absurd (n tt)
 not-formed false n = refl
 
-not-measured : (ns : List (List ℕ)) (l : List ℕ) (room : ℕ) → (T (well-formed? ns l) → ⊥) → Measure′.NotWellFormed ≡ measured ns l room
+not-measured : (direct : Bool) (ns : List (List ℕ)) (l : List ℕ) (room : ℕ) → (T (formed? (lawful-for direct) ns l) → ⊥) → Measure′.NotWellFormed ≡ measured direct ns l room
 unfolding measured found
-not-measured ns l room n = sym (ap (λ (b : Bool). found b (capped room (length (listing ns l)))) (not-formed (well-formed? ns l) n))
+not-measured direct ns l room n = sym (ap (λ (b : Bool). found b (capped room (length (listing-for direct ns l)))) (not-formed (formed? (lawful-for direct) ns l) n))
 
 -- ---- the first pass
 
 -- before the piece at a place: the line is well-formed exactly if the rest is; so much was counted, and so much is left
-pub record Measuring (ns : List (List ℕ)) (l : List ℕ) (room : ℕ) (frames : List ℕ) (at end depth total : ℕ) : Type 0 where
+pub record Measuring (direct : Bool) (ns : List (List ℕ)) (l : List ℕ) (room : ℕ) (frames : List ℕ) (at end depth total : ℕ) : Type 0 where
   pub within : at ≤ length l
   pub shallow : depth ≤ 8 * at
-  pub down : T (well-formed? ns l) → Rest ns (stack frames depth) at end (drop at l)
-  pub up : Rest ns (stack frames depth) at end (drop at l) → T (well-formed? ns l)
+  pub down : T (formed? (lawful-for direct) ns l) → Rest ns (stack frames depth) at end (drop at l)
+  pub up : Rest ns (stack frames depth) at end (drop at l) → T (formed? (lawful-for direct) ns l)
   pub before : ℕ
   pub count : total ≡ capped room before
-  pub sum : before + length (body-text (tokens-at ns l at end)) ≡ length (listing ns l)
+  pub sum : before + length (body-text (tokens-at ns l at end)) ≡ length (listing-for direct ns l)
 
 one-frame : (frames : List ℕ) → getD frames 0 0 ≡ 0 → stack frames 1 ≡ start
 unfolding stack start
 one-frame frames e = ap (λ (f : ℕ). f ∷ []) e
 
-pub measuring-first : (ns : List (List ℕ)) (l : List ℕ) (room : ℕ) (frames : List ℕ) (k total : ℕ) {old new : List ℕ} → Head l → getD l 0 0 < 256 → getD frames 0 0 ≡ 0 → Writes (decimal 5 (line-number l) ++ blank ∷ []) 0 old k new → total ≡ capped room (0 + k)
-    → Measuring ns l room frames 3 3 1 total
-measuring-first ns l room frames k total h low f w e =
+pub measuring-first : (direct : Bool) (ns : List (List ℕ)) (l : List ℕ) (room : ℕ) (frames : List ℕ) (k total : ℕ) {old new : List ℕ} → Head (lawful-for direct) l → getD l 0 0 < 256 → getD frames 0 0 ≡ 0 → Writes (head-for direct (line-number l)) 0 old k new → total ≡ capped room (0 + k)
+    → Measuring direct ns l room frames 3 3 1 total
+measuring-first direct ns l room frames k total h low f w e =
     let s : stack frames 1 ≡ start = one-frame frames f in
-    let z : 0 + k ≡ length (decimal 5 (line-number l) ++ blank ∷ []) = omega (arith, w .size) in
+    let z : 0 + k ≡ length (head-for direct (line-number l)) = omega (arith, w .size) in
     record {
       within = h .long;
       shallow = omega arith;
       down = λ t. subst (λ (fs : List ℕ). Rest ns fs 3 3 (drop 3 l)) (sym s) (passes-whole ns l t .body);
       up = λ r. whole-passes ns l low (record { lawful = h .lawful; sized = h .sized; body = subst (λ (fs : List ℕ). Rest ns fs 3 3 (drop 3 l)) s r });
-      before = length (decimal 5 (line-number l) ++ blank ∷ []);
+      before = length (head-for direct (line-number l));
       count = e ∙ ap (capped room) z;
-      sum = sym (length-append (decimal 5 (line-number l) ++ blank ∷ []) (body-text (tokens-at ns l 3 3))) ∙ ap length (head-listing ns l);
+      sum = sym (length-append (head-for direct (line-number l)) (body-text (tokens-at ns l 3 3))) ∙ ap length (head-listing direct ns l);
     }
 
-module _ {ns : List (List ℕ)} {l : List ℕ} {room : ℕ} {frames : List ℕ} {at end depth total : ℕ} (m : Measuring ns l room frames at end depth total) where
+module _ {direct : Bool} {ns : List (List ℕ)} {l : List ℕ} {room : ℕ} {frames : List ℕ} {at end depth total : ℕ} (m : Measuring direct ns l room frames at end depth total) where
   pub measuring-next : {c : Piece} {new : List ℕ} {d : ℕ} → at < length l → piece-at at end (drop at l) ≡ c → Onward ns l at end c frames depth d new
       → {old out : List ℕ} {k : ℕ} → Writes (piece-text ns (drop at l) c) 0 old k out → {more stop step : ℕ} → more ≡ capped room (total + k) → stop ≡ end-after end (drop at l) c → step ≡ size-of c
-      → Measuring ns l room new (at + step) stop d more
+      → Measuring direct ns l room new (at + step) stop d more
   measuring-next {c} {new} {d} h p o {k = k} w {more} {stop} {step} e f g =
       let t = text-first ns l at end c h p in
       let n = length-append (piece-text ns (drop at l) c) (body-text (tokens-at ns l (at + size-of c) (end-after end (drop at l) c))) in
-      let next : Measuring ns l room new (at + size-of c) (end-after end (drop at l) c) d more = record {
+      let next : Measuring direct ns l room new (at + size-of c) (end-after end (drop at l) c) d more = record {
         within = o .within;
         shallow = omega (arith, m .shallow, o .few);
         down = λ t. o .down (m .down t);
@@ -149,11 +150,11 @@ module _ {ns : List (List ℕ)} {l : List ℕ} {room : ℕ} {frames : List ℕ} 
         count = e ∙ ap (λ (z : ℕ). capped room (z + k)) (m .count) ∙ capped-more room (m .before) k;
         sum = omega (arith, m .sum, n, ap length t, w .size);
       } in
-      subst (λ (z : ℕ). Measuring ns l room new (at + z) stop d more) (sym g) (subst (λ (z : ℕ). Measuring ns l room new (at + size-of c) z d more) (sym f) next)
+      subst (λ (z : ℕ). Measuring direct ns l room new (at + z) stop d more) (sym g) (subst (λ (z : ℕ). Measuring direct ns l room new (at + size-of c) z d more) (sym f) next)
 
   -- the rest is not that of a well-formed line
-  pub measuring-fails : (Rest ns (stack frames depth) at end (drop at l) → ⊥) → Measure′.NotWellFormed ≡ measured ns l room
-  measuring-fails n = not-measured ns l room (λ t. n (m .down t))
+  pub measuring-fails : (Rest ns (stack frames depth) at end (drop at l) → ⊥) → Measure′.NotWellFormed ≡ measured direct ns l room
+  measuring-fails n = not-measured direct ns l room (λ t. n (m .down t))
 
   ended : length l ≤ at → drop at l ≡ []
   ended h = drop-of-length-le l h
@@ -167,7 +168,7 @@ module _ {ns : List (List ℕ)} {l : List ℕ} {room : ℕ} {frames : List ℕ} 
   unfolding tokens-from to-next token-bytes every Takes
   nothing-left e = record { taken = tt; written = record { right = tt; bytes = refl; next = omega arith } }
 
-  pub measuring-open : length l ≤ at → (end ≡ at → ⊥) → Measure′.NotWellFormed ≡ measured ns l room
+  pub measuring-open : length l ≤ at → (end ≡ at → ⊥) → Measure′.NotWellFormed ≡ measured direct ns l room
   measuring-open h n = measuring-fails (λ r. n (sym (none-left (stack frames depth) (subst (Rest ns (stack frames depth) at end) (ended h) r) .0)))
 
   some-frames : (d : ℕ) → (d ≡ 0 → ⊥) → stack frames d ≡ [] → ⊥
@@ -175,50 +176,47 @@ module _ {ns : List (List ℕ)} {l : List ℕ} {room : ℕ} {frames : List ℕ} 
   some-frames zero n e = n refl
   some-frames (suc d) n e = let z : _≡_ {A = ℕ} 0 1 = cc in absurd (omega arith)
 
-  pub measuring-wants : length l ≤ at → (depth ≡ 0 → ⊥) → Measure′.NotWellFormed ≡ measured ns l room
+  pub measuring-wants : length l ≤ at → (depth ≡ 0 → ⊥) → Measure′.NotWellFormed ≡ measured direct ns l room
   measuring-wants h n = measuring-fails (λ r. some-frames depth n (none-left (stack frames depth) (subst (Rest ns (stack frames depth) at end) (ended h) r) .1))
 
-  pub measuring-done : length l ≤ at → end ≡ at → depth ≡ 0 → Measure′.Length total ≡ measured ns l room
+  pub measuring-done : length l ≤ at → end ≡ at → depth ≡ 0 → Measure′.Length total ≡ measured direct ns l room
   unfolding measured found stack body-text tokens-from
   measuring-done h e d =
       let s : stack frames depth ≡ [] = ap (stack frames) d in
       let r : Rest ns (stack frames depth) at end (drop at l) = subst (λ (fs : List ℕ). Rest ns fs at end (drop at l)) (sym s) (subst (Rest ns [] at end) (sym (ended h)) (nothing-left (sym e))) in
-      let t : well-formed? ns l ≡ true = is-true (well-formed? ns l) (m .up r) in
+      let t : formed? (lawful-for direct) ns l ≡ true = is-true (formed? (lawful-for direct) ns l) (m .up r) in
       let z : body-text (tokens-at ns l at end) ≡ [] = ap (λ (u : List ℕ). body-text (tokens-from ns 0 at end u)) (ended h) in
-      let k : m .before ≡ length (listing ns l) = omega (arith, m .sum, ap length z) in
-      ap Measure′.Length (m .count ∙ ap (capped room) k) ∙ sym (ap (λ (b : Bool). found b (capped room (length (listing ns l)))) t)
+      let k : m .before ≡ length (listing-for direct ns l) = omega (arith, m .sum, ap length z) in
+      ap Measure′.Length (m .count ∙ ap (capped room) k) ∙ sym (ap (λ (b : Bool). found b (capped room (length (listing-for direct ns l)))) t)
 
 -- ---- a line whose head is not right
 
-not-whole : (ns : List (List ℕ)) (l : List ℕ) (room : ℕ) → (Whole ns l → ⊥) → Measure′.NotWellFormed ≡ measured ns l room
-not-whole ns l room n = not-measured ns l room (λ t. n (passes-whole ns l t))
+not-whole : (direct : Bool) (ns : List (List ℕ)) (l : List ℕ) (room : ℕ) → (Whole (lawful-for direct) ns l → ⊥) → Measure′.NotWellFormed ≡ measured direct ns l room
+not-whole direct ns l room n = not-measured direct ns l room (λ t. n (passes-whole ns l t))
 
 empty-fails : (ns : List (List ℕ)) → Rest ns start 3 3 [] → ⊥
 unfolding tokens-from Takes start
 empty-fails ns r = r .taken
 
-short-go : (ns : List (List ℕ)) (l : List ℕ) → length l < 3 → Whole ns l → ⊥
-short-go ns [] h w = empty-fails ns (w .body)
-short-go ns (a ∷ []) h w = omega (arith, w .sized)
-short-go ns (a ∷ b ∷ []) h w = omega (arith, w .sized)
-short-go ns (a ∷ b ∷ c ∷ s) h w = omega arith
+short-go : (direct : Bool) (ns : List (List ℕ)) (l : List ℕ) → length l < 3 → Whole (lawful-for direct) ns l → ⊥
+short-go direct ns [] h w = empty-fails ns (w .body)
+short-go direct ns (a ∷ []) h w = omega (arith, w .sized)
+short-go direct ns (a ∷ b ∷ []) h w = omega (arith, w .sized)
+short-go direct ns (a ∷ b ∷ c ∷ s) h w = omega arith
 
-pub short-line : (ns : List (List ℕ)) (l : List ℕ) (room : ℕ) → length l < 3 → Measure′.NotWellFormed ≡ measured ns l room
-short-line ns l room h = not-whole ns l room (short-go ns l h)
+pub short-line : (direct : Bool) (ns : List (List ℕ)) (l : List ℕ) (room : ℕ) → length l < 3 → Measure′.NotWellFormed ≡ measured direct ns l room
+short-line direct ns l room h = not-whole direct ns l room (short-go direct ns l h)
 
-pub wrong-length : (ns : List (List ℕ)) (l : List ℕ) (room : ℕ) → (getD l 2 0 ≡ length l → ⊥) → Measure′.NotWellFormed ≡ measured ns l room
-wrong-length ns l room n = not-whole ns l room (λ w. n (w .sized))
+pub wrong-length : (direct : Bool) (ns : List (List ℕ)) (l : List ℕ) (room : ℕ) → (getD l 2 0 ≡ length l → ⊥) → Measure′.NotWellFormed ≡ measured direct ns l room
+wrong-length direct ns l room n = not-whole direct ns l room (λ w. n (w .sized))
 
-high-go : (l : List ℕ) → 127 < getD l 1 0 → T (lawful-number? (line-number l)) → ⊥
-unfolding lawful-number? line-number
-high-go l h t = omega (arith, leb→le (getD l 0 0 + 256 * getD l 1 0) 32767 t)
+pub wrong-number : (direct : Bool) (ns : List (List ℕ)) (l : List ℕ) (room : ℕ) (b : Bool) → b ≡ lawful-for direct (line-number l) → not b ≡ true → Measure′.NotWellFormed ≡ measured direct ns l room
+wrong-number direct ns l room true e f = let z : _≡_ {A = ℕ} 0 1 = cc in absurd (omega arith)
+wrong-number direct ns l room false e f = not-whole direct ns l room (λ w. subst T (sym e) (w .lawful))
 
-pub high-number : (ns : List (List ℕ)) (l : List ℕ) (room : ℕ) → 127 < getD l 1 0 → Measure′.NotWellFormed ≡ measured ns l room
-high-number ns l room h = not-whole ns l room (λ w. high-go l h (w .lawful))
-
-pub right-head : (l : List ℕ) → 3 ≤ length l → getD l 2 0 ≡ length l → getD l 1 0 ≤ 127 → getD l 0 0 < 256 → Head l
-unfolding lawful-number? line-number
-right-head l a b c d = record { long = a; sized = b; lawful = le→leb (getD l 0 0 + 256 * getD l 1 0) 32767 (omega arith) }
+pub right-head : (direct : Bool) (l : List ℕ) → 3 ≤ length l → getD l 2 0 ≡ length l → (t : Bool) → t ≡ lawful-for direct (line-number l) → not t ≡ false → Head (lawful-for direct) l
+right-head direct l a b true e f = record { long = a; sized = b; lawful = as-T _ (sym e) }
+right-head direct l a b false e f = let z : _≡_ {A = ℕ} 0 1 = cc in absurd (omega arith)
 
 -- ---- the second pass
 
@@ -232,17 +230,17 @@ pub record Writing (ns : List (List ℕ)) (l old : List ℕ) (n₀ at end n : �
   pub bytes : out ≡ sets old n₀ text
   pub whole : text ++ body-text (tokens-at ns l at end) ≡ body-text (tokens-at ns l 3 3)
 
-pub formed-long : (ns : List (List ℕ)) (l : List ℕ) → well-formed? ns l ≡ true → 3 ≤ length l
-formed-long ns l e = go (leb 3 (length l)) refl
+pub formed-long : (direct : Bool) (ns : List (List ℕ)) (l : List ℕ) → formed? (lawful-for direct) ns l ≡ true → 3 ≤ length l
+formed-long direct ns l e = go (leb 3 (length l)) refl
   where
     go : (b : Bool) → leb 3 (length l) ≡ b → 3 ≤ length l
     go true h = leb-true 3 (length l) h
-    go false h = absurd (short-go ns l (leb-false 3 (length l) h) (passes-whole ns l (as-T (well-formed? ns l) e)))
+    go false h = absurd (short-go direct ns l (leb-false 3 (length l) h) (passes-whole ns l (as-T (formed? (lawful-for direct) ns l) e)))
 
-pub writing-first : (ns : List (List ℕ)) (l old : List ℕ) (n : ℕ) → well-formed? ns l ≡ true → Writing ns l old n 3 3 n old
-writing-first ns l old n e = record {
-  within = formed-long ns l e;
-  written = passes-whole ns l (as-T (well-formed? ns l) e) .body .written;
+pub writing-first : (direct : Bool) (ns : List (List ℕ)) (l old : List ℕ) (n : ℕ) → formed? (lawful-for direct) ns l ≡ true → Writing ns l old n 3 3 n old
+writing-first direct ns l old n e = record {
+  within = formed-long direct ns l e;
+  written = passes-whole ns l (as-T (formed? (lawful-for direct) ns l) e) .body .written;
   text = [];
   place = omega arith;
   bytes = refl;
@@ -286,23 +284,23 @@ module _ {ns : List (List ℕ)} {l old : List ℕ} {n₀ at end n : ℕ} {out : 
       let z : body-text (tokens-at ns l at end) ≡ [] = ap (λ (u : List ℕ). body-text (tokens-from ns 0 at end u)) (drop-of-length-le l h) in
       m .bytes ∙ ap (sets old n₀) (sym (append-nil (m .text)) ∙ ap (λ (u : List ℕ). m .text ++ u) (sym z) ∙ m .whole)
 
-  pub writing-done : {first : List ℕ} → Writes (decimal 5 (line-number l) ++ blank ∷ []) 0 first n₀ old → length l ≤ at → out ≡ sets first 0 (listing ns l)
-  writing-done {first} w h =
-      let z : n₀ ≡ 0 + length (decimal 5 (line-number l) ++ blank ∷ []) = omega (arith, w .size) in
+  pub writing-done : (direct : Bool) {first : List ℕ} → Writes (head-for direct (line-number l)) 0 first n₀ old → length l ≤ at → out ≡ sets first 0 (listing-for direct ns l)
+  writing-done direct {first} w h =
+      let z : n₀ ≡ 0 + length (head-for direct (line-number l)) = omega (arith, w .size) in
       writing-body h ∙ ap₂ (λ (o : List ℕ) (i : ℕ). sets o i (body-text (tokens-at ns l 3 3))) (w .bytes) z
-      ∙ sym (sets-append first 0 (decimal 5 (line-number l) ++ blank ∷ []) (body-text (tokens-at ns l 3 3))) ∙ ap (sets first 0) (head-listing ns l)
+      ∙ sym (sets-append first 0 (head-for direct (line-number l)) (body-text (tokens-at ns l 3 3))) ∙ ap (sets first 0) (head-listing direct ns l)
 
 -- the text of all pieces fits after the head where the listing fits
-pub body-fits : (ns : List (List ℕ)) (l : List ℕ) {first old : List ℕ} {n : ℕ} → Writes (decimal 5 (line-number l) ++ blank ∷ []) 0 first n old → length old ≡ length first → length (listing ns l) ≤ length first
+pub body-fits : (direct : Bool) (ns : List (List ℕ)) (l : List ℕ) {first old : List ℕ} {n : ℕ} → Writes (head-for direct (line-number l)) 0 first n old → length old ≡ length first → length (listing-for direct ns l) ≤ length first
     → n + length (body-text (tokens-at ns l 3 3)) ≤ length old
-body-fits ns l w e h = omega (arith, w .size, ap length (head-listing ns l), length-append (decimal 5 (line-number l) ++ blank ∷ []) (body-text (tokens-at ns l 3 3)))
+body-fits direct ns l w e h = omega (arith, w .size, ap length (head-listing direct ns l), length-append (head-for direct (line-number l)) (body-text (tokens-at ns l 3 3)))
 
 -- ---- the answer
 
 -- what the first pass says of the line and of the length of its listing
-pub record Says (ns : List (List ℕ)) (l : List ℕ) (room n : ℕ) : Type 0 where
-  pub formed : well-formed? ns l ≡ true
-  pub count : n ≡ capped room (length (listing ns l))
+pub record Says (direct : Bool) (ns : List (List ℕ)) (l : List ℕ) (room n : ℕ) : Type 0 where
+  pub formed : formed? (lawful-for direct) ns l ≡ true
+  pub count : n ≡ capped room (length (listing-for direct ns l))
 
 found-length : (b : Bool) (k n : ℕ) → found b k ≡ Measure′.Length n → (b ≡ true) × (n ≡ k)
 unfolding found
@@ -314,32 +312,32 @@ unfolding found
 found-none true k e = let z : _≡_ {A = ℕ} 0 1 = cc in absurd (omega arith)
 found-none false k e = refl
 
-pub says-length : {ns : List (List ℕ)} {l : List ℕ} {room n : ℕ} {r : Measure} → r ≡ measured ns l room → r ≡ Measure′.Length n → Says ns l room n
+pub says-length : {direct : Bool} {ns : List (List ℕ)} {l : List ℕ} {room n : ℕ} {r : Measure} → r ≡ measured direct ns l room → r ≡ Measure′.Length n → Says direct ns l room n
 unfolding measured
-says-length {ns} {l} {room} {n} e f =
-    let w = found-length (well-formed? ns l) (capped room (length (listing ns l))) n (sym e ∙ f) in
+says-length {direct} {ns} {l} {room} {n} e f =
+    let w = found-length (formed? (lawful-for direct) ns l) (capped room (length (listing-for direct ns l))) n (sym e ∙ f) in
     record { formed = w .0; count = w .1 }
 
 -- a line that is found not to be well-formed
-pub says-none : (ns : List (List ℕ)) (l : List ℕ) (room : ℕ) {r : Measure} → r ≡ measured ns l room → r ≡ Measure′.NotWellFormed → well-formed? ns l ≡ false
+pub says-none : (direct : Bool) (ns : List (List ℕ)) (l : List ℕ) (room : ℕ) {r : Measure} → r ≡ measured direct ns l room → r ≡ Measure′.NotWellFormed → formed? (lawful-for direct) ns l ≡ false
 unfolding measured
-says-none ns l room e f = found-none (well-formed? ns l) (capped room (length (listing ns l))) (sym e ∙ f)
+says-none direct ns l room e f = found-none (formed? (lawful-for direct) ns l) (capped room (length (listing-for direct ns l))) (sym e ∙ f)
 
 -- not well-formed
-pub lists-not : (ns : List (List ℕ)) (l out : List ℕ) (room : ℕ) {r : Measure} → r ≡ measured ns l room → r ≡ Measure′.NotWellFormed → answer Outcome′.NotWellFormed out ≡ lists ns l out
-unfolding measured answer lists not-listed
-lists-not ns l out room e f = rw (says-none ns l room e f)
+pub lists-not : (direct : Bool) (ns : List (List ℕ)) (l out : List ℕ) (room : ℕ) {r : Measure} → r ≡ measured direct ns l room → r ≡ Measure′.NotWellFormed → answer Outcome′.NotWellFormed out ≡ lists direct ns l out
+unfolding measured answer listed-if not-listed
+lists-not direct ns l out room e f = rw (says-none direct ns l room e f)
 
 -- longer than the buffer
-pub lists-long : (ns : List (List ℕ)) (l out : List ℕ) (n : ℕ) → Says ns l (length out) n → length out < n → answer Outcome′.TooLong out ≡ lists ns l out
-unfolding answer lists not-listed
-lists-long ns l out n s h =
-    let k : length out < length (listing ns l) = ⊎-elim (λ w. omega (arith, s .count, w .0)) (λ w. w .1) (capped-go (length out) (length (listing ns l)) (leb (length (listing ns l)) (length out)) refl) in
-    rw (s .formed, lt-ltb (length out) (length (listing ns l)) k)
+pub lists-long : (direct : Bool) (ns : List (List ℕ)) (l out : List ℕ) (n : ℕ) → Says direct ns l (length out) n → length out < n → answer Outcome′.TooLong out ≡ lists direct ns l out
+unfolding answer listed-if not-listed
+lists-long direct ns l out n s h =
+    let k : length out < length (listing-for direct ns l) = ⊎-elim (λ w. omega (arith, s .count, w .0)) (λ w. w .1) (capped-go (length out) (length (listing-for direct ns l)) (leb (length (listing-for direct ns l)) (length out)) refl) in
+    rw (s .formed, lt-ltb (length out) (length (listing-for direct ns l)) k)
 
 -- as long as it is
-pub lists-fits : (ns : List (List ℕ)) (l : List ℕ) (room n : ℕ) → Says ns l room n → n ≤ room → (n ≡ length (listing ns l)) × (length (listing ns l) ≤ room)
-lists-fits ns l room n s h = ⊎-elim (λ w. (s .count ∙ w .0, w .1)) (λ w. absurd (omega (arith, s .count, w .0))) (capped-go room (length (listing ns l)) (leb (length (listing ns l)) room) refl)
+pub lists-fits : (direct : Bool) (ns : List (List ℕ)) (l : List ℕ) (room n : ℕ) → Says direct ns l room n → n ≤ room → (n ≡ length (listing-for direct ns l)) × (length (listing-for direct ns l) ≤ room)
+lists-fits direct ns l room n s h = ⊎-elim (λ w. (s .count ∙ w .0, w .1)) (λ w. absurd (omega (arith, s .count, w .0))) (capped-go room (length (listing-for direct ns l)) (leb (length (listing-for direct ns l)) room) refl)
 
 overwrites : (text old : List ℕ) → length text ≤ length old → sets old 0 text ≡ overwritten text old
 unfolding overwritten
@@ -348,9 +346,9 @@ overwrites text old h =
     sets-eq text old 0 (omega arith) ∙ ap (λ (i : ℕ). text ++ drop i old) z
 
 -- written
-pub lists-written : (ns : List (List ℕ)) (l out new : List ℕ) (n : ℕ) → Says ns l (length out) n → n ≤ length out → new ≡ sets out 0 (listing ns l) → answer (Outcome′.Written n) new ≡ lists ns l out
-unfolding answer lists
-lists-written ns l out new n s h e =
-    let f = lists-fits ns l (length out) n s h in
-    rw (s .formed, le-ltb (length out) (length (listing ns l)) (f .1))
-    (ap₂ (λ (k : ℕ) (o : List ℕ). record { number = 0; written = k; output = o }) (f .0) (e ∙ overwrites (listing ns l) out (f .1)))
+pub lists-written : (direct : Bool) (ns : List (List ℕ)) (l out new : List ℕ) (n : ℕ) → Says direct ns l (length out) n → n ≤ length out → new ≡ sets out 0 (listing-for direct ns l) → answer (Outcome′.Written n) new ≡ lists direct ns l out
+unfolding answer listed-if
+lists-written direct ns l out new n s h e =
+    let f = lists-fits direct ns l (length out) n s h in
+    rw (s .formed, le-ltb (length out) (length (listing-for direct ns l)) (f .1))
+    (ap₂ (λ (k : ℕ) (o : List ℕ). record { number = 0; written = k; output = o }) (f .0) (e ∙ overwrites (listing-for direct ns l) out (f .1)))

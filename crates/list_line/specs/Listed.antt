@@ -1,18 +1,30 @@
--- What comes of listing a line, with document 01's numbers.
+-- What comes of listing a line, with document 01's numbers: a stored line, or a direct one (document 02, §1).
 use Prim.Native.Nat.{ℕ, suc}
-use mathlib.Core.Bool.{Bool, true, false, not}
-use mathlib.Core.List.{List}
-use lib.Dec.{leb, ltb}
+use mathlib.Core.Bool.{Bool, true, false}
+use mathlib.Core.List.{List, [], _∷_, _++_}
+use lib.Dec.{leb}
 use lib.ListN.{length}
-use Rattle.paper.specs.Bytes.{pick}
-use Rattle.paper.specs.WellFormed.{well-formed?}
-use Rattle.paper.specs.Listing.{listing}
-use Rattle.paper.specs.Store.{overwritten}
-use Rattle.paper.specs.Calls.{Listed, not-listed}
+use Rattle.paper.specs.Bytes.{blank, pick}
+use Rattle.paper.specs.Line.{lawful-number?, direct-number?}
+use Rattle.paper.specs.WellFormed.{formed?}
+use Rattle.paper.specs.Listing.{decimal, listing, direct-listing}
+use Rattle.paper.specs.Calls.{Listed, listed-if}
 use Rattle.list_line.specs.declared.Outcome.{Outcome}
 use Rattle.list_line.specs.declared.Outcome.the-variants as Outcome′
 use Rattle.list_line.specs.declared.first.Measure.{Measure}
 use Rattle.list_line.specs.declared.first.Measure.the-variants as Measure′
+
+-- a number that a line may have, direct or stored
+abbrev pub lawful-for : Bool → ℕ → Bool
+lawful-for direct = pick direct direct-number? lawful-number?
+
+-- the listing of a line, direct or stored
+abbrev pub listing-for : Bool → List (List ℕ) → List ℕ → List ℕ
+listing-for direct ns l = pick direct (direct-listing ns l) (listing ns l)
+
+-- what stands in it before the first statement: nothing, or the number and a blank
+abbrev pub head-for : Bool → ℕ → List ℕ
+head-for direct n = pick direct [] (decimal 5 n ++ blank ∷ [])
 
 -- a length, or the first that is longer than the room
 unfoldable pub capped : ℕ → ℕ → ℕ
@@ -24,8 +36,8 @@ found true n = Measure′.Length n
 found false n = Measure′.NotWellFormed
 
 -- what the first pass finds of the line l over the names ns
-unfoldable pub measured : List (List ℕ) → List ℕ → ℕ → Measure
-measured ns l room = found (well-formed? ns l) (capped room (length (listing ns l)))
+unfoldable pub measured : Bool → List (List ℕ) → List ℕ → ℕ → Measure
+measured direct ns l room = found (formed? (lawful-for direct) ns l) (capped room (length (listing-for direct ns l)))
 
 -- the number of an outcome, the bytes written, and the buffer afterwards: 10 not well-formed; 11 longer than the buffer; 0 written
 unfoldable pub answer : Outcome → List ℕ → Listed
@@ -34,8 +46,5 @@ answer Outcome′.TooLong out = record { number = 11; written = 0; output = out 
 answer (Outcome′.Written n) out = record { number = 0; written = n; output = out }
 
 -- the listing of the line l over the names ns into a buffer
-unfoldable pub lists : List (List ℕ) → List ℕ → List ℕ → Listed
-lists ns l out =
-    let text = listing ns l in
-    let listed : Listed = record { number = 0; written = length text; output = overwritten text out } in
-    pick (not (well-formed? ns l)) (not-listed 10 out) (pick (ltb (length out) (length text)) (not-listed 11 out) listed)
+abbrev pub lists : Bool → List (List ℕ) → List ℕ → List ℕ → Listed
+lists direct ns l out = listed-if (formed? (lawful-for direct) ns l) (listing-for direct ns l) out

@@ -1,11 +1,12 @@
 // The first pass over a line: whether it is well-formed, and how long its listing is.
+use crate::head;
 use list_check::Fit;
 ghost use mathlib.Core.Path.{_≡_};
 ghost use Prim.Native.Nat.{_≤_, _<_, _+_, _^_};
 ghost use lib.ListN.{length, take, getD};
 ghost use Rattle.paper.specs.Names.{names-in};
 ghost use Rattle.list_pieces.specs.Rest.{Sound, Head};
-ghost use Rattle.list_line.specs.Listed.{capped, measured};
+ghost use Rattle.list_line.specs.Listed.{lawful-for, capped, measured};
 
 // What the first pass finds: the line is not well-formed; or the length of its listing, or the first that is longer than the room.
 pub enum Measure {
@@ -34,19 +35,20 @@ fn longer(total: usize, more: usize, room: usize) -> usize
 // The first pass over a line whose head is right. The stack of frames begins with the frame of a statement; what `none` holds does not matter.
 fn measure_body(
     line: &[u8],
+    direct: bool,
     names: &[u8],
     size: usize,
     room: usize,
     frames: &mut [u8],
     none: &mut [u8],
 ) -> Measure
-    requires { ⌜ Head (now line) × Sound (now names) size × (room < 2 ^ 63) × (2056 ≤ length (now frames)) × (getD (now frames) 0 0 ≡ 0) ⌝ }
-    ensures { λ r. ⌜ r ≡ measured (names-in (take size (now (names .entry)))) (now (line .entry)) room ⌝ }
+    requires { ⌜ Head (lawful-for direct) (now line) × Sound (now names) size × (room < 2 ^ 63) × (2056 ≤ length (now frames)) × (getD (now frames) 0 0 ≡ 0) ⌝ }
+    ensures { λ r. ⌜ r ≡ measured direct (names-in (take size (now (names .entry)))) (now (line .entry)) room ⌝ }
 {
     let mut at: usize = 3;
     let mut end: usize = 3;
     let mut depth: usize = 1;
-    let mut total = longer(0, list_text::write_head(line, none), room);
+    let mut total = longer(0, head::write_head(line, direct, none), room);
     while at < line.len() {
         let piece = list_pieces::piece_at(line, at, end);
         match list_check::check_piece(line, at, piece, names, size, frames, depth) {
@@ -69,10 +71,10 @@ fn measure_body(
     Measure::Length(total)
 }
 
-// Whether a line is well-formed over a sound name table, and how long its listing is, up to a room.
-pub fn measure_line(line: &[u8], names: &[u8], size: usize, room: usize) -> Measure
+// Whether a line, stored or direct, is well-formed over a sound name table, and how long its listing is, up to a room.
+pub fn measure_line(line: &[u8], direct: bool, names: &[u8], size: usize, room: usize) -> Measure
     requires { ⌜ Sound (now names) size × (room < 2 ^ 63) ⌝ }
-    ensures { λ r. ⌜ r ≡ measured (names-in (take size (now (names .entry)))) (now (line .entry)) room ⌝ }
+    ensures { λ r. ⌜ r ≡ measured direct (names-in (take size (now (names .entry)))) (now (line .entry)) room ⌝ }
 {
     if line.len() < 3 {
         return Measure::NotWellFormed;
@@ -80,10 +82,10 @@ pub fn measure_line(line: &[u8], names: &[u8], size: usize, room: usize) -> Meas
     if line[2] as usize != line.len() {
         return Measure::NotWellFormed;
     }
-    if 127 < line[1] {
+    if !head::is_lawful(line, direct) {
         return Measure::NotWellFormed;
     }
     let mut frames = [0u8; DEEPEST];
     let mut none = [0u8; 0];
-    measure_body(line, names, size, room, &mut frames, &mut none)
+    measure_body(line, direct, names, size, room, &mut frames, &mut none)
 }

@@ -1,5 +1,6 @@
 // From token line to text: whether a line is well-formed, and its listing.
 mod first;
+mod head;
 mod second;
 
 use first::Measure;
@@ -17,30 +18,31 @@ pub enum Outcome {
     Written(usize),
 }
 
-// Whether a line, of any bytes, is well-formed over a sound name table of `size` bytes: what is tested before a listing is written.
+// Whether a stored line, of any bytes, is well-formed over a sound name table of `size` bytes: what is tested before a listing is written.
 pub fn well_formed(line: &[u8], names: &[u8], size: usize) -> bool
     requires { ⌜ Sound (now names) size ⌝ }
     ensures { λ r. ⌜ r ≡ well-formed? (names-in (take size (now (names .entry)))) (now (line .entry)) ⌝ }
 {
-    match first::measure_line(line, names, size, 0) {
+    match first::measure_line(line, false, names, size, 0) {
         Measure::NotWellFormed => false,
         Measure::Length(_) => true,
     }
 }
 
-// Lists a line, of any bytes, over a sound name table of `size` bytes: the listing is written to the front of a buffer, or nothing is.
-pub fn list(line: &[u8], names: &[u8], size: usize, out: &mut [u8]) -> Outcome
+// Lists a line, of any bytes, stored or direct, over a sound name table of `size` bytes: the listing is written to the front of a buffer, or
+// nothing is.
+pub fn list(line: &[u8], direct: bool, names: &[u8], size: usize, out: &mut [u8]) -> Outcome
     requires { ⌜ Sound (now names) size ⌝ }
-    ensures { λ r. ⌜ answer r (now (out .exit)) ≡ lists (names-in (take size (now (names .entry)))) (now (line .entry)) (now (out .entry)) ⌝ }
+    ensures { λ r. ⌜ answer r (now (out .exit)) ≡ lists direct (names-in (take size (now (names .entry)))) (now (line .entry)) (now (out .entry)) ⌝ }
 {
     let room = out.len();
-    match first::measure_line(line, names, size, room) {
+    match first::measure_line(line, direct, names, size, room) {
         Measure::NotWellFormed => Outcome::NotWellFormed,
         Measure::Length(n) => {
             if room < n {
                 return Outcome::TooLong;
             }
-            second::write_line(line, names, size, out);
+            second::write_line(line, direct, names, size, out);
             Outcome::Written(n)
         }
     }

@@ -10,10 +10,15 @@ use lib.ListN.{length, take, getD, List·getD-eq-default}
 use Rattle.paper.specs.Bytes.{pick, letter?, same, every, joined}
 use Rattle.paper.specs.Names.{names-in, name-bytes, name?, less-open, all-different, most-names, sound-names, sound-table}
 use Rattle.laws.specs.Tests.{and-left, and-right, is-true}
-use Rattle.laws.specs.Names.{number-at}
+use Rattle.laws.specs.Names.{number-at, sound-facts}
 use Rattle.names_numbered.specs.declared.Name.{Name}
 use Rattle.names_numbered.specs.Answers.{Stands}
 use Rattle.list_pieces.specs.Rest.{Numbered, Sound}
+
+-- a table that is sound with a count is sound with the count of its names
+pub sound-own : (names : List ℕ) (size count : ℕ) → T (sound-table names size count) → Sound names size
+sound-own names size count t =
+    subst (λ (k : ℕ). T (sound-table names size k)) (sym (sound-facts names size count (is-true (sound-table names size count) t) .counted)) t
 
 sound-parts : (names : List ℕ) (size : ℕ) → Sound names size → T (sound-names (names-in (take size names)))
 unfolding sound-table

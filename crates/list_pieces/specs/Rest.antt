@@ -2,6 +2,7 @@
 -- there, and the statement ends where its offset says.
 use Prim.Native.Nat.{ℕ, _+_, _≤_, _<_}
 use mathlib.Core.Path.{_≡_}
+use mathlib.Core.Bool.{Bool}
 use mathlib.Core.List.{List, [], _∷_}
 use lib.Dec.{T}
 use lib.ListN.{length, take, drop, getD}
@@ -10,7 +11,7 @@ use Rattle.paper.specs.Tokens.{Token, class, as-read}
 use Rattle.paper.specs.Names.{names-in, number-of, sound-table}
 use Rattle.paper.specs.Machine.{Step, took, over, refused, step}
 use Rattle.paper.specs.Grammar.{Gives, given, look, start}
-use Rattle.paper.specs.Line.{line-number, lawful-number?, to-next, token-bytes, tokens-from}
+use Rattle.paper.specs.Line.{line-number, to-next, token-bytes, tokens-from}
 use Rattle.paper.specs.WellFormed.{right-token?}
 
 -- a step that takes a token gives that token again, and what is wanted then takes the rest
@@ -36,17 +37,17 @@ pub record Rest (ns : List (List ℕ)) (fs : List ℕ) (p end : ℕ) (s : List �
   pub taken : Takes fs (tokens-from ns 0 p end s)
   pub written : Written ns p end s (tokens-from ns 0 p end s)
 
--- a well-formed line: a lawful number, its own length, and the rest of a well-formed line from its first statement on
-pub record Whole (ns : List (List ℕ)) (l : List ℕ) : Type 0 where
-  pub lawful : T (lawful-number? (line-number l))
+-- a formed line: a number that passes a test, its own length, and the rest of a well-formed line from its first statement on
+pub record Whole (lawful? : ℕ → Bool) (ns : List (List ℕ)) (l : List ℕ) : Type 0 where
+  pub lawful : T (lawful? (line-number l))
   pub sized : getD l 2 0 ≡ length l
   pub body : Rest ns start 3 3 (drop 3 l)
 
--- the head of a line: its own length, and a lawful number
-pub record Head (l : List ℕ) : Type 0 where
+-- the head of a line: its own length, and a number that passes a test
+pub record Head (lawful? : ℕ → Bool) (l : List ℕ) : Type 0 where
   pub long : 3 ≤ length l
   pub sized : getD l 2 0 ≡ length l
-  pub lawful : T (lawful-number? (line-number l))
+  pub lawful : T (lawful? (line-number l))
 
 -- each name of the table is found at its own number
 abbrev pub Numbered : List (List ℕ) → Type 0

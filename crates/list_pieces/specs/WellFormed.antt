@@ -1,4 +1,4 @@
--- The test of well-formed lines, as what is left of a line at its first statement.
+-- The test of formed lines, as what is left of a line at its first statement.
 use Prim.Native.Nat.{ℕ, zero, suc, _+_, _*_, _/_, _%_, _≤_, _<_}
 use native.Mathlib.Omega.{arith}
 use mathlib.Core.Path.{_≡_, refl, subst, sym, ap, ap₂, _∙_}
@@ -11,8 +11,8 @@ use Rattle.paper.specs.Tokens.{Token, statement, assigned, operator, variable, 
 use Rattle.paper.specs.Items.{Item, item}
 use Rattle.paper.specs.Machine.{Step, took, over, refused, step-act, step, Taken, Run, left, done, bad, and-taken, go-on, read}
 use Rattle.paper.specs.Grammar.{Gives, given, look, look-item, start}
-use Rattle.paper.specs.Line.{begins?, raw-statement?, to-next, token-bytes, line-bytes, line-number, lawful-number?, tokens-from, line-tokens}
-use Rattle.paper.specs.WellFormed.{tokens-of, right-token?, items-of, gives-back?, well-formed?}
+use Rattle.paper.specs.Line.{begins?, raw-statement?, to-next, token-bytes, line-bytes, line-number, tokens-from, line-tokens}
+use Rattle.paper.specs.WellFormed.{tokens-of, right-token?, items-of, gives-back?, formed?}
 use Rattle.laws.specs.Names.{same-self, same-eq}
 use Rattle.laws.specs.Given.{given-operator, operator-given}
 use Rattle.laws.specs.Tests.{and-left, and-right, and-both, is-true, as-T}
@@ -231,7 +231,7 @@ unfolding Takes start tokens-from
 nothing-taken ns t = t
 
 -- a whole line's bytes are those of its tokens
-bytes-back : (ns : List (List ℕ)) (l : List ℕ) → getD l 0 0 < 256 → Whole ns l → line-bytes ns (line-number l) (tokens-from ns 0 3 3 (drop 3 l)) ≡ l
+bytes-back : {lawful? : ℕ → Bool} (ns : List (List ℕ)) (l : List ℕ) → getD l 0 0 < 256 → Whole lawful? ns l → line-bytes ns (line-number l) (tokens-from ns 0 3 3 (drop 3 l)) ≡ l
 unfolding line-bytes line-number
 bytes-back ns [] h w = absurd (nothing-taken ns (w .body .taken))
 bytes-back ns (a ∷ []) h w = absurd (omega (arith, w .sized))
@@ -265,18 +265,18 @@ module _ (ns : List (List ℕ)) (l : List ℕ) where
   back-go (bad n tk r) e t = absurd t
 
   -- a line that passes the test is whole
-  pub passes-whole : T (well-formed? ns l) → Whole ns l
-  unfolding well-formed?
-  passes-whole t =
-      let r = back-go (read look-item start (items-of (line-tokens ns l))) refl (and-right (lawful-number? (line-number l)) _ t) in
-      record { lawful = and-left (lawful-number? (line-number l)) _ t; sized = r .0; body = r .1 }
+  pub passes-whole : {lawful? : ℕ → Bool} → T (formed? lawful? ns l) → Whole lawful? ns l
+  unfolding formed?
+  passes-whole {lawful?} t =
+      let r = back-go (read look-item start (items-of (line-tokens ns l))) refl (and-right (lawful? (line-number l)) _ t) in
+      record { lawful = and-left (lawful? (line-number l)) _ t; sized = r .0; body = r .1 }
 
   -- and a whole line passes it
-  pub whole-passes : getD l 0 0 < 256 → Whole ns l → T (well-formed? ns l)
-  unfolding well-formed? gives-back? line-tokens
-  whole-passes h w =
+  pub whole-passes : {lawful? : ℕ → Bool} → getD l 0 0 < 256 → Whole lawful? ns l → T (formed? lawful? ns l)
+  unfolding formed? gives-back? line-tokens
+  whole-passes {lawful?} h w =
       let r = runs (tokens-from ns 0 3 3 (drop 3 l)) start (w .body .taken) in
-      and-both (lawful-number? (line-number l)) _ (w .lawful)
+      and-both (lawful? (line-number l)) _ (w .lawful)
       (subst (λ (z : Run Gives Item). T (gives-back? ns l z)) (sym (r .reads))
       (and-both (same (line-bytes ns (line-number l) (tokens-of (r .taken))) l) _
       (subst (λ (ts : List Token). T (same (line-bytes ns (line-number l) ts) l)) (sym (r .gives)) (subst (λ (z : List ℕ). T (same z l)) (sym (bytes-back ns l h w)) (as-T _ (same-self l))))
