@@ -3,9 +3,12 @@ use Prim.Native.Nat.{ℕ}
 use mathlib.Core.Path.{_≡_, sym, ap, _∙_, subst}
 use mathlib.Core.List.{List}
 use lib.ListN.{take}
+use borrow.Author.Tests.{eq-eqb, ne-eqb}
 use Rattle.paper.specs.Items.{span}
-use Rattle.paper.specs.Calls.{State, lines-of, refusal, delete}
-use Rattle.paper.specs.Calls.{Entered as Outcome}
+use Rattle.paper.specs.Names.{names-in}
+use Rattle.paper.specs.Line.{direct-number, direct-number?}
+use Rattle.paper.specs.Calls.{State, names-of, lines-of, refusal, delete}
+use Rattle.paper.specs.Direct.{Typed, line-kept}
 use Rattle.store.specs.declared.Place.{Place}
 use Rattle.store.specs.Answers.{place-of}
 use Rattle.store.specs.Places.{own-place}
@@ -14,45 +17,61 @@ use Rattle.enter_line.specs.declared.Reading.{Reading}
 use Rattle.enter_line.specs.declared.Reading.the-variants.{Read, Delete, Refused}
 use Rattle.editor_edit.specs.declared.Editor.{Editor}
 use Rattle.editor_edit.specs.declared.Entered.{Entered}
-use Rattle.editor_edit.specs.States.{state, entered, refusing, Lies}
-use Rattle.editor_edit.specs.Lines.{Readable, Accepts}
-use Rattle.editor.specs.Readings.{asked-number, Ready, Edits}
+use Rattle.editor_edit.specs.States.{state, entered, typed-outcome, refusing, Lies}
+use Rattle.editor_edit.specs.Lines.{Readable, Accepts, AcceptsDirect}
+use Rattle.editor.specs.Readings.{asked-number, Ready, accept-read, Edits}
 
--- a refusal
-pub edits-refused : (names values store : List ℕ) (e : Editor) (line fresh : List ℕ) (r : Reading) (k a b : ℕ) (x : Entered) → r ≡ Refused k a b → x ≡ refusing k (span a b) e → Edits (state names values store e) line fresh r (entered x names values store)
-unfolding Edits refusal
-edits-refused names values store e line fresh r k a b x f h = subst (λ (z : Reading). Edits (state names values store e) line fresh z (entered x names values store)) (sym f) (rw h)
+-- the place is that of its own number
+pub own-lies : (s : State) (p : Place) (r : Reading) → Lies p (asked-number r) s → Lies p (p .number) s
+own-lies s p r lies = own-place (asked-number r) (lines-of s) p lies
 
-module _ (s : State) (p : Place) (r : Reading) (lies : Lies p (asked-number r) s) where
-  -- the place is that of its own number
-  pub own-lies : Lies p (p .number) s
-  own-lies = own-place (asked-number r) (lines-of s) p lies
+module _ (names values store : List ℕ) (e : Editor) (buffer line fresh : List ℕ) (r : Reading) where
+  abbrev s : State
+  s = state names values store e
 
-  -- which is the one that is asked for
-  number-asked : p .number ≡ asked-number r
-  unfolding place-of
-  number-asked = ap (λ (q : Place). q .number) lies
+  -- a refusal
+  pub edits-refused : (k a b : ℕ) (x : Entered) → r ≡ Refused k a b → x ≡ refusing k (span a b) e → Edits s buffer line fresh r (typed-outcome x names values store buffer)
+  unfolding Edits refusal line-kept
+  edits-refused k a b x f h = subst (λ (z : Reading). Edits s buffer line fresh z (typed-outcome x names values store buffer)) (sym f) (rw h)
 
-  module _ (line fresh : List ℕ) where
+  -- a line without a number
+  module _ (l : Line) (f : r ≡ Read l) (part : List ℕ) (is : part ≡ take (l .named) fresh) where
+    module _ (d : l .number ≡ direct-number) where
+      pub readable-direct : Ready (names-in (take (e .«name_bytes») names)) line fresh r → Readable (names-in (take (e .«name_bytes») names)) direct-number line (l .size) part
+      readable-direct ready = rw (← d, is) (ready l f)
+
+      pub edits-direct : (x : Entered) (names′ values′ buffer′ : List ℕ) → AcceptsDirect names values e buffer line (l .size) part x names′ values′ buffer′
+          → Edits s buffer line fresh r (typed-outcome x names′ values′ store buffer′)
+      unfolding Edits accept-read direct-number?
+      edits-direct x names′ values′ buffer′ a =
+          subst (λ (z : Reading). Edits s buffer line fresh z (typed-outcome x names′ values′ store buffer′)) (sym f)
+          (λ ts w. rw (eq-eqb (l .number) direct-number d) (a store ts (rw (← d, is) w)))
+
+  module _ (p : Place) (lies : Lies p (asked-number r) s) where
+    -- the place is that of the number that is asked for
+    number-asked : p .number ≡ asked-number r
+    unfolding place-of
+    number-asked = ap (λ (q : Place). q .number) lies
+
     -- a deletion
-    pub edits-delete : (n : ℕ) (o : Outcome) → r ≡ Delete n → o ≡ delete s (p .number) → Edits s line fresh r o
-    unfolding Edits asked-number
-    edits-delete n o f h =
+    pub edits-delete : (n : ℕ) (x : Entered) (store′ : List ℕ) → r ≡ Delete n → entered x names values store′ ≡ delete s (p .number) → Edits s buffer line fresh r (typed-outcome x names values store′ buffer)
+    unfolding Edits asked-number line-kept
+    edits-delete n x store′ f h =
         let m : p .number ≡ n = number-asked ∙ ap asked-number f in
-        subst (λ (z : Reading). Edits s line fresh z o) (sym f) (h ∙ ap (delete s) m)
+        subst (λ (z : Reading). Edits s buffer line fresh z (typed-outcome x names values store′ buffer)) (sym f) (ap (line-kept buffer) (h ∙ ap (delete s) m))
 
+    -- a line with a number
     module _ (l : Line) (f : r ≡ Read l) (part : List ℕ) (is : part ≡ take (l .named) fresh) where
       number-read : p .number ≡ l .number
       unfolding asked-number
       number-read = number-asked ∙ ap asked-number f
 
-      -- a line
-      pub readable : Ready s line fresh r → Readable s (p .number) line (l .size) part
+      pub readable : Ready (names-in (take (e .«name_bytes») names)) line fresh r → Readable (names-in (take (e .«name_bytes») names)) (p .number) line (l .size) part
       readable ready = rw (number-read, is) (ready l f)
 
-      pub edits-line : (o : Outcome) → Accepts s (p .number) line (l .size) part o → Edits s line fresh r o
-      unfolding Edits
-      edits-line o a =
-          subst (λ (z : Reading). Edits s line fresh z o) (sym f)
-          (subst (λ (n : ℕ). Accepts s n line (l .size) (take (l .named) fresh) o) number-read
-          (subst (λ (x : List ℕ). Accepts s (p .number) line (l .size) x o) is a))
+      pub edits-line : (x : Entered) (names′ values′ store′ : List ℕ) → (l .number ≡ direct-number → ⊥) → Accepts s (p .number) line (l .size) part (entered x names′ values′ store′)
+          → Edits s buffer line fresh r (typed-outcome x names′ values′ store′ buffer)
+      unfolding Edits accept-read direct-number? line-kept
+      edits-line x names′ values′ store′ d a =
+          subst (λ (z : Reading). Edits s buffer line fresh z (typed-outcome x names′ values′ store′ buffer)) (sym f)
+          (λ ts w. rw (ne-eqb (l .number) direct-number d, ← number-read) (ap (line-kept buffer) (a ts (rw (number-read, is) w))))

@@ -9,9 +9,9 @@ use lib.ListN.{length, take}
 use Rattle.paper.specs.Items.{no-span}
 use Rattle.paper.specs.Names.{names-in, sound-table}
 use Rattle.paper.specs.Store.{sound-store}
-use Rattle.paper.specs.Calls.{State, lines-of, sound-tables, agrees, sound-state, refusal, enter-sound, enter, not-listed, list-sound, list}
-use Rattle.paper.specs.Direct.{show-sound, show}
-use Rattle.paper.specs.Calls.{Entered as Outcome, Listed as Written-out}
+use Rattle.paper.specs.Calls.{State, lines-of, sound-tables, agrees, sound-state, refusal, enter, not-listed, list-sound, list}
+use Rattle.paper.specs.Calls.{Listed as Written-out}
+use Rattle.paper.specs.Direct.{line-kept, typed, show-sound, show}
 use Rattle.laws.specs.Tests.{and-left, as-T, is-true}
 use Rattle.laws.specs.Names.{sound-facts}
 use Rattle.store.specs.declared.Counts.{Counts}
@@ -22,7 +22,7 @@ use Rattle.store.specs.Answers.{sound-counts, place-of, found-answer}
 use Rattle.store.specs.Places.{found-sound, found-unsound}
 use Rattle.editor_edit.specs.declared.Editor.{Editor}
 use Rattle.editor_edit.specs.declared.Entered.{Entered}
-use Rattle.editor_edit.specs.States.{state, entered, refusing, Lies}
+use Rattle.editor_edit.specs.States.{state, typed-outcome, refusing, Lies}
 use Rattle.editor_edit.specs.Sound.{counts-kept, lines-kept}
 use Rattle.editor_list.specs.declared.Listed.{Listed}
 use Rattle.editor_list.specs.Answers.{unlisted, listed}
@@ -75,16 +75,11 @@ module _ (s : State) (b : Bool) (e : b ≡ sound-table (s .names) (s .name-size)
 
 -- ---- entering
 
--- over sound tables and store
-pub enter-so : (s : State) (text : List ℕ) (o : Outcome) → T (sound-state s) → o ≡ enter-sound text s → o ≡ enter text s
-unfolding enter
-enter-so s text o t h = h ∙ sym (rw (is-true (sound-state s) t))
-
 -- 1
-pub enter-refused : (names values store : List ℕ) (e : Editor) (text : List ℕ) (x : Entered) → false ≡ sound-state (state names values store e) → x ≡ refusing 1 no-span e
-    → entered x names values store ≡ enter text (state names values store e)
-unfolding enter refusal
-enter-refused names values store e text x t q = rw q (sym (rw (sym t)))
+pub typed-refused : (names values store buffer : List ℕ) (e : Editor) (text : List ℕ) (x : Entered) → false ≡ sound-state (state names values store e) → x ≡ refusing 1 no-span e
+    → typed-outcome x names values store buffer ≡ typed text (state names values store e) buffer
+unfolding typed line-kept enter refusal
+typed-refused names values store buffer e text x t q = rw q (sym (rw (sym t)))
 
 -- ---- listing
 

@@ -17,9 +17,9 @@ use readings::read;
 use store::Found;
 ghost use mathlib.Core.Path.{_≡_};
 ghost use lib.Dec.{T};
-ghost use Rattle.paper.specs.Calls.{sound-state, enter-sound, enter as enter-call, list as list-call};
-ghost use Rattle.paper.specs.Direct.{show as show-call};
-ghost use Rattle.editor_edit.specs.States.{state, entered};
+ghost use Rattle.paper.specs.Calls.{sound-state, enter-sound, list as list-call};
+ghost use Rattle.paper.specs.Direct.{typed, show as show-call};
+ghost use Rattle.editor_edit.specs.States.{state, entered, typed-outcome};
 ghost use Rattle.editor_list.specs.Answers.{listed};
 
 // Whether tables and store are sound, and the record agrees with the store.
@@ -33,7 +33,7 @@ pub fn sound(names: &[u8], values: &[u8], store: &[u8], e: Editor) -> bool
     }
 }
 
-// Enters a text over sound tables and a sound store, or refuses it with 2 to 9.
+// Enters a text over sound tables and a sound store, or refuses it with 2 to 9; one without a number with 3.
 pub fn enter_sound(
     text: &[u8],
     names: &mut [u8],
@@ -46,29 +46,52 @@ pub fn enter_sound(
 {
     let mut line = [0u8; LINE_ROOM];
     let mut fresh = [0u8; NAMES_ROOM];
-    let reading = read(text, names, e, &mut line, &mut fresh);
+    let mut buffer = [0u8; 0];
+    let reading = read(text, false, names, e, &mut line, &mut fresh);
     let place = store::find_sound(store, store_counts(e), asked(reading));
-    edit(reading, place, &line, &fresh, names, values, store, e)
+    edit(
+        reading,
+        place,
+        &line,
+        &fresh,
+        names,
+        values,
+        store,
+        &mut buffer,
+        e,
+    )
 }
 
-// Enters a text: a line is put in or takes the place of the one with its number, a number alone deletes. A refusal, 1 to 9, changes nothing. The
-// text is read first, so that one walk over the store tests it and finds the place.
+// Enters a text: a line is put in or takes the place of the one with its number, a number alone deletes, a line without a number is written to the
+// front of the line buffer and leaves the store. A refusal, 1 to 9, changes nothing. The text is read first, so that one walk over the store tests it
+// and finds the place.
 pub fn enter(
     text: &[u8],
     names: &mut [u8],
     values: &mut [u8],
     store: &mut [u8],
+    line: &mut [u8],
     e: Editor,
 ) -> Entered
-    ensures { λ r. ⌜ entered r (now (names .exit)) (now (values .exit)) (now (store .exit)) ≡ enter-call (now (text .entry)) (state (now (names .entry)) (now (values .entry)) (now (store .entry)) e) ⌝ }
+    ensures { λ r. ⌜ typed-outcome r (now (names .exit)) (now (values .exit)) (now (store .exit)) (now (line .exit)) ≡ typed (now (text .entry)) (state (now (names .entry)) (now (values .entry)) (now (store .entry)) e) (now (line .entry)) ⌝ }
 {
     if names_sound::sound(names, e.name_bytes, e.name_count, values.len()) {
-        let mut line = [0u8; LINE_ROOM];
+        let mut bytes = [0u8; LINE_ROOM];
         let mut fresh = [0u8; NAMES_ROOM];
-        let reading = read(text, names, e, &mut line, &mut fresh);
+        let reading = read(text, true, names, e, &mut bytes, &mut fresh);
         match store::find(store, store_counts(e), asked(reading)) {
             Found::Unsound => refused(1, e),
-            Found::At(place) => edit(reading, place, &line, &fresh, names, values, store, e),
+            Found::At(place) => edit(
+                reading,
+                place,
+                &bytes,
+                &fresh,
+                names,
+                values,
+                store,
+                line,
+                e,
+            ),
         }
     } else {
         refused(1, e)

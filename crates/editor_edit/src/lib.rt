@@ -1,15 +1,24 @@
-// The edits of a sound state: a line put in, with its new names, or taken out.
+// The edits of a sound state: a line put in or put into a line buffer, with its new names, or taken out.
+use buffers::copy;
 use buffers::front;
 use store::Counts;
 use store::Place;
 use store::Removed;
 use store::Stored;
 ghost use mathlib.Core.Path.{_≡_};
+ghost use mathlib.Core.List.{_++_};
+ghost use Prim.Native.Nat.{_*_, _≤_};
 ghost use lib.Dec.{T};
+ghost use lib.ListN.{length, take};
 ghost use Rattle.paper.specs.Items.{span, no-span};
+ghost use Rattle.paper.specs.Names.{names-in, name-bytes, value-entries};
+ghost use Rattle.paper.specs.Line.{direct-number};
+ghost use Rattle.paper.specs.Store.{overwritten};
 ghost use Rattle.paper.specs.Calls.{sound-state, delete};
-ghost use Rattle.editor_edit.specs.States.{state, empty-record, counts-in, entered, refusing, Lies};
-ghost use Rattle.editor_edit.specs.Lines.{Readable, Accepts};
+ghost use Rattle.laws.specs.Names.{Sound};
+ghost use Rattle.names_numbered.specs.Answers.{lacks, Room};
+ghost use Rattle.editor_edit.specs.States.{state, empty-record, counts-in, entered, refusing, accepting, short-of, Lies};
+ghost use Rattle.editor_edit.specs.Lines.{Readable, Accepts, AcceptsDirect};
 
 // The editor's record: the bytes of the store that are used, how many lines they are and the greatest number of these, 0 if there is none, how many
 // names there are, and how many bytes they have.
@@ -100,6 +109,55 @@ pub fn take_out(place: Place, names: &[u8], values: &[u8], store: &mut [u8], e: 
     }
 }
 
+// The number of the refusal that a line of `size` bytes gets wherever it is to stand: 6 if the names that are new in it lack room, 7 if it is too
+// long; 0 if it gets none.
+fn shortage(name_room: usize, value_room: usize, size: usize, fresh: &[u8], e: Editor) -> u8
+    ensures { λ r. ⌜ r ≡ short-of (lacks «name_room» (e .«name_bytes») «value_room» (e .«name_count») (names-in (now (fresh .entry)))) size ⌝ }
+{
+    let lacks = names_numbered::lacks_room(
+        name_room,
+        e.name_bytes,
+        value_room,
+        e.name_count,
+        fresh,
+    );
+    if lacks {
+        return 6;
+    }
+    if LONGEST_LINE < size {
+        return 7;
+    }
+    0
+}
+
+// Adds the names that are new in an accepted line to the tables, and answers with the store's counts after it.
+fn accepted(fresh: &[u8], names: &mut [u8], values: &mut [u8], after: Counts, e: Editor) -> Entered
+    requires { ⌜ Room (now names) (e .«name_bytes») (now values) (e .«name_count») (now fresh) ⌝ }
+    ensures { λ r. ⌜ (r ≡ accepting (now (fresh .entry)) after e)
+        × (now (names .exit) ≡ overwritten (take (e .«name_bytes») (now (names .entry)) ++ name-bytes (names-in (now (fresh .entry)))) (now (names .entry)))
+        × (now (values .exit) ≡ overwritten (take (8 * e .«name_count») (now (values .entry)) ++ value-entries (e .«name_count») (names-in (now (fresh .entry)))) (now (values .entry))) ⌝ }
+{
+    let bytes = e.name_bytes;
+    let count = e.name_count;
+    names_numbered::add(names, bytes, values, count, fresh);
+    let added = names_numbered::count(fresh);
+    let name_count = count + added;
+    let name_bytes = bytes + fresh.len();
+    Entered {
+        number: 0,
+        place: 0,
+        end: 0,
+        added,
+        editor: Editor {
+            used: after.used,
+            lines: after.lines,
+            greatest: after.greatest,
+            name_count,
+            name_bytes,
+        },
+    }
+}
+
 // Puts the first `size` bytes of a buffer, a line that was read, at the place of its number into a sound store, and the names that are new in it
 // into the tables; or refuses it with 6, 7 or 8. Nothing is written before all tests have passed.
 pub fn accept(
@@ -113,38 +171,41 @@ pub fn accept(
     e: Editor,
 ) -> Entered
     requires { ⌜ (T (sound-state (state (now names) (now values) (now store) e))) × (Lies place (place .number) (state (now names) (now values) (now store) e))
-        × (Readable (state (now names) (now values) (now store) e) (place .number) (now line) size (now fresh)) ⌝ }
+        × (Readable (names-in (take (e .«name_bytes») (now names))) (place .number) (now line) size (now fresh)) ⌝ }
     ensures { λ r. ⌜ Accepts (state (now (names .entry)) (now (values .entry)) (now (store .entry)) e) (place .number) (now (line .entry)) size (now (fresh .entry)) (entered r (now (names .exit)) (now (values .exit)) (now (store .exit))) ⌝ }
 {
-    let bytes = e.name_bytes;
-    let count = e.name_count;
-    let lacks = names_numbered::lacks_room(names.len(), bytes, values.len(), count, fresh);
-    if lacks {
-        return refused(6, e);
-    }
-    if LONGEST_LINE < size {
-        return refused(7, e);
+    let short = shortage(names.len(), values.len(), size, fresh, e);
+    if short != 0 {
+        return refused(short, e);
     }
     match store::put_in(store, store_counts(e), place, front(line, size)) {
         Stored::NoRoom => refused(8, e),
-        Stored::Done(after) => {
-            names_numbered::add(names, bytes, values, count, fresh);
-            let added = names_numbered::count(fresh);
-            let name_count = count + added;
-            let name_bytes = bytes + fresh.len();
-            Entered {
-                number: 0,
-                place: 0,
-                end: 0,
-                added,
-                editor: Editor {
-                    used: after.used,
-                    lines: after.lines,
-                    greatest: after.greatest,
-                    name_count,
-                    name_bytes,
-                },
-            }
-        }
+        Stored::Done(after) => accepted(fresh, names, values, after, e),
     }
+}
+
+// Puts the first `size` bytes of a buffer, a line without a number that was read, to the front of a lent line buffer, and the names that are new in
+// it into the tables; or refuses it with 6, 7 or 8. The store is not looked at. Nothing is written before all tests have passed, nor past the line.
+pub fn accept_direct(
+    buffer: &mut [u8],
+    line: &[u8],
+    size: usize,
+    fresh: &[u8],
+    names: &mut [u8],
+    values: &mut [u8],
+    e: Editor,
+) -> Entered
+    requires { ⌜ (Sound (now names) (e .«name_bytes») (e .«name_count»)) × (8 * e .«name_count» ≤ length (now values))
+        × (Readable (names-in (take (e .«name_bytes») (now names))) direct-number (now line) size (now fresh)) ⌝ }
+    ensures { λ r. ⌜ AcceptsDirect (now (names .entry)) (now (values .entry)) e (now (buffer .entry)) (now (line .entry)) size (now (fresh .entry)) r (now (names .exit)) (now (values .exit)) (now (buffer .exit)) ⌝ }
+{
+    let short = shortage(names.len(), values.len(), size, fresh, e);
+    if short != 0 {
+        return refused(short, e);
+    }
+    if buffer.len() < size {
+        return refused(8, e);
+    }
+    copy(buffer, 0, front(line, size));
+    accepted(fresh, names, values, store_counts(e), e)
 }

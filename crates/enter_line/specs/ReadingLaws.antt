@@ -16,9 +16,9 @@ use Rattle.paper.specs.Names.{names-in, name-bytes, add-names}
 use Rattle.paper.specs.Items.{Item as Scanned, item, span, size-at, scan, items}
 use Rattle.paper.specs.Machine.{bad, read}
 use Rattle.paper.specs.Grammar.{look-in-range, start}
-use Rattle.paper.specs.Line.{line-bytes, lawful-number?}
+use Rattle.paper.specs.Line.{line-bytes, lawful-number?, direct-number}
 use Rattle.paper.specs.WellFormed.{tokens-of}
-use Rattle.paper.specs.Calls.{tokens, refused-at, place-of, outcome, translate, numbered, too-great, no-digit, head-of}
+use Rattle.paper.specs.Calls.{tokens, refused-at, place-of, outcome, translate, Head, numbered, too-great, only-blanks, unnumbered, head-of}
 use Rattle.laws.specs.Names.{names-added, closed?}
 use Rattle.laws.specs.Ends.{refused-ends, end-in}
 use Rattle.buffers.specs.Runs.{run-within}
@@ -33,9 +33,9 @@ use Rattle.enter_item.specs.declared.Spot.{Spot}
 use Rattle.enter_statement.specs.Ends.{Halts}
 use Rattle.enter_line.specs.Lines.{Finishes}
 use Rattle.enter_line.specs.LineLaws.{sets-set}
-use Rattle.enter_line.specs.Reading.{as-head, ending-there, of-translated, of-head, reading, Accepted, Told}
+use Rattle.enter_line.specs.Reading.{as-head, statements, number-alone, nothing, start-at, ending-there, of-translated, of-start, Accepted, Told}
 use Rattle.enter_line.specs.declared.Head.{Head as Found}
-use Rattle.enter_line.specs.declared.Head.the-variants.{Numbered}
+use Rattle.enter_line.specs.declared.Head.the-variants.{Numbered, TooGreat, OnlyBlanks, Unnumbered}
 use Rattle.enter_line.specs.declared.Reading.{Reading}
 use Rattle.enter_line.specs.declared.Reading.the-variants.{Read, Delete, Refused}
 
@@ -45,12 +45,15 @@ module _ (text : List ℕ) (b e : ℕ) (blanks : b ≡ run blank? text) (digits 
   head-as : head-of text
       ≡ (let d = run digit? (drop b text) in
       let n = value 0 (take d (drop b text)) in
-      pick (eqb d 0) no-digit (pick (lawful-number? n) (numbered n (b + d) (drop d (drop b text))) too-great))
+      pick (eqb d 0) (pick (eqb b (length text)) only-blanks unnumbered) (pick (lawful-number? n) (numbered n (b + d) (drop d (drop b text))) too-great))
   unfolding head-of
   head-as = rw blanks
 
-  pub head-none : e ≡ b → head-of text ≡ no-digit
-  head-none h = head-as ∙ rw (eq-eqb (run digit? (drop b text)) 0 (omega arith))
+  pub head-blanks : e ≡ b → b ≡ length text → head-of text ≡ only-blanks
+  head-blanks h k = head-as ∙ rw (eq-eqb (run digit? (drop b text)) 0 (omega arith), eq-eqb b (length text) k)
+
+  pub head-none : e ≡ b → (b ≡ length text → ⊥) → head-of text ≡ unnumbered
+  head-none h k = head-as ∙ rw (eq-eqb (run digit? (drop b text)) 0 (omega arith), ne-eqb b (length text) k)
 
   size : e - b ≡ run digit? (drop b text)
   size = omega arith
@@ -72,94 +75,132 @@ module _ (text : List ℕ) (b e : ℕ) (blanks : b ≡ run blank? text) (digits 
       ∙ ap (λ (l : List ℕ). numbered n (b + run digit? (drop b text)) l) (drop-drop (run digit? (drop b text)) b text)
       ∙ ap (λ (x : ℕ). numbered n x (drop x text)) (sym digits))
 
-no-number : {A : Type 0} {n p : ℕ} {rest : List ℕ} → no-digit ≡ numbered n p rest → A
-no-number e = let z : _≡_ {A = ℕ} 0 1 = cc in absurd (omega arith)
-
-no-great : {A : Type 0} {n p : ℕ} {rest : List ℕ} → too-great ≡ numbered n p rest → A
-no-great e = let z : _≡_ {A = ℕ} 0 1 = cc in absurd (omega arith)
-
 -- a line's number is lawful, and its digits end within the text
-pub numbered-within : {n p : ℕ} {rest : List ℕ} (text : List ℕ) → head-of text ≡ numbered n p rest → (n ≤ 32767) × (p ≤ length text)
+numbered-within : {n p : ℕ} {rest : List ℕ} (text : List ℕ) → head-of text ≡ numbered n p rest → (n ≤ 32767) × (p ≤ length text)
 unfolding head-of lawful-number?
 numbered-within {n} {p} {rest} text h =
     let t = drop (run blank? text) text in
     let d = run digit? t in
     let v = value 0 (take d t) in
-    go t (run blank? text) d v (eqb d 0) (leb v 32767) (run-within digit? t) (omega (arith, run-within blank? text, length-drop (run blank? text) text)) refl h
+    go t (run blank? text) d v (eqb d 0) (eqb (run blank? text) (length text)) (leb v 32767) (run-within digit? t) (omega (arith, run-within blank? text, length-drop (run blank? text) text)) refl h
   where
-    go : (t : List ℕ) (b d v : ℕ) (none small : Bool) → d ≤ length t → b + length t ≤ length text → leb v 32767 ≡ small
-        → pick none no-digit (pick small (numbered v (b + d) (drop d t)) too-great) ≡ numbered n p rest → (n ≤ 32767) × (p ≤ length text)
-    go t b d v true small k l e y = no-number y
-    go t b d v false false k l e y = no-great y
-    go t b d v false true k l e y =
+    go : (t : List ℕ) (b d v : ℕ) (none blanks small : Bool) → d ≤ length t → b + length t ≤ length text → leb v 32767 ≡ small
+        → pick none (pick blanks only-blanks unnumbered) (pick small (numbered v (b + d) (drop d t)) too-great) ≡ numbered n p rest → (n ≤ 32767) × (p ≤ length text)
+    go t b d v true true small k l e y = let z : _≡_ {A = ℕ} 0 1 = cc in absurd (omega arith)
+    go t b d v true false small k l e y = let z : _≡_ {A = ℕ} 0 1 = cc in absurd (omega arith)
+    go t b d v false blanks false k l e y = let z : _≡_ {A = ℕ} 0 1 = cc in absurd (omega arith)
+    go t b d v false blanks true k l e y =
         let i : v ≡ n = cc in
         let j : b + d ≡ p = cc in
         (omega (arith, leb-true v 32767 e), omega arith)
 
--- what the reader of the number tells of a numbered text
-pub head-numbered : {r : Found} {n p : ℕ} (text : List ℕ) → head-of text ≡ as-head text r → r ≡ Numbered n p → head-of text ≡ numbered n p (drop p text)
-head-numbered text h e = h ∙ ap (as-head text) e
+-- the number of a line to be read fits two bytes, and its statements start within the text
+pub statements-within : {n p : ℕ} (direct : Bool) (text : List ℕ) → start-at direct (head-of text) ≡ statements n p → (n ≤ direct-number) × (p ≤ length text)
+unfolding start-at
+statements-within {n} {p} direct text h = go (head-of text) refl h
+  where
+    past : {m q : ℕ} {rest : List ℕ} (alone : Bool) → head-of text ≡ numbered m q rest → pick alone (number-alone m) (statements m q) ≡ statements n p → (n ≤ direct-number) × (p ≤ length text)
+    past true e y = let z : _≡_ {A = ℕ} 0 1 = cc in absurd (omega arith)
+    past {m} {q} false e y =
+        let i : m ≡ n = cc in
+        let j : q ≡ p = cc in
+        (omega (arith, numbered-within text e .0), omega (arith, numbered-within text e .1))
 
--- blanks alone stand after the number; more stands there
-pub blank-rest : {p e : ℕ} (text : List ℕ) → p ≤ length text → e ≡ p + run blank? (drop p text) → e ≡ length text → run blank? (drop p text) ≡ length (drop p text)
-blank-rest {p} text h a b = omega (arith, length-drop p text)
+    without : (b : Bool) → pick b (statements direct-number 0) nothing ≡ statements n p → (n ≤ direct-number) × (p ≤ length text)
+    without true y =
+        let i : direct-number ≡ n = cc in
+        let j : 0 ≡ p = cc in
+        (omega arith, omega arith)
+    without false y = let z : _≡_ {A = ℕ} 0 1 = cc in absurd (omega arith)
 
-pub more-rest : {p e : ℕ} (text : List ℕ) → p ≤ length text → e ≡ p + run blank? (drop p text) → (e ≡ length text → ⊥) → run blank? (drop p text) ≡ length (drop p text) → ⊥
-more-rest {p} text h a b z = b (omega (arith, length-drop p text))
+    go : (h : Head) → head-of text ≡ h → start-at direct h ≡ statements n p → (n ≤ direct-number) × (p ≤ length text)
+    go (numbered m q rest) e y = past (eqb (run blank? rest) (length rest)) e y
+    go too-great e y = let z : _≡_ {A = ℕ} 0 1 = cc in absurd (omega arith)
+    go only-blanks e y = let z : _≡_ {A = ℕ} 0 1 = cc in absurd (omega arith)
+    go unnumbered e y = without direct y
+
+-- ---- the start
+
+module _ {r : Found} (direct : Bool) (text : List ℕ) (h : head-of text ≡ as-head text r) where
+  start-head : {f : Found} → r ≡ f → start-at direct (head-of text) ≡ start-at direct (as-head text f)
+  start-head e = ap (start-at direct) (h ∙ ap (as-head text) e)
+
+  module _ {n p e : ℕ} (q : r ≡ Numbered n p) (a : e ≡ p + run blank? (drop p text)) where
+    -- blanks alone stand after the number
+    pub start-alone : e ≡ length text → start-at direct (head-of text) ≡ number-alone n
+    unfolding start-at
+    start-alone b = start-head q ∙ rw (eq-eqb (run blank? (drop p text)) (length (drop p text)) (omega (arith, length-drop p text)))
+
+    -- more stands there
+    pub start-number : (e ≡ length text → ⊥) → start-at direct (head-of text) ≡ statements n p
+    unfolding start-at
+    start-number b =
+        let fits = numbered-within text (h ∙ ap (as-head text) q) in
+        start-head q ∙ rw (ne-eqb (run blank? (drop p text)) (length (drop p text)) (λ z. b (omega (arith, fits .1, length-drop p text))))
+
+  -- no number that a line can have
+  pub start-great : r ≡ TooGreat → start-at direct (head-of text) ≡ nothing
+  unfolding start-at
+  start-great q = start-head q
+
+  pub start-blanks : r ≡ OnlyBlanks → start-at direct (head-of text) ≡ nothing
+  unfolding start-at
+  start-blanks q = start-head q
+
+  -- no number
+  pub start-direct : r ≡ Unnumbered → direct ≡ true → start-at direct (head-of text) ≡ statements direct-number 0
+  unfolding start-at
+  start-direct q t = start-head q ∙ rw t
+
+  pub start-none : r ≡ Unnumbered → direct ≡ false → start-at direct (head-of text) ≡ nothing
+  unfolding start-at
+  start-none q t = start-head q ∙ rw t
 
 -- ---- the answer
 
-pub told-none : {ks : List (List ℕ)} {text line fresh line′ fresh′ : List ℕ} → head-of text ≡ no-digit → Told ks text line fresh line′ fresh′ (Refused 3 0 0)
-unfolding reading of-head
-told-none {ks} h = record { answer = sym (ap (of-head ks) h); accepted = λ n p rest ts e b t. no-number (sym h ∙ e) }
+module _ {ks : List (List ℕ)} {direct : Bool} {text line fresh line′ fresh′ : List ℕ} where
+  -- nothing
+  pub told-nothing : start-at direct (head-of text) ≡ nothing → Told ks direct text line fresh line′ fresh′ (Refused 3 0 0)
+  unfolding of-start
+  told-nothing h = record {
+    answer = sym (ap (of-start ks text) h);
+    accepted = λ n p ts e t. let z : _≡_ {A = ℕ} 0 1 = cc in absurd (omega arith);
+  }
 
-pub told-great : {ks : List (List ℕ)} {text line fresh line′ fresh′ : List ℕ} → head-of text ≡ too-great → Told ks text line fresh line′ fresh′ (Refused 3 0 0)
-unfolding reading of-head
-told-great {ks} h = record { answer = sym (ap (of-head ks) h); accepted = λ n p rest ts e b t. no-great (sym h ∙ e) }
+  -- a number alone
+  pub told-delete : {n : ℕ} → start-at direct (head-of text) ≡ number-alone n → Told ks direct text line fresh line′ fresh′ (Delete n)
+  unfolding of-start
+  told-delete h = record {
+    answer = sym (ap (of-start ks text) h);
+    accepted = λ n p ts e t. let z : _≡_ {A = ℕ} 0 1 = cc in absurd (omega arith);
+  }
 
-blank-same : {x y : List ℕ} → x ≡ y → eqb (run blank? x) (length x) ≡ eqb (run blank? y) (length y)
-blank-same e = ap (λ (l : List ℕ). eqb (run blank? l) (length l)) e
-
-pub told-delete : {ks : List (List ℕ)} {text line fresh line′ fresh′ : List ℕ} {n p : ℕ} {rest : List ℕ} → head-of text ≡ numbered n p rest → run blank? rest ≡ length rest
-    → Told ks text line fresh line′ fresh′ (Delete n)
-unfolding reading of-head
-told-delete {ks} {text} {line} {fresh} {line′} {fresh′} {n} {p} {rest} h k =
-    let z : eqb (run blank? rest) (length rest) ≡ true = eq-eqb (run blank? rest) (length rest) k in
-    record {
-      answer = sym (ap (of-head ks) h ∙ rw z);
-      accepted = λ n′ p′ rest′ ts e b t. let i : rest ≡ rest′ = cc in let y : true ≡ false = sym z ∙ blank-same i ∙ b in let q : _≡_ {A = ℕ} 0 1 = cc in absurd (omega arith);
+  module _ {n p : ℕ} (h : start-at direct (head-of text) ≡ statements n p) where
+    -- statements, one of which is refused
+    pub told-refused : {k q : ℕ} {r : Reading} → translate p (drop p text) ≡ refused-at k (span q (q + size-at (drop q text))) → r ≡ ending-there text k q → Told ks direct text line fresh line′ fresh′ r
+    unfolding of-start of-translated ending-there
+    told-refused {k} {q} t w = record {
+      answer = w ∙ sym (ap (of-start ks text) h ∙ ap (of-translated ks n) t);
+      accepted = λ n′ p′ ts e u.
+          let i : p ≡ p′ = cc in
+          let y : refused-at k (span q (q + size-at (drop q text))) ≡ tokens ts = sym t ∙ ap (λ (x : ℕ). translate x (drop x text)) i ∙ u in
+          let z : _≡_ {A = ℕ} 0 1 = cc in absurd (omega arith);
     }
 
-pub told-refused : {ks : List (List ℕ)} {text line fresh line′ fresh′ : List ℕ} {n p k q : ℕ} {rest : List ℕ} {r : Reading} → head-of text ≡ numbered n p rest → (run blank? rest ≡ length rest → ⊥)
-    → translate p rest ≡ refused-at k (span q (q + size-at (drop q text))) → r ≡ ending-there text k q → Told ks text line fresh line′ fresh′ r
-unfolding reading of-head of-translated ending-there
-told-refused {ks} {text} {line} {fresh} {line′} {fresh′} {n} {p} {k} {q} {rest} h b t w =
-    let z : eqb (run blank? rest) (length rest) ≡ false = ne-eqb (run blank? rest) (length rest) b in
-    record {
-      answer = w ∙ sym (ap (of-head ks) h ∙ rw z (ap (of-translated ks n) t));
-      accepted = λ n′ p′ rest′ ts e c u.
-          let i : rest ≡ rest′ = cc in
-          let j : p ≡ p′ = cc in
-          let y : refused-at k (span q (q + size-at (drop q text))) ≡ tokens ts = sym t ∙ ap (λ (l : List ℕ). translate p l) i ∙ ap (λ (x : ℕ). translate x rest′) j ∙ u in
-          let w : _≡_ {A = ℕ} 0 1 = cc in absurd (omega arith);
-    }
-
-pub told-read : {ks : List (List ℕ)} {text line fresh line′ fresh′ : List ℕ} {n p size named : ℕ} {rest : List ℕ} {us : List Token} → head-of text ≡ numbered n p rest → (run blank? rest ≡ length rest → ⊥)
-    → translate p rest ≡ tokens us → (Accepted ks n us line fresh line′ fresh′) × (size ≡ length (line-bytes (add-names ks us) n us)) × (named ≡ length (name-bytes (names-added ks us)))
-    → Told ks text line fresh line′ fresh′ (Read (record { number = n; size = size; named = named }))
-unfolding reading of-head of-translated
-told-read {ks} {text} {line} {fresh} {line′} {fresh′} {n} {p} {size} {named} {rest} {us} h b t w =
-    let z : eqb (run blank? rest) (length rest) ≡ false = ne-eqb (run blank? rest) (length rest) b in
-    record {
+    -- statements that are accepted
+    pub told-read : {size named : ℕ} {us : List Token} → translate p (drop p text) ≡ tokens us
+        → (Accepted ks n us line fresh line′ fresh′) × (size ≡ length (line-bytes (add-names ks us) n us)) × (named ≡ length (name-bytes (names-added ks us)))
+        → Told ks direct text line fresh line′ fresh′ (Read (record { number = n; size = size; named = named }))
+    unfolding of-start of-translated
+    told-read {size} {named} {us} t w = record {
       answer =
           ap (λ (x : ℕ). Read (record { number = n; size = x; named = named })) (w .1)
           ∙ ap (λ (x : ℕ). Read (record { number = n; size = length (line-bytes (add-names ks us) n us); named = x })) (w .2)
-          ∙ sym (ap (of-head ks) h ∙ rw z (ap (of-translated ks n) t));
-      accepted = λ n′ p′ rest′ ts e c u.
-          let i : rest ≡ rest′ = cc in
-          let j : p ≡ p′ = cc in
+          ∙ sym (ap (of-start ks text) h ∙ ap (of-translated ks n) t);
+      accepted = λ n′ p′ ts e u.
+          let i : p ≡ p′ = cc in
           let o : n ≡ n′ = cc in
-          let y : tokens us ≡ tokens ts = sym t ∙ ap (λ (l : List ℕ). translate p l) i ∙ ap (λ (x : ℕ). translate x rest′) j ∙ u in
+          let y : tokens us ≡ tokens ts = sym t ∙ ap (λ (x : ℕ). translate x (drop x text)) i ∙ u in
           let v : us ≡ ts = cc in
           subst (λ (x : ℕ). Accepted ks x ts line fresh line′ fresh′) o (subst (λ (x : List Token). Accepted ks n x line fresh line′ fresh′) v (w .0));
     }
@@ -252,9 +293,9 @@ line-whole {l₁} {l₂} {l₃} {line′} {a} {b} {c} line names fresh text n e 
     )
 
 -- the high byte of a line's number is a byte
-pub high-byte : (n : ℕ) → n ≤ 32767 → low (n / 256) ≡ n / 256
+pub high-byte : (n : ℕ) → n ≤ direct-number → low (n / 256) ≡ n / 256
 unfolding low
 high-byte n h = mod-eq-of-lt (below n h)
   where
-    below : (n : ℕ) → n ≤ 32767 → n / 256 < 256
+    below : (n : ℕ) → n ≤ direct-number → n / 256 < 256
     below n h = omega (arith, div-add-mod n 256)

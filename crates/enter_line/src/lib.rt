@@ -18,7 +18,10 @@ ghost use Prim.Native.Nat.{_-_, _≤_, _<_};
 ghost use lib.ListN.{length, take};
 ghost use Rattle.paper.specs.Names.{names-in};
 ghost use Rattle.paper.specs.Calls.{head-of};
-ghost use Rattle.enter_line.specs.Reading.{Told, as-head, ending-there};
+ghost use Rattle.enter_line.specs.Reading.{as-head, start-at, as-start, ending-there, Told};
+
+// The number of a line that is read without one.
+pub const DIRECT_NUMBER: usize = 32768;
 
 // A line that was read: its number, how many bytes it has, and how many bytes the names new in it have.
 pub struct Line {
@@ -34,11 +37,12 @@ pub enum Reading {
     Refused(u8, usize, usize),
 }
 
-// How a text begins: its number and the place past its digits; digits worth too much for a line; no digit.
+// How a text begins: its number and the place past its digits; digits worth too much for a line; no digit, in a text of blanks alone or in another.
 enum Head {
     Numbered(usize, usize),
     TooGreat,
-    NoDigit,
+    OnlyBlanks,
+    Unnumbered,
 }
 
 // The number is the digit run after blanks.
@@ -48,13 +52,47 @@ fn head_of(text: &[u8]) -> Head
     let from = run_end(text, 0, Run::Blanks);
     let end = run_end(text, from, Run::Digits);
     if end == from {
-        return Head::NoDigit;
+        if from == text.len() {
+            return Head::OnlyBlanks;
+        }
+        return Head::Unnumbered;
     }
     let number = decimal(&text[from..end]);
     if GREATEST_NUMBER < number {
         return Head::TooGreat;
     }
     Head::Numbered(number, end)
+}
+
+// What a text is to be read as: the line with a number, whose statements stand from a place on; a number alone; nothing.
+enum Start {
+    Statements(usize, usize),
+    NumberAlone(usize),
+    Nothing,
+}
+
+// The start of a text. `direct` says whether one without a number is a line: its statements stand from the text's own start on.
+fn start_of(text: &[u8], direct: bool) -> Start
+    ensures { λ r. ⌜ start-at direct (head-of (now (text .entry))) ≡ as-start r ⌝ }
+{
+    match head_of(text) {
+        Head::Numbered(number, end) => {
+            if run_end(text, end, Run::Blanks) == text.len() {
+                Start::NumberAlone(number)
+            } else {
+                Start::Statements(number, end)
+            }
+        }
+        Head::TooGreat => Start::Nothing,
+        Head::OnlyBlanks => Start::Nothing,
+        Head::Unnumbered => {
+            if direct {
+                Start::Statements(DIRECT_NUMBER, 0)
+            } else {
+                Start::Nothing
+            }
+        }
+    }
 }
 
 // A refusal with 4 or 5 at a place of a text: it ends with the item that stands there.
@@ -65,27 +103,25 @@ fn refused(text: &[u8], number: u8, place: usize) -> Reading
     Reading::Refused(number, place, refused.end)
 }
 
-// Reads a text of at most 120 bytes over the first `size` bytes of a name table. An accepted line is written to the front of `line`, and the
-// names that are new in it to the front of `fresh`; what they hold after any other answer is scratch.
+// Reads a text of at most 120 bytes over the first `size` bytes of a name table; one without a number only if `direct` says so. An accepted line is
+// written to the front of `line`, and the names that are new in it to the front of `fresh`; what they hold after any other answer is scratch.
 pub fn read(
     text: &[u8],
+    direct: bool,
     names: &[u8],
     size: usize,
     line: &mut [u8; LINE_ROOM],
     fresh: &mut [u8; NAMES_ROOM],
 ) -> Reading
     requires { ⌜ (length (now text) ≤ 120) × (size ≤ length (now names)) × (240 ≤ length (now fresh)) ⌝ }
-    ensures { λ r. ⌜ Told (names-in (take size (now (names .entry)))) (now (text .entry)) (now (line .entry)) (now (fresh .entry)) (now (line .exit)) (now (fresh .exit)) r ⌝ }
+    ensures { λ r. ⌜ Told (names-in (take size (now (names .entry)))) direct (now (text .entry)) (now (line .entry)) (now (fresh .entry)) (now (line .exit)) (now (fresh .exit)) r ⌝ }
 {
-    match head_of(text) {
-        Head::Numbered(number, end) => {
-            if run_end(text, end, Run::Blanks) == text.len() {
-                return Reading::Delete(number);
-            }
+    match start_of(text, direct) {
+        Start::Statements(number, from) => {
             put(line, 0, low_byte(number));
             put(line, 1, low_byte(number / 256));
             let start = Spot {
-                at: end,
+                at: from,
                 written: 3,
                 named: 0,
             };
@@ -101,7 +137,7 @@ pub fn read(
                 Step::Refused(k, p) => refused(text, k, p),
             }
         }
-        Head::TooGreat => Reading::Refused(3, 0, 0),
-        Head::NoDigit => Reading::Refused(3, 0, 0),
+        Start::NumberAlone(number) => Reading::Delete(number),
+        Start::Nothing => Reading::Refused(3, 0, 0),
     }
 }

@@ -2,7 +2,7 @@ use mathlib.Core.Path.{ap, _∙_}
 use native.Mathlib.Omega.{arith}
 use Rattle.store.specs.Answers.{found-answer}
 use Rattle.editor_edit.specs.States.{state}
-use Rattle.editor.proofs.TestLaws.{unsound-tables, names-within, sound-there, unsound-store, enter-so, enter-refused}
+use Rattle.editor.proofs.TestLaws.{unsound-tables, names-within, sound-there, unsound-store, typed-refused}
 use borrow.Author.Needs.{needs}
 use Rattle.editor.proofs.enter.Statement.{statement}
 use Rattle.editor.proofs.enter.Tie as tie
@@ -12,8 +12,9 @@ sound-requires c κs = search needs
 
 read-requires : tie.Need-read-requires
 read-requires c κs =
-    let args = c .before .before .before .before .before .before .before .before .before .before .args in
-    (names-within (state (args .names .now) (args .values .now) (args .store .now) (args .e)) _ (c .before .before .before .before .sound .ensures) (c .before .before .before .if1 .taken), omega arith, omega arith)
+    let args = c .before .before .before .before .before .before .before .before .before .before .before .args in
+    let s = state (args .names .now) (args .values .now) (args .store .now) (args .e) in
+    (names-within s _ (c .before .before .before .before .sound .ensures) (c .before .before .before .if1 .taken), omega arith, omega arith)
 
 store-counts-requires : tie.Need-store-counts-requires
 store-counts-requires c κs = search needs
@@ -35,9 +36,10 @@ enum-known-place c = search needs
 
 edit-requires : tie.Need-edit-requires
 edit-requires c κs =
-    let args = c .before .before .before .before .before .before .before .before .before .before .before .before .before .before .before .before .before .before .before .before .before .before .before .args in
-    let there = sound-there (state (args .names .now) (args .values .now) (args .store .now) (args .e)) _ (c .before .before .before .before .before .before .before .before .before .before .before .before .before .before .before .before .before .sound .ensures) (c .before .before .before .before .before .before .before .before .before .before .before .before .before .before .before .before .if1 .taken) _ (c .before .before .before .before .before .before .before .before .before .before .store-counts .ensures) _ _ (c .before .before .before .before .before .before .before .before .find .ensures ∙ ap (found-answer (args .store .now) _) (c .before .before .before .before .before .before .before .before .before .asked .ensures)) (c .before .before .before .before .before .before .place .given .0 .0) (c .before .before .before .before .before .before .place .given .1) in
-    (there .0, there .1, c .before .before .before .before .before .before .before .before .before .before .before .before .read .ensures .ready (args .values .now) (args .store .now))
+    let args = c .before .before .before .before .before .before .before .before .before .before .before .before .before .before .before .before .before .before .before .before .before .before .before .before .before .args in
+    let s = state (args .names .now) (args .values .now) (args .store .now) (args .e) in
+    let there = sound-there s _ (c .before .before .before .before .before .before .before .before .before .before .before .before .before .before .before .before .before .before .sound .ensures) (c .before .before .before .before .before .before .before .before .before .before .before .before .before .before .before .before .before .if1 .taken) _ (c .before .before .before .before .before .before .before .before .before .before .before .store-counts .ensures) _ _ (c .before .before .before .before .before .before .before .before .before .find .ensures ∙ ap (found-answer (args .store .now) _) (c .before .before .before .before .before .before .before .before .before .before .asked .ensures)) (c .before .before .before .before .before .before .before .place .given .0 .0) (c .before .before .before .before .before .before .before .place .given .1) in
+    (there .0, there .1, c .before .before .before .before .before .before .before .before .before .before .before .before .before .read .ensures .ready)
 
 refused-requires-2 : tie.Need-refused-requires-2
 refused-requires-2 c κs = search needs
@@ -50,8 +52,10 @@ same-length-2 c = search needs
 
 returns : tie.Need-returns
 returns c =
-    let args = c .before .before .before .before .before .before .before .before .before .before .before .before .before .before .before .before .before .before .args in
-    enter-refused (args .names .now) (args .values .now) (args .store .now) (args .e) (args .text .now) _ (unsound-store (state (args .names .now) (args .values .now) (args .store .now) (args .e)) _ (c .before .before .before .before .before .before .before .before .before .before .before .before .sound .ensures) (c .before .before .before .before .before .before .before .before .before .before .before .if1 .taken) _ (c .before .before .before .before .before .store-counts .ensures) _ _ (c .before .before .before .find .ensures ∙ ap (found-answer (args .store .now) _) (c .before .before .before .before .asked .ensures)) (c .before .enum-told .given .1)) (c .refused .ensures)
+    let args = c .before .before .before .before .before .before .before .before .before .before .before .before .before .before .before .before .before .before .before .args in
+    let s = state (args .names .now) (args .values .now) (args .store .now) (args .e) in
+    typed-refused (args .names .now) (args .values .now) (args .store .now) (args .line .now) (args .e) (args .text .now) _
+    (unsound-store s _ (c .before .before .before .before .before .before .before .before .before .before .before .before .sound .ensures) (c .before .before .before .before .before .before .before .before .before .before .before .if1 .taken) _ (c .before .before .before .before .before .store-counts .ensures) _ _ (c .before .before .before .find .ensures ∙ ap (found-answer (args .store .now) _) (c .before .before .before .before .asked .ensures)) (c .before .enum-told .given .1)) (c .refused .ensures)
 
 same-length-3 : tie.Need-same-length-3
 same-length-3 c = search needs
@@ -62,19 +66,24 @@ same-length-4 c = search needs
 same-length-5 : tie.Need-same-length-5
 same-length-5 c = search needs
 
-returns-2 : tie.Need-returns-2
-returns-2 c =
-    let args = c .before .before .before .before .before .before .before .before .before .before .before .before .before .before .before .before .before .before .before .before .before .before .before .before .before .before .before .before .before .before .args in
-    let there = sound-there (state (args .names .now) (args .values .now) (args .store .now) (args .e)) _ (c .before .before .before .before .before .before .before .before .before .before .before .before .before .before .before .before .before .before .before .before .before .before .before .before .sound .ensures) (c .before .before .before .before .before .before .before .before .before .before .before .before .before .before .before .before .before .before .before .before .before .before .before .if1 .taken) _ (c .before .before .before .before .before .before .before .before .before .before .before .before .before .before .before .before .before .store-counts .ensures) _ _ (c .before .before .before .before .before .before .before .before .before .before .before .before .before .before .before .find .ensures ∙ ap (found-answer (args .store .now) _) (c .before .before .before .before .before .before .before .before .before .before .before .before .before .before .before .before .asked .ensures)) (c .before .before .before .before .before .before .before .before .before .before .before .before .before .place .given .0 .0) (c .before .before .before .before .before .before .before .before .before .before .before .before .before .place .given .1) in
-    enter-so (state (args .names .now) (args .values .now) (args .store .now) (args .e)) (args .text .now) _ (there .0) (c .before .before .before .before .before .before .before .before .before .before .before .before .before .before .before .before .before .before .before .read .ensures .enters (args .values .now) (args .store .now) _ (c .before .before .before .before .before .before .edit .ensures))
-
 same-length-6 : tie.Need-same-length-6
 same-length-6 c = search needs
 
+returns-2 : tie.Need-returns-2
+returns-2 c =
+    let args = c .before .before .before .before .before .before .before .before .before .before .before .before .before .before .before .before .before .before .before .before .before .before .before .before .before .before .before .before .before .before .before .before .before .before .args in
+    let s = state (args .names .now) (args .values .now) (args .store .now) (args .e) in
+    let there = sound-there s _ (c .before .before .before .before .before .before .before .before .before .before .before .before .before .before .before .before .before .before .before .before .before .before .before .before .before .before .before .sound .ensures) (c .before .before .before .before .before .before .before .before .before .before .before .before .before .before .before .before .before .before .before .before .before .before .before .before .before .before .if1 .taken) _ (c .before .before .before .before .before .before .before .before .before .before .before .before .before .before .before .before .before .before .before .before .store-counts .ensures) _ _ (c .before .before .before .before .before .before .before .before .before .before .before .before .before .before .before .before .before .before .find .ensures ∙ ap (found-answer (args .store .now) _) (c .before .before .before .before .before .before .before .before .before .before .before .before .before .before .before .before .before .before .before .asked .ensures)) (c .before .before .before .before .before .before .before .before .before .before .before .before .before .before .before .before .place .given .0 .0) (c .before .before .before .before .before .before .before .before .before .before .before .before .before .before .before .before .place .given .1) in
+    c .before .before .before .before .before .before .before .before .before .before .before .before .before .before .before .before .before .before .before .before .before .before .read .ensures .gives (args .values .now) (args .store .now) (args .line .now) (there .0) _ (c .before .before .before .before .before .before .before .before .edit .ensures)
+
+same-length-7 : tie.Need-same-length-7
+same-length-7 c = search needs
+
 returns-3 : tie.Need-returns-3
 returns-3 c =
-    let args = c .before .before .before .before .before .before .before .before .args in
-    enter-refused (args .names .now) (args .values .now) (args .store .now) (args .e) (args .text .now) _ (unsound-tables (state (args .names .now) (args .values .now) (args .store .now) (args .e)) _ (c .before .before .sound .ensures) (c .before .if1 .left)) (c .refused2 .ensures)
+    let args = c .before .before .before .before .before .before .before .before .before .args in
+    let s = state (args .names .now) (args .values .now) (args .store .now) (args .e) in
+    typed-refused (args .names .now) (args .values .now) (args .store .now) (args .line .now) (args .e) (args .text .now) _ (unsound-tables s _ (c .before .before .sound .ensures) (c .before .if1 .left)) (c .refused2 .ensures)
 
 pub enter-spec : {M : Type 1} → statement M
 enter-spec =
@@ -96,6 +105,7 @@ enter-spec =
     same-length-3
     same-length-4
     same-length-5
-    returns-2
     same-length-6
+    returns-2
+    same-length-7
     returns-3)

@@ -2,6 +2,7 @@ use mathlib.Core.Path.{ap, _∙_}
 use native.Mathlib.Omega.{arith}
 use Prim.Native.Nat.{ℕ}
 use Rattle.paper.specs.Calls.{lines-of}
+use Rattle.paper.specs.Direct.{Typed, line-kept}
 use Rattle.store.specs.Answers.{place-of}
 use Rattle.editor_edit.specs.States.{state}
 use Rattle.editor_edit.specs.Sound.{table-sound, lines-kept, counts-sound}
@@ -12,7 +13,8 @@ use Rattle.editor.proofs.enter_sound.Tie as tie
 read-requires : tie.Need-read-requires
 read-requires c κs =
     let args = c .before .before .before .before .before .before .before .args in
-    (table-sound (state (args .names .now) (args .values .now) (args .store .now) (args .e)) (c .before .before .before .before .before .before .before .pre) .within, omega arith, omega arith)
+    let s = state (args .names .now) (args .values .now) (args .store .now) (args .e) in
+    (table-sound s (c .before .before .before .before .before .before .before .pre) .within, omega arith, omega arith)
 
 store-counts-requires : tie.Need-store-counts-requires
 store-counts-requires c κs = search needs
@@ -23,13 +25,18 @@ asked-requires c κs = search needs
 find-sound-requires : tie.Need-find-sound-requires
 find-sound-requires c κs =
     let args = c .before .before .before .before .before .before .before .before .before .before .before .args in
-    counts-sound (state (args .names .now) (args .values .now) (args .store .now) (args .e)) _ (c .before .store-counts .ensures) (c .before .before .before .before .before .before .before .before .before .before .before .pre)
+    let s = state (args .names .now) (args .values .now) (args .store .now) (args .e) in
+    counts-sound s _ (c .before .store-counts .ensures) (c .before .before .before .before .before .before .before .before .before .before .before .pre)
+
+slice-aggregate-edit : tie.Need-slice-aggregate-edit
+slice-aggregate-edit c = search needs
 
 edit-requires : tie.Need-edit-requires
 edit-requires c κs =
-    let args = c .before .before .before .before .before .before .before .before .before .before .before .before .before .before .before .before .before .args in
-    let there = c .before .before .before .before .before .find-sound .ensures ∙ ap (place-of _) (lines-kept (state (args .names .now) (args .values .now) (args .store .now) (args .e)) _ (c .before .before .before .before .before .before .before .store-counts .ensures)) ∙ ap (λ (n : ℕ). place-of n (lines-of (state (args .names .now) (args .values .now) (args .store .now) (args .e)))) (c .before .before .before .before .before .before .asked .ensures) in
-    (c .before .before .before .before .before .before .before .before .before .before .before .before .before .before .before .before .before .pre, there, c .before .before .before .before .before .before .before .before .before .read .ensures .ready (args .values .now) (args .store .now))
+    let args = c .before .before .before .before .before .before .before .before .before .before .before .before .before .before .before .before .before .before .args in
+    let s = state (args .names .now) (args .values .now) (args .store .now) (args .e) in
+    let there = c .before .before .before .before .before .before .find-sound .ensures ∙ ap (place-of _) (lines-kept s _ (c .before .before .before .before .before .before .before .before .store-counts .ensures)) ∙ ap (λ (n : ℕ). place-of n (lines-of s)) (c .before .before .before .before .before .before .before .asked .ensures) in
+    (c .before .before .before .before .before .before .before .before .before .before .before .before .before .before .before .before .before .before .pre, there, c .before .before .before .before .before .before .before .before .before .before .read .ensures .ready)
 
 same-length : tie.Need-same-length
 same-length c = search needs
@@ -41,9 +48,11 @@ same-length-3 : tie.Need-same-length-3
 same-length-3 c = search needs
 
 returns : tie.Need-returns
+unfolding line-kept
 returns c =
-    let args = c .before .before .before .before .before .before .before .before .before .before .before .before .before .before .before .before .before .before .before .before .before .before .before .before .args in
-    c .before .before .before .before .before .before .before .before .before .before .before .before .before .before .before .before .read .ensures .enters (args .values .now) (args .store .now) _ (c .before .before .before .before .before .before .edit .ensures)
+    let args = c .before .before .before .before .before .before .before .before .before .before .before .before .before .before .before .before .before .before .before .before .before .before .before .before .before .before .args in
+    let s = state (args .names .now) (args .values .now) (args .store .now) (args .e) in
+    ap (λ (o : Typed). o .entered) (c .before .before .before .before .before .before .before .before .before .before .before .before .before .before .before .before .before .before .read .ensures .gives (args .values .now) (args .store .now) _ (c .before .before .before .before .before .before .before .before .before .before .before .before .before .before .before .before .before .before .before .before .before .before .before .before .before .before .pre) _ (c .before .before .before .before .before .before .before .edit .ensures))
 
 pub enter-sound-spec : {M : Type 1} → statement M
 enter-sound-spec =
@@ -53,6 +62,7 @@ enter-sound-spec =
     store-counts-requires
     asked-requires
     find-sound-requires
+    slice-aggregate-edit
     edit-requires
     same-length
     same-length-2
