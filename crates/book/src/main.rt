@@ -77,7 +77,7 @@ fn print_entered(text: &[u8], number: usize, place: usize, end: usize) {
     print(b"\n");
 }
 
-// Enters a line and prints what became of it. The editor's record afterwards.
+// Enters a line and prints what became of it. The editor's record afterwards. Each line begins with its number, so the line buffer has no bytes.
 fn enter(
     text: &[u8],
     names: &mut [u8],
@@ -85,7 +85,8 @@ fn enter(
     store: &mut [u8],
     record: Editor,
 ) -> Editor {
-    let r = editor::enter(text, names, values, store, record);
+    let mut line = [0u8; 0];
+    let r = editor::enter(text, names, values, store, &mut line, record);
     let after = r.editor;
     print_entered(text, r.number as usize, r.place, r.end);
     if r.number == 0 {

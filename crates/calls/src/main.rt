@@ -7,6 +7,7 @@ use console::next_line;
 use console::print;
 use console::whole;
 use editor_edit::Editor;
+use editor_list::Listed;
 use fields::bytes_field;
 use fields::ends;
 use fields::number_field;
@@ -27,9 +28,16 @@ fn print_bytes(bytes: &[u8]) {
     console::print_bytes(bytes);
 }
 
-// Enters a text and prints the answer: number, place, its end, names added, the record's counts and the buffers afterwards.
-fn enter(text: &[u8], names: &mut [u8], values: &mut [u8], store: &mut [u8], record: Editor) {
-    let r = editor::enter(text, names, values, store, record);
+// Enters a text and prints the answer: number, place, its end, names added, the record's counts and the buffers afterwards, the line buffer last.
+fn enter(
+    text: &[u8],
+    names: &mut [u8],
+    values: &mut [u8],
+    store: &mut [u8],
+    direct: &mut [u8],
+    record: Editor,
+) {
+    let r = editor::enter(text, names, values, store, direct, record);
     let after = r.editor;
     console::print_number(r.number as usize);
     print_number(r.place);
@@ -43,19 +51,38 @@ fn enter(text: &[u8], names: &mut [u8], values: &mut [u8], store: &mut [u8], rec
     print_bytes(names);
     print_bytes(values);
     print_bytes(store);
+    print_bytes(direct);
     print(b"\n");
 }
 
-// Lists a line and prints the answer: number, bytes written and the output buffer afterwards.
-fn list(line: usize, names: &[u8], values: &[u8], store: &[u8], record: Editor, out: &mut [u8]) {
-    let r = editor::list(line, names, values, store, record, out);
+// Prints the answer of a listing: number, bytes written and the output buffer afterwards.
+fn print_listed(r: Listed, out: &[u8]) {
     console::print_number(r.number as usize);
     print_number(r.written);
     print_bytes(out);
     print(b"\n");
 }
 
-// The fields that every call has: how many bytes each buffer has, the record, and where the next field begins.
+// Lists a line and prints the answer.
+fn list(line: usize, names: &[u8], values: &[u8], store: &[u8], record: Editor, out: &mut [u8]) {
+    let r = editor::list(line, names, values, store, record, out);
+    print_listed(r, out);
+}
+
+// Lists the line in a line buffer and prints the answer.
+fn show(
+    direct: &[u8],
+    names: &[u8],
+    name_bytes: usize,
+    name_count: usize,
+    values: &[u8],
+    out: &mut [u8],
+) {
+    let r = editor::show(direct, names, name_bytes, name_count, values, out);
+    print_listed(r, out);
+}
+
+// The fields that calls of enter and list have: how many bytes each buffer has, the record, and where the next field begins.
 struct Tables {
     names: usize,
     values: usize,
@@ -102,41 +129,73 @@ fn within(n: usize, buffer: &[u8]) -> usize
     lesser(n, buffer.len())
 }
 
+// The fields of a call of enter: how many bytes text and line buffer have, the tables, and where the next field begins.
+struct Entering {
+    text: usize,
+    tables: Tables,
+    direct: usize,
+    next: usize,
+}
+
+// The fields of a call of enter, which begin at place 6.
+fn read_entering(
+    line: &[u8],
+    text: &mut [u8],
+    names: &mut [u8],
+    values: &mut [u8],
+    store: &mut [u8],
+    direct: &mut [u8],
+) -> Entering {
+    let a = bytes_field(line, 6, text);
+    let tables = read_tables(line, a.next, names, values, store);
+    let b = bytes_field(line, tables.next, direct);
+    Entering {
+        text: a.n,
+        tables,
+        direct: b.n,
+        next: b.next,
+    }
+}
+
 // Enters a text over the first bytes of buffers, as many as the fields had.
 fn enter_within(
     text: &[u8],
     names: &mut [u8],
     values: &mut [u8],
     store: &mut [u8],
-    tables: Tables,
+    direct: &mut [u8],
+    call: Entering,
 ) {
+    let tables = call.tables;
     let a = within(tables.names, names);
     let b = within(tables.values, values);
     let c = within(tables.store, store);
+    let d = within(call.direct, direct);
     let record = tables.record;
     enter(
         text,
         &mut names[..a],
         &mut values[..b],
         &mut store[..c],
+        &mut direct[..d],
         record,
     );
 }
 
-// Answers a call of enter, whose fields begin at place 6: false where it is none.
+// Answers a call of enter: false where it is none.
 fn answer_enter(
     line: &[u8],
     text: &mut [u8],
     names: &mut [u8],
     values: &mut [u8],
     store: &mut [u8],
+    direct: &mut [u8],
 ) -> bool {
-    let typed = bytes_field(line, 6, text);
-    let tables = read_tables(line, typed.next, names, values, store);
-    if !ends(line, tables.next) {
+    let call = read_entering(line, text, names, values, store, direct);
+    if !ends(line, call.next) {
         return false;
     }
-    enter_within(front(text, typed.n), names, values, store, tables);
+    enter_within(front(text, call.text), names, values, store, direct, call);
     true
 }
 
@@ -167,6 +226,58 @@ fn answer_list(
     true
 }
 
+// The fields of a call of show before the output: how many bytes each buffer has, the counts, and where the next field begins.
+struct Showing {
+    direct: usize,
+    names: usize,
+    name_bytes: usize,
+    name_count: usize,
+    values: usize,
+    next: usize,
+}
+
+// The fields of a call of show before the output, which begin at place 5.
+fn read_showing(line: &[u8], names: &mut [u8], values: &mut [u8], direct: &mut [u8]) -> Showing {
+    let a = bytes_field(line, 5, direct);
+    let b = bytes_field(line, a.next, names);
+    let c = number_field(line, b.next);
+    let d = number_field(line, c.next);
+    let e = bytes_field(line, d.next, values);
+    Showing {
+        direct: a.n,
+        names: b.n,
+        name_bytes: c.n,
+        name_count: d.n,
+        values: e.n,
+        next: e.next,
+    }
+}
+
+// Answers a call of show: false where it is none.
+fn answer_show(
+    line: &[u8],
+    names: &mut [u8],
+    values: &mut [u8],
+    direct: &mut [u8],
+    out: &mut [u8],
+) -> bool {
+    let call = read_showing(line, names, values, direct);
+    let room = bytes_field(line, call.next, out);
+    if !ends(line, room.next) {
+        return false;
+    }
+    let n = within(room.n, out);
+    show(
+        front(direct, call.direct),
+        front(names, call.names),
+        call.name_bytes,
+        call.name_count,
+        front(values, call.values),
+        &mut out[..n],
+    );
+    true
+}
+
 // Answers a call: false where the line is none.
 fn answer_call(
     line: &[u8],
@@ -174,13 +285,17 @@ fn answer_call(
     names: &mut [u8],
     values: &mut [u8],
     store: &mut [u8],
+    direct: &mut [u8],
     out: &mut [u8],
 ) -> bool {
     if check::same(front(line, 6), b"enter ") {
-        return answer_enter(line, text, names, values, store);
+        return answer_enter(line, text, names, values, store, direct);
     }
     if check::same(front(line, 5), b"list ") {
         return answer_list(line, names, values, store, out);
+    }
+    if check::same(front(line, 5), b"show ") {
+        return answer_show(line, names, values, direct, out);
     }
     false
 }
@@ -192,9 +307,10 @@ fn answer(
     names: &mut [u8],
     values: &mut [u8],
     store: &mut [u8],
+    direct: &mut [u8],
     out: &mut [u8],
 ) {
-    if !answer_call(line, text, names, values, store, out) {
+    if !answer_call(line, text, names, values, store, direct, out) {
         print(b"bad\n");
     }
 }
@@ -208,6 +324,7 @@ fn answer_all(
     names: &mut [u8],
     values: &mut [u8],
     store: &mut [u8],
+    direct: &mut [u8],
     out: &mut [u8],
 ) {
     let mut input = console::start();
@@ -218,7 +335,15 @@ fn answer_all(
             return;
         }
         input = next.input;
-        answer(whole(line, next.length), text, names, values, store, out);
+        answer(
+            whole(line, next.length),
+            text,
+            names,
+            values,
+            store,
+            direct,
+            out,
+        );
         turns -= 1;
     }
 }
@@ -230,6 +355,7 @@ fn main() {
     let mut names = [0u8; 8192];
     let mut values = [0u8; 4096];
     let mut store = [0u8; 70000];
+    let mut direct = [0u8; 4096];
     let mut out = [0u8; 65536];
     answer_all(
         &mut buffer,
@@ -238,6 +364,7 @@ fn main() {
         &mut names,
         &mut values,
         &mut store,
+        &mut direct,
         &mut out,
     );
 }

@@ -81,7 +81,7 @@ fn print_entered(turn: Turn, answer: Answer, record: Editor) {
     print(b"\n");
 }
 
-// Enters every line of the input over empty tables and an empty store. The desk's one record is made here and lent to each call, and is
+// Enters every line of the input over empty tables and an empty store, with a line buffer for lines without a number. The desk's one record is made here and lent to each call, and is
 // returned at the end.
 fn enter_all(
     buffer: &mut [u8],
@@ -89,13 +89,21 @@ fn enter_all(
     names: &mut [u8],
     values: &mut [u8],
     store: &mut [u8],
+    line: &mut [u8],
 ) -> Editor {
     let mut record = empty();
     let mut turn = first();
     loop {
         turn = next(turn, buffer, text);
         if turn.there {
-            let answer = enter_lent(&text[..turn.length], names, values, store, &mut record);
+            let answer = enter_lent(
+                &text[..turn.length],
+                names,
+                values,
+                store,
+                line,
+                &mut record,
+            );
             print_entered(turn, answer, record);
         } else {
             return record;
@@ -169,9 +177,10 @@ fn run(
     names: &mut [u8],
     values: &mut [u8],
     store: &mut [u8],
+    line: &mut [u8],
     out: &mut [u8],
 ) {
-    let record = enter_all(buffer, text, names, values, store);
+    let record = enter_all(buffer, text, names, values, store, line);
     list_all(names, values, store, out, record);
 }
 
@@ -181,6 +190,7 @@ fn main() {
     let mut names = [0u8; 2048];
     let mut values = [0u8; 1024];
     let mut store = [0u8; 32768];
+    let mut line = [0u8; 255];
     let mut out = [0u8; 1024];
     run(
         &mut buffer,
@@ -188,6 +198,7 @@ fn main() {
         &mut names,
         &mut values,
         &mut store,
+        &mut line,
         &mut out,
     );
 }

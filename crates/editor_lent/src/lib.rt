@@ -4,7 +4,8 @@ use editor::list;
 use editor_edit::Editor;
 use editor_list::Listed;
 ghost use mathlib.Core.Path.{_≡_};
-ghost use Rattle.paper.specs.Calls.{enter as enter-call, list as list-call};
+ghost use Rattle.paper.specs.Calls.{list as list-call};
+ghost use Rattle.paper.specs.Direct.{typed};
 ghost use Rattle.editor_edit.specs.States.{state};
 ghost use Rattle.editor_list.specs.Answers.{listed};
 ghost use Rattle.editor_lent.specs.Answers.{answered};
@@ -23,11 +24,12 @@ pub fn enter_lent(
     names: &mut [u8],
     values: &mut [u8],
     store: &mut [u8],
+    line: &mut [u8],
     e: &mut Editor,
 ) -> Answer
-    ensures { λ r. ⌜ answered r (now (names .exit)) (now (values .exit)) (now (store .exit)) (now (e .exit)) ≡ enter-call (now (text .entry)) (state (now (names .entry)) (now (values .entry)) (now (store .entry)) (now (e .entry))) ⌝ }
+    ensures { λ r. ⌜ answered r (now (names .exit)) (now (values .exit)) (now (store .exit)) (now (line .exit)) (now (e .exit)) ≡ typed (now (text .entry)) (state (now (names .entry)) (now (values .entry)) (now (store .entry)) (now (e .entry))) (now (line .entry)) ⌝ }
 {
-    let r = enter(text, names, values, store, *e);
+    let r = enter(text, names, values, store, line, *e);
     *e = r.editor;
     Answer {
         number: r.number,

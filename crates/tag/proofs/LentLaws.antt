@@ -1,4 +1,4 @@
--- Numbers put one after the other, and the two calls where the record has all its counts and where it lacks one.
+-- Numbers put one after the other, and the calls that are lent a record where the record has all its counts and where it lacks one.
 use Prim.Native.Nat.{ℕ, _≤_, _<_}
 use mathlib.Core.Path.{_≡_, sym, ap, _∙_}
 use mathlib.Core.Bool.{Bool}
@@ -8,12 +8,13 @@ use lib.Seq.{sets}
 use borrow.Author.Tests.{lt-ltb, le-ltb}
 use Rattle.paper.specs.Bytes.{pick}
 use Rattle.paper.specs.Items.{no-span}
-use Rattle.paper.specs.Calls.{refusal, not-listed, enter, list}
-use Rattle.paper.specs.Calls.{Entered as Outcome, Listed as Written-out}
+use Rattle.paper.specs.Calls.{refusal, not-listed, list}
+use Rattle.paper.specs.Calls.{Listed as Written-out}
+use Rattle.paper.specs.Direct.{Typed, line-kept, typed}
 use Rattle.editor_edit.specs.declared.Editor.{Editor}
 use Rattle.editor_edit.specs.declared.Entered.{Entered}
 use Rattle.editor_list.specs.declared.Listed.{Listed}
-use Rattle.editor_edit.specs.States.{state, entered, refusing}
+use Rattle.editor_edit.specs.States.{state, typed-outcome, refusing}
 use Rattle.editor_list.specs.Answers.{unlisted, listed}
 use Rattle.tag.specs.Lent.{editor-of, counts, entered-numbers, listed-numbers, enter-by-counts, list-by-counts, Leaves, Lists}
 
@@ -37,21 +38,21 @@ pub read-so : (r : List ℕ) (b n u l g : ℕ) → b ≡ getD r 0 0 → n ≡ ge
     → _≡_ {A = Editor} (record { «name_bytes» = b; «name_count» = n; used = u; lines = l; greatest = g }) (editor-of r)
 read-so r b n u l g e₁ e₂ e₃ e₄ e₅ = rw (e₁, e₂, e₃, e₄, e₅)
 
-module _ (text names values store r : List ℕ) (e : Editor) (so : e ≡ editor-of r) where
+module _ (text names values store line r : List ℕ) (e : Editor) (so : e ≡ editor-of r) where
   -- a record that lacks a count
-  pub enter-lacking : (x : Entered) → x ≡ refusing 1 no-span e → length r < 5 → entered x names values store ≡ enter-by-counts text names values store r
-  unfolding refusal
+  pub enter-lacking : (x : Entered) → x ≡ refusing 1 no-span e → length r < 5 → typed-outcome x names values store line ≡ enter-by-counts text names values store line r
+  unfolding line-kept refusal
   enter-lacking x given h =
-      ap (λ (y : Entered). entered y names values store) given
-      ∙ ap (λ (y : Editor). refusal 1 no-span (state names values store y)) so
-      ∙ ap (λ (t : Bool). pick t (refusal 1 no-span (state names values store (editor-of r))) (enter text (state names values store (editor-of r)))) (sym (lt-ltb (length r) 5 h))
+      ap (λ (y : Entered). typed-outcome y names values store line) given
+      ∙ ap (λ (y : Editor). line-kept line (refusal 1 no-span (state names values store y))) so
+      ∙ ap (λ (t : Bool). pick t (line-kept line (refusal 1 no-span (state names values store (editor-of r)))) (typed text (state names values store (editor-of r)) line)) (sym (lt-ltb (length r) 5 h))
 
   -- a record that has them all
-  pub enter-counted : (o : Outcome) → 5 ≤ length r → o ≡ enter text (state names values store e) → o ≡ enter-by-counts text names values store r
+  pub enter-counted : (o : Typed) → 5 ≤ length r → o ≡ typed text (state names values store e) line → o ≡ enter-by-counts text names values store line r
   enter-counted o h given =
       given
-      ∙ ap (λ (x : Editor). enter text (state names values store x)) so
-      ∙ ap (λ (t : Bool). pick t (refusal 1 no-span (state names values store (editor-of r))) (enter text (state names values store (editor-of r)))) (sym (le-ltb (length r) 5 h))
+      ∙ ap (λ (x : Editor). typed text (state names values store x) line) so
+      ∙ ap (λ (t : Bool). pick t (line-kept line (refusal 1 no-span (state names values store (editor-of r)))) (typed text (state names values store (editor-of r)) line)) (sym (le-ltb (length r) 5 h))
 
 module _ (line : ℕ) (names values store r output : List ℕ) where
   -- a record that lacks a count
@@ -70,14 +71,16 @@ module _ (line : ℕ) (names values store r output : List ℕ) where
       ∙ ap (λ (t : Bool). pick t (not-listed 1 output) (list line (state names values store (editor-of r)) output)) (sym (le-ltb (length r) 5 h))
 
 -- what entering leaves
-pub leaves-so : (o : Outcome) (x : Entered) (r a names values store r′ a′ : List ℕ) → entered x names values store ≡ o
-    → r′ ≡ sets r 0 (counts ((entered x names values store) .after)) → a′ ≡ sets a 0 (entered-numbers (entered x names values store)) → Leaves o r a names values store r′ a′
-leaves-so o x r a names values store r′ a′ e p q = record {
-  names-so = ap (λ (y : Outcome). y .after .names) e;
-  values-so = ap (λ (y : Outcome). y .after .values) e;
-  store-so = ap (λ (y : Outcome). y .after .store) e;
-  record-so = p ∙ ap (λ (y : Outcome). sets r 0 (counts (y .after))) e;
-  answer-so = q ∙ ap (λ (y : Outcome). sets a 0 (entered-numbers y)) e;
+pub leaves-so : (o : Typed) (x : Entered) (r a names values store line r′ a′ : List ℕ) → typed-outcome x names values store line ≡ o
+    → r′ ≡ sets r 0 (counts ((typed-outcome x names values store line) .entered .after)) → a′ ≡ sets a 0 (entered-numbers ((typed-outcome x names values store line) .entered))
+    → Leaves o r a names values store line r′ a′
+leaves-so o x r a names values store line r′ a′ e p q = record {
+  names-so = ap (λ (y : Typed). y .entered .after .names) e;
+  values-so = ap (λ (y : Typed). y .entered .after .values) e;
+  store-so = ap (λ (y : Typed). y .entered .after .store) e;
+  line-so = ap (λ (y : Typed). y .line) e;
+  record-so = p ∙ ap (λ (y : Typed). sets r 0 (counts (y .entered .after))) e;
+  answer-so = q ∙ ap (λ (y : Typed). sets a 0 (entered-numbers (y .entered))) e;
 }
 
 -- what listing leaves

@@ -1,4 +1,4 @@
--- The lent slices as a state of `paper`, and what the two calls leave in them.
+-- The lent slices as a state of `paper`, and what the calls leave in them.
 use Prim.Native.Nat.{ℕ}
 use mathlib.Core.Path.{_≡_, refl}
 use mathlib.Core.List.{List, [], _∷_}
@@ -7,8 +7,9 @@ use lib.ListN.{length, getD}
 use lib.Seq.{sets}
 use Rattle.paper.specs.Bytes.{pick}
 use Rattle.paper.specs.Items.{no-span}
-use Rattle.paper.specs.Calls.{State, refusal, not-listed, enter, list}
+use Rattle.paper.specs.Calls.{State, refusal, not-listed, list}
 use Rattle.paper.specs.Calls.{Entered as Outcome, Listed as Written-out}
+use Rattle.paper.specs.Direct.{Typed, line-kept, typed}
 use Rattle.editor_edit.specs.declared.Editor.{Editor}
 use Rattle.editor_edit.specs.States.{state}
 
@@ -29,24 +30,25 @@ abbrev pub listed-numbers : Written-out → List ℕ
 listed-numbers o = o .number ∷ o .written ∷ []
 
 -- a text entered: a record that lacks a count is refused with 1
-abbrev pub enter-by-counts : List ℕ → List ℕ → List ℕ → List ℕ → List ℕ → Outcome
-enter-by-counts text names values store r =
+abbrev pub enter-by-counts : List ℕ → List ℕ → List ℕ → List ℕ → List ℕ → List ℕ → Typed
+enter-by-counts text names values store line r =
     let s = state names values store (editor-of r) in
-    pick (ltb (length r) 5) (refusal 1 no-span s) (enter text s)
+    pick (ltb (length r) 5) (line-kept line (refusal 1 no-span s)) (typed text s line)
 
 -- a line listed: a record that lacks a count is refused with 1
 abbrev pub list-by-counts : ℕ → List ℕ → List ℕ → List ℕ → List ℕ → List ℕ → Written-out
 list-by-counts line names values store r output =
     pick (ltb (length r) 5) (not-listed 1 output) (list line (state names values store (editor-of r)) output)
 
--- Entering left names, values, store, record and answer so: as the outcome says. The record's counts and the answer's numbers stand at the front,
+-- Entering left names, values, store, line buffer, record and answer so: as the outcome says. The record's counts and the answer's numbers stand at the front,
 -- as many as there is room for; what stands behind them is as it was.
-pub record Leaves (o : Outcome) (r a names values store r′ a′ : List ℕ) : Type 0 where
-  pub names-so : names ≡ o .after .names
-  pub values-so : values ≡ o .after .values
-  pub store-so : store ≡ o .after .store
-  pub record-so : r′ ≡ sets r 0 (counts (o .after))
-  pub answer-so : a′ ≡ sets a 0 (entered-numbers o)
+pub record Leaves (o : Typed) (r a names values store line r′ a′ : List ℕ) : Type 0 where
+  pub names-so : names ≡ o .entered .after .names
+  pub values-so : values ≡ o .entered .after .values
+  pub store-so : store ≡ o .entered .after .store
+  pub line-so : line ≡ o .line
+  pub record-so : r′ ≡ sets r 0 (counts (o .entered .after))
+  pub answer-so : a′ ≡ sets a 0 (entered-numbers (o .entered))
 
 -- Listing left the output buffer and the answer so.
 pub record Lists (o : Written-out) (a output a′ : List ℕ) : Type 0 where

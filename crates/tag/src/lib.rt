@@ -1,4 +1,4 @@
-// The two calls for programs in C, over numbers and lent slices, as include/virgontey.h declares them.
+// The calls for programs in C, over numbers and lent slices, as include/virgontey.h declares them.
 use editor_edit::Editor;
 use editor_edit::Entered;
 use editor_edit::refused;
@@ -8,7 +8,8 @@ ghost use mathlib.Core.Path.{_≡_};
 ghost use mathlib.Core.List.{[], _∷_};
 ghost use lib.ListN.{getD, set};
 ghost use lib.Seq.{sets};
-ghost use Rattle.editor_edit.specs.States.{entered};
+ghost use Rattle.paper.specs.Direct.{show};
+ghost use Rattle.editor_edit.specs.States.{typed-outcome};
 ghost use Rattle.editor_list.specs.Answers.{listed};
 ghost use Rattle.tag.specs.Lent.{editor-of, enter-by-counts, list-by-counts, Leaves, Lists};
 
@@ -81,15 +82,16 @@ fn enter_by_counts(
     names: &mut [u8],
     values: &mut [u8],
     store: &mut [u8],
+    line: &mut [u8],
     record: &[usize],
 ) -> Entered
-    ensures { λ r. ⌜ entered r (now (names .exit)) (now (values .exit)) (now (store .exit)) ≡ enter-by-counts (now (text .entry)) (now (names .entry)) (now (values .entry)) (now (store .entry)) (now («record» .entry)) ⌝ }
+    ensures { λ r. ⌜ typed-outcome r (now (names .exit)) (now (values .exit)) (now (store .exit)) (now (line .exit)) ≡ enter-by-counts (now (text .entry)) (now (names .entry)) (now (values .entry)) (now (store .entry)) (now (line .entry)) (now («record» .entry)) ⌝ }
 {
     let e = read_record(record);
     if record.len() < COUNTS {
         return refused(1, e);
     }
-    editor::enter(text, names, values, store, e)
+    editor::enter(text, names, values, store, line, e)
 }
 
 // Lists a line, or refuses with 1 where the record lacks a count.
@@ -116,12 +118,13 @@ pub extern "C" fn virgontey_enter(
     names: &mut [u8],
     values: &mut [u8],
     store: &mut [u8],
+    line: &mut [u8],
     record: &mut [usize],
     answer: &mut [usize],
 )
-    ensures { λ _. ⌜ Leaves (enter-by-counts (now (text .entry)) (now (names .entry)) (now (values .entry)) (now (store .entry)) (now («record» .entry))) (now («record» .entry)) (now (answer .entry)) (now (names .exit)) (now (values .exit)) (now (store .exit)) (now («record» .exit)) (now (answer .exit)) ⌝ }
+    ensures { λ _. ⌜ Leaves (enter-by-counts (now (text .entry)) (now (names .entry)) (now (values .entry)) (now (store .entry)) (now (line .entry)) (now («record» .entry))) (now («record» .entry)) (now (answer .entry)) (now (names .exit)) (now (values .exit)) (now (store .exit)) (now (line .exit)) (now («record» .exit)) (now (answer .exit)) ⌝ }
 {
-    let r = enter_by_counts(text, names, values, store, record);
+    let r = enter_by_counts(text, names, values, store, line, record);
     write_record(record, r.editor);
     write_entered(answer, r);
 }
@@ -140,5 +143,22 @@ pub extern "C" fn virgontey_list(
     ensures { λ _. ⌜ Lists (list-by-counts line (now (names .entry)) (now (values .entry)) (now (store .entry)) (now («record» .entry)) (now (out .entry))) (now (answer .entry)) (now (out .exit)) (now (answer .exit)) ⌝ }
 {
     let r = list_by_counts(line, names, values, store, record, out);
+    write_listed(answer, r);
+}
+
+// Lists the line in a line buffer, and writes the answer.
+#[no_mangle]
+pub extern "C" fn virgontey_show(
+    line: &[u8],
+    names: &[u8],
+    name_bytes: usize,
+    name_count: usize,
+    values: &[u8],
+    out: &mut [u8],
+    answer: &mut [usize],
+)
+    ensures { λ _. ⌜ Lists (show (now (line .entry)) (now (names .entry)) «name_bytes» «name_count» (now (values .entry)) (now (out .entry))) (now (answer .entry)) (now (out .exit)) (now (answer .exit)) ⌝ }
+{
+    let r = editor::show(line, names, name_bytes, name_count, values, out);
     write_listed(answer, r);
 }

@@ -6,11 +6,11 @@ use Rattle.calls.proofs.answer_all.Statement.{statement}
 use Rattle.calls.proofs.answer_all.Tie as tie
 
 abbrev Inv-loop : tie.InvT-loop
-Inv-loop buffer₀ line₀ text₀ names₀ values₀ store₀ out₀ input₀ turns₀ buffer line text names values store out input turns =
-    (length buffer ≡ length buffer₀) × (length line ≡ length line₀) × (length text ≡ length text₀) × (length names ≡ length names₀) × (length values ≡ length values₀) × (length store ≡ length store₀) × (length out ≡ length out₀)
+Inv-loop buffer₀ line₀ text₀ names₀ values₀ store₀ direct₀ out₀ input₀ turns₀ buffer line text names values store direct out input turns =
+    (length buffer ≡ length buffer₀) × (length line ≡ length line₀) × (length text ≡ length text₀) × (length names ≡ length names₀) × (length values ≡ length values₀) × (length store ≡ length store₀) × (length direct ≡ length direct₀) × (length out ≡ length out₀)
 
 abbrev μ-loop : tie.MeasureT-loop
-μ-loop buffer₀ line₀ text₀ names₀ values₀ store₀ out₀ input₀ turns₀ buffer line text names values store out input turns =
+μ-loop buffer₀ line₀ text₀ names₀ values₀ store₀ direct₀ out₀ input₀ turns₀ buffer line text names values store direct out input turns =
     turns
 
 pub answer-all-spec : {M : Type 1} → statement M
@@ -30,8 +30,10 @@ answer-all-spec =
     (λ c. search needs)
     (λ c. search needs)
     (λ c. search needs)
+    (λ c. search needs)
     (λ c κs. search needs)
     (λ c κs. search needs)
+    (λ c. search needs)
     (λ c. search needs)
     (λ c. search needs)
     (λ c. search needs)

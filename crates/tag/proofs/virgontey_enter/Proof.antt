@@ -27,8 +27,11 @@ same-length-4 c = search needs
 same-length-5 : tie.Need-same-length-5
 same-length-5 c = search needs
 
+same-length-6 : tie.Need-same-length-6
+same-length-6 c = search needs
+
 returns : tie.Need-returns
-returns c = leaves-so _ _ _ _ _ _ _ _ _ (c .before .before .before .before .before .before .before .before .before .before .before .before .before .before .enter-by-counts .ensures) (c .before .before .before .before .before .before .write-record .ensures) (c .before .before .write-entered .ensures)
+returns c = leaves-so _ _ _ _ _ _ _ _ _ _ (c .before .before .before .before .before .before .before .before .before .before .before .before .before .before .before .before .enter-by-counts .ensures) (c .before .before .before .before .before .before .write-record .ensures) (c .before .before .write-entered .ensures)
 
 pub virgontey-enter-spec : {M : Type 1} → statement M
 virgontey-enter-spec =
@@ -42,4 +45,5 @@ virgontey-enter-spec =
     same-length-3
     same-length-4
     same-length-5
+    same-length-6
     returns)
