@@ -9,6 +9,7 @@ pub const MOST_TEXT: usize = 4096;
 pub const MOST_NAMES: usize = 8192;
 pub const MOST_VALUES: usize = 4096;
 pub const MOST_STORE: usize = 70_000;
+pub const MOST_LINE: usize = 4096;
 pub const MOST_OUT: usize = 65_536;
 /// Numbers are below this.
 const NUMBER_BOUND: u64 = 1 << 63;
@@ -22,18 +23,50 @@ pub struct Tables {
     pub record: Record,
 }
 
+/// A name table with its counts, for a call that is lent no record.
+#[derive(Clone, PartialEq, Eq, Debug, Default)]
+pub struct Names {
+    pub table: Vec<u8>,
+    pub bytes: usize,
+    pub count: usize,
+}
+
 /// One call.
 #[derive(Clone, PartialEq, Eq, Debug)]
 pub enum Call {
     Enter {
         text: Vec<u8>,
         tables: Tables,
+        line: Vec<u8>,
     },
     List {
-        line: usize,
+        number: usize,
         tables: Tables,
         out: Vec<u8>,
     },
+    Show {
+        line: Vec<u8>,
+        names: Names,
+        values: Vec<u8>,
+        out: Vec<u8>,
+    },
+}
+
+impl Call {
+    /// What kind of answer it gets.
+    pub fn kind(&self) -> Kind {
+        match self {
+            Call::Enter { .. } => Kind::Enter,
+            Call::List { .. } | Call::Show { .. } => Kind::List,
+        }
+    }
+}
+
+/// The kinds of answer.
+#[derive(Clone, Copy, PartialEq, Eq, Debug)]
+pub enum Kind {
+    Enter,
+    List,
 }
 
 /// What a call answers and leaves, whole.
@@ -46,6 +79,7 @@ pub enum Answer {
         added: usize,
         used: usize,
         tables: Tables,
+        line: Vec<u8>,
     },
     List {
         number: usize,
@@ -70,13 +104,30 @@ pub fn read_call(line: &[u8]) -> Option<Call> {
         b"enter" => {
             let text = fields.bytes(MOST_TEXT)?;
             let tables = fields.tables()?;
-            Call::Enter { text, tables }
+            let line = fields.bytes(MOST_LINE)?;
+            Call::Enter { text, tables, line }
         }
         b"list" => {
-            let line = fields.number()?;
+            let number = fields.number()?;
             let tables = fields.tables()?;
             let out = fields.bytes(MOST_OUT)?;
-            Call::List { line, tables, out }
+            Call::List {
+                number,
+                tables,
+                out,
+            }
+        }
+        b"show" => {
+            let line = fields.bytes(MOST_LINE)?;
+            let names = fields.names()?;
+            let values = fields.bytes(MOST_VALUES)?;
+            let out = fields.bytes(MOST_OUT)?;
+            Call::Show {
+                line,
+                names,
+                values,
+                out,
+            }
         }
         _ => return None,
     };
@@ -85,72 +136,72 @@ pub fn read_call(line: &[u8]) -> Option<Call> {
 
 /// Writes a call as a line, without its end.
 pub fn write_call(call: &Call) -> Vec<u8> {
-    let mut line = Line::default();
+    let mut row = Row::default();
     match call {
-        Call::Enter { text, tables } => {
-            line.word("enter");
-            line.bytes(text);
-            line.tables(tables);
+        Call::Enter { text, tables, line } => {
+            row.word("enter");
+            row.bytes(text);
+            row.tables(tables);
+            row.bytes(line);
         }
         Call::List {
-            line: number,
+            number,
             tables,
             out,
         } => {
-            line.word("list");
-            line.number(*number);
-            line.tables(tables);
-            line.bytes(out);
+            row.word("list");
+            row.number(*number);
+            row.tables(tables);
+            row.bytes(out);
+        }
+        Call::Show {
+            line,
+            names,
+            values,
+            out,
+        } => {
+            row.word("show");
+            row.bytes(line);
+            row.names(&names.table, names.bytes, names.count);
+            row.bytes(values);
+            row.bytes(out);
         }
     }
-    line.text
+    row.text
 }
 
-/// Reads a line as the answer to a call of this kind; None: it is no such answer.
-pub fn read_answer(line: &[u8], to_enter: bool) -> Option<Answer> {
+/// Reads a line as an answer of this kind; None: it is no such answer.
+pub fn read_answer(line: &[u8], kind: Kind) -> Option<Answer> {
     let mut fields = Fields::new(line);
     let number = fields.number()?;
-    let answer = if to_enter {
-        let place = fields.number()?;
-        let end = fields.number()?;
-        let added = fields.number()?;
-        let used = fields.number()?;
-        let lines = fields.number()?;
-        let greatest = fields.number()?;
-        let name_bytes = fields.number()?;
-        let name_count = fields.number()?;
-        Answer::Enter {
-            number,
-            place,
-            end,
-            added,
-            used,
-            tables: Tables {
-                names: fields.bytes(MOST_NAMES)?,
-                values: fields.bytes(MOST_VALUES)?,
-                store: fields.bytes(MOST_STORE)?,
-                record: Record {
-                    name_bytes,
-                    name_count,
-                    used,
-                    lines,
-                    greatest,
-                },
-            },
+    let answer = match kind {
+        Kind::Enter => {
+            let place = fields.number()?;
+            let end = fields.number()?;
+            let added = fields.number()?;
+            let tables = fields.tables_after()?;
+            Answer::Enter {
+                number,
+                place,
+                end,
+                added,
+                used: tables.record.used,
+                tables,
+                line: fields.bytes(MOST_LINE)?,
+            }
         }
-    } else {
-        Answer::List {
+        Kind::List => Answer::List {
             number,
             written: fields.number()?,
             out: fields.bytes(MOST_OUT)?,
-        }
+        },
     };
     fields.at_end().then_some(answer)
 }
 
 /// Writes an answer as a line, without its end.
 pub fn write_answer(answer: &Answer) -> Vec<u8> {
-    let mut line = Line::default();
+    let mut row = Row::default();
     match answer {
         Answer::Enter {
             number,
@@ -159,42 +210,42 @@ pub fn write_answer(answer: &Answer) -> Vec<u8> {
             added,
             used,
             tables,
+            line,
         } => {
-            line.number(*number);
-            line.number(*place);
-            line.number(*end);
-            line.number(*added);
-            line.number(*used);
-            line.number(tables.record.lines);
-            line.number(tables.record.greatest);
-            line.number(tables.record.name_bytes);
-            line.number(tables.record.name_count);
-            line.bytes(&tables.names);
-            line.bytes(&tables.values);
-            line.bytes(&tables.store);
+            row.number(*number);
+            row.number(*place);
+            row.number(*end);
+            row.number(*added);
+            row.tables_after(*used, tables);
+            row.bytes(line);
         }
         Answer::List {
             number,
             written,
             out,
         } => {
-            line.number(*number);
-            line.number(*written);
-            line.bytes(out);
+            row.number(*number);
+            row.number(*written);
+            row.bytes(out);
         }
     }
-    line.text
+    row.text
 }
 
 /// Runs a call on the reference.
 pub fn run_reference(call: Call) -> Answer {
     match call {
-        Call::Enter { text, mut tables } => {
+        Call::Enter {
+            text,
+            mut tables,
+            mut line,
+        } => {
             let answer = reference::enter(
                 &text,
                 &mut tables.names,
                 &mut tables.values,
                 &mut tables.store,
+                &mut line,
                 &mut tables.record,
             );
             Answer::Enter {
@@ -204,19 +255,40 @@ pub fn run_reference(call: Call) -> Answer {
                 added: answer.added,
                 used: answer.used,
                 tables,
+                line,
             }
         }
         Call::List {
-            line,
+            number,
             tables,
             mut out,
         } => {
             let answer = reference::list(
-                line,
+                number,
                 &tables.names,
                 &tables.values,
                 &tables.store,
                 &tables.record,
+                &mut out,
+            );
+            Answer::List {
+                number: answer.number,
+                written: answer.written,
+                out,
+            }
+        }
+        Call::Show {
+            line,
+            names,
+            values,
+            mut out,
+        } => {
+            let answer = reference::show(
+                &line,
+                &names.table,
+                names.bytes,
+                names.count,
+                &values,
                 &mut out,
             );
             Answer::List {
@@ -301,27 +373,49 @@ impl<'a> Fields<'a> {
             .collect()
     }
 
-    /// Takes the fields of tables and store.
+    /// Takes the fields of a name table.
+    fn names(&mut self) -> Option<Names> {
+        Some(Names {
+            table: self.bytes(MOST_NAMES)?,
+            bytes: self.number()?,
+            count: self.number()?,
+        })
+    }
+
+    /// Takes the fields of tables and store, as a call has them.
     fn tables(&mut self) -> Option<Tables> {
-        let names = self.bytes(MOST_NAMES)?;
-        let name_bytes = self.number()?;
-        let name_count = self.number()?;
+        let names = self.names()?;
         let values = self.bytes(MOST_VALUES)?;
         let store = self.bytes(MOST_STORE)?;
-        let used = self.number()?;
-        let lines = self.number()?;
-        let greatest = self.number()?;
+        let record = Record {
+            name_bytes: names.bytes,
+            name_count: names.count,
+            used: self.number()?,
+            lines: self.number()?,
+            greatest: self.number()?,
+        };
         Some(Tables {
-            names,
+            names: names.table,
             values,
             store,
-            record: Record {
-                name_bytes,
-                name_count,
-                used,
-                lines,
-                greatest,
-            },
+            record,
+        })
+    }
+
+    /// Takes the fields of tables and store, as an answer has them.
+    fn tables_after(&mut self) -> Option<Tables> {
+        let record = Record {
+            used: self.number()?,
+            lines: self.number()?,
+            greatest: self.number()?,
+            name_bytes: self.number()?,
+            name_count: self.number()?,
+        };
+        Some(Tables {
+            names: self.bytes(MOST_NAMES)?,
+            values: self.bytes(MOST_VALUES)?,
+            store: self.bytes(MOST_STORE)?,
+            record,
         })
     }
 }
@@ -337,11 +431,11 @@ fn hex_digit(byte: u8) -> Option<u8> {
 
 /// A line as it is written, field by field.
 #[derive(Default)]
-struct Line {
+struct Row {
     text: Vec<u8>,
 }
 
-impl Line {
+impl Row {
     /// Adds the blank before a field that is not the first.
     fn part(&mut self) {
         if !self.text.is_empty() {
@@ -370,15 +464,34 @@ impl Line {
         }
     }
 
+    fn names(&mut self, table: &[u8], bytes: usize, count: usize) {
+        self.bytes(table);
+        self.number(bytes);
+        self.number(count);
+    }
+
+    /// Tables and store, as a call has them.
     fn tables(&mut self, tables: &Tables) {
-        self.bytes(&tables.names);
-        self.number(tables.record.name_bytes);
-        self.number(tables.record.name_count);
+        let record = &tables.record;
+        self.names(&tables.names, record.name_bytes, record.name_count);
         self.bytes(&tables.values);
         self.bytes(&tables.store);
-        self.number(tables.record.used);
-        self.number(tables.record.lines);
-        self.number(tables.record.greatest);
+        self.number(record.used);
+        self.number(record.lines);
+        self.number(record.greatest);
+    }
+
+    /// Bytes used, tables and store, as an answer has them.
+    fn tables_after(&mut self, used: usize, tables: &Tables) {
+        let record = &tables.record;
+        self.number(used);
+        self.number(record.lines);
+        self.number(record.greatest);
+        self.number(record.name_bytes);
+        self.number(record.name_count);
+        self.bytes(&tables.names);
+        self.bytes(&tables.values);
+        self.bytes(&tables.store);
     }
 }
 
@@ -388,61 +501,94 @@ mod tests {
 
     #[test]
     fn lines_that_are_no_call() {
-        let bad: [&[u8]; 21] = [
+        let bad: [&[u8]; 28] = [
             b"",
             b" ",
             b"enter",
-            b"Enter 31 - 0 0 - - 0 0 0",
-            b"enter 3 - 0 0 - - 0 0 0",
-            b"enter 3g - 0 0 - - 0 0 0",
-            b"enter 3A - 0 0 - - 0 0 0",
-            b"enter  - 0 0 - - 0 0 0",
+            b"Enter 31 - 0 0 - - 0 0 0 -",
+            b"enter 3 - 0 0 - - 0 0 0 -",
+            b"enter 3g - 0 0 - - 0 0 0 -",
+            b"enter 3A - 0 0 - - 0 0 0 -",
+            b"enter  - 0 0 - - 0 0 0 -",
+            b"enter 31 - 0 0 - - 0 0 0",
             b"enter 31 - 0 0 - - 0 0 0 ",
             b"enter 31 - 0 0 - - 0 0 0 0",
-            b"enter 31 - 0 0 - - 0",
-            b"enter 31 - 0 0 - - 0 0",
-            b"enter 31 - 0 0 - - 9223372036854775808 0 0",
-            b"enter 31 - 0 0 - - 0 0 9223372036854775808",
-            b"enter 31 - 0 0 - - +1 0 0",
-            b"enter 31 - 0 0 - - - 0 0",
-            b"enter 31 - 0 0 - - 0 - 0",
+            b"enter 31 - 0 0 - - 0 0 0 - -",
+            b"enter 31 - 0 0 - - 0 -",
+            b"enter 31 - 0 0 - - 0 0 -",
+            b"enter 31 - 0 0 - - 9223372036854775808 0 0 -",
+            b"enter 31 - 0 0 - - 0 0 9223372036854775808 -",
+            b"enter 31 - 0 0 - - +1 0 0 -",
+            b"enter 31 - 0 0 - - - 0 0 -",
+            b"enter 31 - 0 0 - - 0 - 0 -",
             b"list 1 - 0 0 - - 0 -",
             b"list 1 - 0 0 - - 0 0 0",
             b"list 1 - 0 0 - - 0 0 0 - -",
-            b"enter 31 - 0 0 - - 0 0 0\r",
+            b"enter 31 - 0 0 - - 0 0 0 -\r",
+            b"show - - 0 0 -",
+            b"show - - 0 0 - - -",
+            b"show - - 0 0 - - 0 0 0 -",
+            b"show 1 - 0 0 - -",
+            b"show 0 - 0 0 - -",
         ];
         for line in bad {
-            assert_eq!(answer_line(line), b"bad", "{line:?}");
+            assert_eq!(
+                answer_line(line),
+                b"bad",
+                "{}",
+                String::from_utf8_lossy(line)
+            );
         }
-        let mut long = b"enter ".to_vec();
-        long.extend_from_slice(&b"30".repeat(MOST_TEXT + 1));
-        long.extend_from_slice(b" - 0 0 - - 0 0 0");
-        assert_eq!(answer_line(&long), b"bad");
+        let long_text = ["enter ", &"30".repeat(MOST_TEXT + 1), " - 0 0 - - 0 0 0 -"];
+        let long_line = ["show ", &"30".repeat(MOST_LINE + 1), " - 0 0 - -"];
+        for long in [long_text, long_line] {
+            assert_eq!(answer_line(long.concat().as_bytes()), b"bad");
+        }
+    }
+
+    /// A call gets this answer.
+    #[track_caller]
+    fn answers(call: &str, answer: &str) {
+        let found = answer_line(call.as_bytes());
+        assert_eq!(String::from_utf8_lossy(&found), answer, "{call}");
     }
 
     #[test]
     fn calls_are_answered() {
-        let answer = answer_line(b"enter 313020454e44 - 0 0 - 00000000000000 0 0 0");
-        assert_eq!(answer, b"0 0 0 0 6 1 10 0 0 - - 0a000606151600");
-        let answer = answer_line(b"enter 3130 - 0 0 - 0a0006061516 6 1 11");
-        assert_eq!(answer, b"1 0 0 0 6 1 11 0 0 - - 0a0006061516");
-        let answer = answer_line(b"list 10 - 0 0 - 0a0006061516 6 1 10 ffffffffffffffff");
-        assert_eq!(answer, b"0 7 313020454e4420ff");
-        let answer = answer_line(b"list 9223372036854775807 - 0 0 - - 0 0 0 -");
-        assert_eq!(answer, b"9 0 -");
+        answers(
+            "enter 313020454e44 - 0 0 - 00000000000000 0 0 0 ff",
+            "0 0 0 0 6 1 10 0 0 - - 0a000606151600 ff",
+        );
+        answers(
+            "enter 3130 - 0 0 - 0a0006061516 6 1 11 -",
+            "1 0 0 0 6 1 11 0 0 - - 0a0006061516 -",
+        );
+        answers(
+            "enter 454e44 - 0 0 - 0a0006061516 6 1 10 ffffffffffffff",
+            "0 0 0 0 6 1 10 0 0 - - 0a0006061516 008006061516ff",
+        );
+        answers(
+            "list 10 - 0 0 - 0a0006061516 6 1 10 ffffffffffffffff",
+            "0 7 313020454e4420ff",
+        );
+        answers("list 9223372036854775807 - 0 0 - - 0 0 0 -", "9 0 -");
+        answers("show 008006061516ff - 0 0 - ffffffffff", "0 4 454e4420ff");
+        answers("show - - 1 0 - -", "1 0 -");
     }
 
     #[test]
     fn written_calls_and_answers_are_read_back() {
-        let line = b"list 10 c1 1 1 0000000000000000 0a0006061516 6 1 10 ff";
-        let call = read_call(line).unwrap();
-        assert_eq!(write_call(&call), line);
-        let answer = run_reference(call);
-        assert_eq!(read_answer(&write_answer(&answer), false), Some(answer));
-        let line = b"enter 313020413d31 ff 0 0 ffffffffffffffff - 0 2 3";
-        let call = read_call(line).unwrap();
-        assert_eq!(write_call(&call), line);
-        let answer = run_reference(call);
-        assert_eq!(read_answer(&write_answer(&answer), true), Some(answer));
+        for line in [
+            "list 10 c1 1 1 0000000000000000 0a0006061516 6 1 10 ff",
+            "enter 313020413d31 ff 0 0 ffffffffffffffff - 0 2 3 -",
+            "enter 413d31 ff 0 0 ffffffffffffffff - 0 0 0 ffffffffffffffffffffffffffffffff",
+            "show 0080060615160a c1 1 1 0000000000000000 ffffff",
+        ] {
+            let call = read_call(line.as_bytes()).unwrap();
+            assert_eq!(write_call(&call), line.as_bytes());
+            let kind = call.kind();
+            let answer = run_reference(call);
+            assert_eq!(read_answer(&write_answer(&answer), kind), Some(answer));
+        }
     }
 }

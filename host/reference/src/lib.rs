@@ -1,6 +1,7 @@
 //! Document 01 in plain Rust, with the requests of document 02 that have landed: the entry of a
-//! numbered text line into a store of token lines, and the listing of a stored line. Written from the
-//! documents alone, to be compared with the proved library. No heap, no unsafe code.
+//! numbered text line into a store of token lines, or of one without a number into a line buffer, and
+//! the listing of either. Written from the documents alone, to be compared with the proved library. No
+//! heap, no unsafe code.
 
 #![cfg_attr(not(test), no_std)]
 #![forbid(unsafe_code)]
@@ -13,9 +14,9 @@ mod translate;
 mod words;
 
 use listing::{spell_line, well_formed, Count, Write};
-use tables::{find_line, store_room, values_sound, walk_store, Names, Place, Variable, Walk};
-use tables::{MOST_NAMES, VALUE_SIZE};
-use translate::{read_line_number, translate, NewNames, Translation, LONGEST_LINE, LONGEST_TEXT};
+use tables::{find_line, line_length, line_number, store_room, values_sound, walk_store};
+use tables::{Names, Place, Variable, Walk, DIRECT_LINE, MOST_NAMES, SHORTEST_LINE, VALUE_SIZE};
+use translate::{read_head, translate, Head, NewNames, Translation, LONGEST_LINE, LONGEST_TEXT};
 
 /// The counts that go with the three buffers. All are 0 for an empty program.
 #[derive(Clone, Copy, PartialEq, Eq, Debug, Default)]
@@ -49,15 +50,20 @@ pub struct ListAnswer {
     pub written: usize,
 }
 
-/// Enters a text: inserts, replaces or deletes a line. The record is updated if it is accepted.
+/// A refusal, its place and that place's end.
+type Refused = (usize, usize, usize);
+
+/// Enters a text: inserts, replaces or deletes a line, or puts a text without a number into the line
+/// buffer. The record is updated if it is accepted.
 pub fn enter(
     text: &[u8],
     names: &mut [u8],
     values: &mut [u8],
     store: &mut [u8],
+    line: &mut [u8],
     record: &mut Record,
 ) -> EnterAnswer {
-    match enter_or_refuse(text, names, values, store, record) {
+    match enter_or_refuse(text, names, values, store, line, record) {
         Ok(added) => EnterAnswer {
             number: 0,
             place: 0,
@@ -84,52 +90,106 @@ pub fn list(
     record: &Record,
     out: &mut [u8],
 ) -> ListAnswer {
-    match list_or_refuse(number, names, values, store, record, out) {
+    listed(list_or_refuse(number, names, values, store, record, out))
+}
+
+/// Lists the line at the start of a line buffer into `out`: one that was entered without a number.
+pub fn show(
+    line: &[u8],
+    names: &[u8],
+    name_bytes: usize,
+    name_count: usize,
+    values: &[u8],
+    out: &mut [u8],
+) -> ListAnswer {
+    let answer = match sound_names(names, name_bytes, name_count, values) {
+        Some(table) => show_or_refuse(line, &table, out),
+        None => Err(1),
+    };
+    listed(answer)
+}
+
+/// The answer of a listing that wrote so many bytes, or was refused.
+fn listed(result: Result<usize, usize>) -> ListAnswer {
+    match result {
         Ok(written) => ListAnswer { number: 0, written },
         Err(number) => ListAnswer { number, written: 0 },
     }
 }
 
-/// Enters a text; gives the count of names added, or the refusal, its place and that place's end.
+/// Enters a text; gives the count of names added, or the refusal.
 fn enter_or_refuse(
     text: &[u8],
     names: &mut [u8],
     values: &mut [u8],
     store: &mut [u8],
+    line: &mut [u8],
     record: &mut Record,
-) -> Result<usize, (usize, usize, usize)> {
-    let table = sound_names(names, values, store, record).ok_or((1, 0, 0))?;
+) -> Result<usize, Refused> {
+    let table = sound_tables(names, values, store, record).ok_or((1, 0, 0))?;
     if text.len() > LONGEST_TEXT {
         return Err((2, 0, 0));
     }
-    let (number, number_end) = read_line_number(text).ok_or((3, 0, 0))?;
-    let place = find_line(store, record.used, number);
-
-    if items::skip_blanks(text, number_end) == text.len() {
-        if place.length == 0 {
-            return Err((9, 0, 0));
+    match read_head(text) {
+        Head::Refused => Err((3, 0, 0)),
+        Head::Unnumbered => {
+            let translation = accepted(text, 0, DIRECT_LINE, &table, names, values, record)?;
+            let new = translation.line.bytes();
+            let room = line.get_mut(..new.len()).ok_or((8, 0, 0))?;
+            room.copy_from_slice(new);
+            Ok(add_names(
+                text,
+                &translation.new_names,
+                names,
+                values,
+                record,
+            ))
         }
-        take_line(store, record, &place);
-        return Ok(0);
+        Head::Numbered { number, end } => {
+            let place = find_line(store, record.used, number);
+            if items::skip_blanks(text, end) == text.len() {
+                if place.length == 0 {
+                    return Err((9, 0, 0));
+                }
+                take_line(store, record, &place);
+                return Ok(0);
+            }
+            let translation = accepted(text, end, number, &table, names, values, record)?;
+            let new = translation.line.bytes();
+            if record.used - place.length + new.len() > store_room(store) {
+                return Err((8, 0, 0));
+            }
+            put_line(store, record, &place, number, new);
+            Ok(add_names(
+                text,
+                &translation.new_names,
+                names,
+                values,
+                record,
+            ))
+        }
     }
+}
 
-    let translation = translate(text, number_end, number, &table)
+/// Translates a text's statements, from `from` on; refusals 4 to 7.
+fn accepted(
+    text: &[u8],
+    from: usize,
+    number: usize,
+    table: &Names,
+    names: &[u8],
+    values: &[u8],
+    record: &Record,
+) -> Result<Translation, Refused> {
+    let translation = translate(text, from, number, table)
         .map_err(|refusal| (refusal.number as usize, refusal.place, refusal.end))?;
-    let Translation { line, new_names } = translation;
-    let new_bytes = new_name_bytes(text, &new_names);
-    if lacks_name_room(names, values, record, new_names.count(), new_bytes) {
+    if lacks_name_room(text, &translation.new_names, names, values, record) {
         return Err((6, 0, 0));
     }
-    if line.length() > LONGEST_LINE {
+    if translation.line.length() > LONGEST_LINE {
         return Err((7, 0, 0));
     }
-    if record.used - place.length + line.length() > store_room(store) {
-        return Err((8, 0, 0));
-    }
-
-    put_line(store, record, &place, number, line.bytes());
-    add_names(text, &new_names, names, values, record);
-    Ok(new_names.count())
+    Ok(translation)
 }
 
 /// Lists a line; gives the count of bytes written, or the refusal.
@@ -141,59 +201,78 @@ fn list_or_refuse(
     record: &Record,
     out: &mut [u8],
 ) -> Result<usize, usize> {
-    let table = sound_names(names, values, store, record).ok_or(1_usize)?;
+    let table = sound_tables(names, values, store, record).ok_or(1_usize)?;
     let place = find_line(store, record.used, number);
     if place.length == 0 {
         return Err(9);
     }
-    let line = &store[place.at..place.at + place.length];
-    if !well_formed(line, &table) {
+    list_line(&store[place.at..place.at + place.length], &table, out)
+}
+
+/// Lists the line at the start of a line buffer; gives the count of bytes written, or refusal 10 or 11.
+/// Bytes past that line are not looked at.
+fn show_or_refuse(buffer: &[u8], table: &Names, out: &mut [u8]) -> Result<usize, usize> {
+    if buffer.len() < SHORTEST_LINE || line_number(buffer, 0) != DIRECT_LINE {
+        return Err(10);
+    }
+    let line = buffer.get(..line_length(buffer, 0)).ok_or(10_usize)?;
+    list_line(line, table, out)
+}
+
+/// Lists a line; gives the count of bytes written, or refusal 10 or 11.
+fn list_line(line: &[u8], table: &Names, out: &mut [u8]) -> Result<usize, usize> {
+    if !well_formed(line, table) {
         return Err(10);
     }
     let mut count = Count(0);
-    spell_line(line, &table, &mut count);
+    spell_line(line, table, &mut count);
     if count.0 > out.len() {
         return Err(11);
     }
     let mut write = Write { out, written: 0 };
-    spell_line(line, &table, &mut write);
+    spell_line(line, table, &mut write);
     Ok(write.written)
 }
 
 /// Tests tables, store and record; gives the names if all are sound and the record agrees.
-fn sound_names<'a>(
+fn sound_tables<'a>(
     names: &'a [u8],
     values: &[u8],
     store: &[u8],
     record: &Record,
 ) -> Option<Names<'a>> {
-    let table = Names::new(names, record)?;
-    let found = walk_store(store, record.used)?;
+    let table = sound_names(names, record.name_bytes, record.name_count, values)?;
     let kept = Walk {
         lines: record.lines,
         greatest: record.greatest,
     };
-    (values_sound(values, record) && found == kept).then_some(table)
+    (walk_store(store, record.used)? == kept).then_some(table)
 }
 
-/// How many bytes of name table the new names need.
-fn new_name_bytes(text: &[u8], new_names: &NewNames) -> usize {
-    let lengths = (0..new_names.count()).map(|number| new_names.name(text, number).len());
-    lengths.sum()
+/// Tests the name table and the room for values; gives the names if both are sound.
+fn sound_names<'a>(
+    names: &'a [u8],
+    name_bytes: usize,
+    name_count: usize,
+    values: &[u8],
+) -> Option<Names<'a>> {
+    let table = Names::new(names, name_bytes, name_count)?;
+    values_sound(values, name_count).then_some(table)
 }
 
 /// Says whether new names would pass 128 or lack name or value room.
 fn lacks_name_room(
+    text: &[u8],
+    new_names: &NewNames,
     names: &[u8],
     values: &[u8],
     record: &Record,
-    new_count: usize,
-    new_bytes: usize,
 ) -> bool {
-    let count = record.name_count + new_count;
-    new_count > 0
+    let lengths = (0..new_names.count()).map(|number| new_names.name(text, number).len());
+    let count = record.name_count + new_names.count();
+    new_names.count() > 0
         && (count > MOST_NAMES
-            || record.name_bytes + new_bytes > names.len()
+            || record.name_bytes + lengths.sum::<usize>() > names.len()
             || count * VALUE_SIZE > values.len())
 }
 
@@ -224,14 +303,14 @@ fn change_bytes(store: &mut [u8], record: &mut Record, place: &Place, line: &[u8
     record.used = record.used - old + line.len();
 }
 
-/// Adds new names at the end of the tables.
+/// Adds new names at the end of the tables; gives their count.
 fn add_names(
     text: &[u8],
     new_names: &NewNames,
     names: &mut [u8],
     values: &mut [u8],
     record: &mut Record,
-) {
+) -> usize {
     for number in 0..new_names.count() {
         let name = new_names.name(text, number);
         let end = record.name_bytes + name.len();
@@ -251,4 +330,5 @@ fn add_names(
         record.name_bytes = end;
         record.name_count += 1;
     }
+    new_names.count()
 }

@@ -1,7 +1,7 @@
 //! From a token line to text: the test that it is well-formed, then its spelling.
 
 use crate::constants::{is_constant, spell_constant, Constant};
-use crate::tables::{line_number, Names, Variable};
+use crate::tables::{line_number, Names, Variable, DIRECT_LINE};
 use crate::words::{
     function, function_use, is_string_comparison, joins_terms, operator, statement, FunctionUse,
     FUNCTION_WORDS, STATEMENT_WORDS, TEXT_END, WORD_OPERATORS,
@@ -377,10 +377,14 @@ impl Sink for Write<'_> {
     }
 }
 
-/// Spells a well-formed line.
+/// Spells a well-formed line. One that was entered without a number has none, and no blank before its
+/// first statement.
 pub fn spell_line(line: &[u8], names: &Names, sink: &mut impl Sink) {
-    spell_number(line_number(line, 0), sink);
-    sink.put(b" ");
+    let number = line_number(line, 0);
+    if number != DIRECT_LINE {
+        spell_number(number, sink);
+        sink.put(b" ");
+    }
     let mut at = 3;
     while at < line.len() {
         let end = line[at] as usize;

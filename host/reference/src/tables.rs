@@ -1,12 +1,13 @@
 //! The name table, the value table and the store.
 
 use crate::words::{is_reserved, statement_token};
-use crate::Record;
 
 /// The most names a table holds.
 pub const MOST_NAMES: usize = 128;
 /// The greatest line number.
 pub const GREATEST_LINE: usize = 32767;
+/// The number of a line that was entered without one.
+pub const DIRECT_LINE: usize = 32768;
 /// The most bytes a store holds, whatever is lent.
 pub const MOST_STORE: usize = 65535;
 /// Bytes of a value entry.
@@ -42,18 +43,18 @@ pub struct Names<'a> {
 
 impl<'a> Names<'a> {
     /// Tests a name table and notes where each name starts. None: it is unsound.
-    pub fn new(lent: &'a [u8], record: &Record) -> Option<Names<'a>> {
-        if record.name_count > MOST_NAMES {
+    pub fn new(lent: &'a [u8], name_bytes: usize, name_count: usize) -> Option<Names<'a>> {
+        if name_count > MOST_NAMES {
             return None;
         }
-        let bytes = lent.get(..record.name_bytes)?;
+        let bytes = lent.get(..name_bytes)?;
         let mut names = Names {
             bytes,
             starts: [0; MOST_NAMES + 1],
             count: 0,
         };
         let mut start = 0;
-        for _ in 0..record.name_count {
+        for _ in 0..name_count {
             let length = 1 + bytes[start..].iter().position(|byte| *byte >= 0x80)?;
             let name = &bytes[start..start + length];
             if !is_name(name) || names.find_stored(name).is_some() {
@@ -147,8 +148,8 @@ fn word_of(stored: &[u8], test: impl Fn(&[u8]) -> bool) -> bool {
 }
 
 /// Says whether there is a value entry's room for each name.
-pub fn values_sound(values: &[u8], record: &Record) -> bool {
-    record.name_count <= values.len() / VALUE_SIZE
+pub fn values_sound(values: &[u8], name_count: usize) -> bool {
+    name_count <= values.len() / VALUE_SIZE
 }
 
 /// The room that a lent store has.

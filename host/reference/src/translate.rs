@@ -41,21 +41,37 @@ fn out_of_range(constant: Item) -> Refusal {
     }
 }
 
-/// Reads the line's number. Gives it and where its digits end; None: refusal 3.
-pub fn read_line_number(text: &[u8]) -> Option<(usize, usize)> {
+/// What a text begins with.
+pub enum Head {
+    /// A line number, and where its digits end.
+    Numbered { number: usize, end: usize },
+    /// Something else than a digit, after blanks.
+    Unnumbered,
+    /// Nothing but blanks, or a number above 32767: refusal 3.
+    Refused,
+}
+
+/// Reads what a text begins with.
+pub fn read_head(text: &[u8]) -> Head {
     let start = skip_blanks(text, 0);
+    if start == text.len() {
+        return Head::Refused;
+    }
     let length = digit_run(&text[start..]);
     if length == 0 {
-        return None;
+        return Head::Unnumbered;
     }
     let mut number = 0;
     for digit in &text[start..start + length] {
         number = number * 10 + (digit - b'0') as usize;
         if number > GREATEST_LINE {
-            return None;
+            return Head::Refused;
         }
     }
-    Some((number, start + length))
+    Head::Numbered {
+        number,
+        end: start + length,
+    }
 }
 
 /// A token line as it grows. Bytes past 256 are counted but not kept.
