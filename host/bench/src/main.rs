@@ -166,6 +166,7 @@ fn moved(job: &Job) -> f64 {
             &mut work.names,
             &mut work.values,
             &mut work.store,
+            &mut [],
             &mut work.record,
         );
         assert_eq!(answer.number, 0);

@@ -99,6 +99,7 @@ pub fn program(names: usize, lines: usize) -> Program {
             &mut program.names,
             &mut program.values,
             &mut program.store,
+            &mut [],
             &mut program.record,
         );
         assert_eq!((answer.number, answer.added), (0, 0));

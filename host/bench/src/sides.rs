@@ -4,7 +4,7 @@ use reference::Record;
 
 /// An implementation that can be timed.
 pub trait Side {
-    /// Enters a text and gives the answer's number.
+    /// Enters a text with a number and gives the answer's number.
     fn enter(
         text: &[u8],
         names: &mut [u8],
@@ -36,7 +36,7 @@ impl Side for Reference {
         store: &mut [u8],
         record: &mut Record,
     ) -> usize {
-        reference::enter(text, names, values, store, record).number
+        reference::enter(text, names, values, store, &mut [], record).number
     }
 
     #[inline(never)]
@@ -68,7 +68,7 @@ impl Side for Library {
         record: &mut Record,
     ) -> usize {
         let mut lent = lend(record);
-        let answer = virgontey::enter(text, names, values, store, &mut lent);
+        let answer = virgontey::enter(text, names, values, store, &mut [], &mut lent);
         *record = Record {
             name_bytes: lent.name_bytes,
             name_count: lent.name_count,

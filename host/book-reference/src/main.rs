@@ -31,6 +31,7 @@ impl Program {
             &mut self.names,
             &mut self.values,
             &mut self.store,
+            &mut [],
             &mut self.record,
         );
         let _ = writeln!(

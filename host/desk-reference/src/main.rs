@@ -11,10 +11,18 @@ fn main() -> io::Result<()> {
     let mut names = [0; 2048];
     let mut values = [0; 1024];
     let mut store = [0; 32768];
+    let mut line = [0; 255];
     let mut record = Record::default();
 
-    for (count, line) in lines(&input).enumerate() {
-        let answer = enter(line, &mut names, &mut values, &mut store, &mut record);
+    for (count, text) in lines(&input).enumerate() {
+        let answer = enter(
+            text,
+            &mut names,
+            &mut values,
+            &mut store,
+            &mut line,
+            &mut record,
+        );
         writeln!(
             output,
             "E\t{}\t{}\t{}\t{}\t{}\t{}",

@@ -44,6 +44,8 @@ pub unsafe extern "C" fn virgontey_enter(
     values_len: usize,
     store: *mut u8,
     store_len: usize,
+    line: *mut u8,
+    line_len: usize,
     record: *mut usize,
     record_len: usize,
     answer: *mut usize,
@@ -56,6 +58,7 @@ pub unsafe extern "C" fn virgontey_enter(
         lent_mut(names, names_len),
         lent_mut(values, values_len),
         lent_mut(store, store_len),
+        lent_mut(line, line_len),
         &mut record,
     );
     lent_record[0] = record.name_bytes;
@@ -95,6 +98,36 @@ pub unsafe extern "C" fn virgontey_list(
         lent(values, values_len),
         lent(store, store_len),
         &read_record(lent(record, record_len)),
+        lent_mut(out, out_len),
+    );
+    let answer = lent_mut(answer, answer_len);
+    answer[0] = given.number;
+    answer[1] = given.written;
+}
+
+/// # Safety
+/// Each pointer must be good for its length, and no two buffers may overlap.
+#[no_mangle]
+pub unsafe extern "C" fn virgontey_show(
+    line: *const u8,
+    line_len: usize,
+    names: *const u8,
+    names_len: usize,
+    name_bytes: usize,
+    name_count: usize,
+    values: *const u8,
+    values_len: usize,
+    out: *mut u8,
+    out_len: usize,
+    answer: *mut usize,
+    answer_len: usize,
+) {
+    let given = reference::show(
+        lent(line, line_len),
+        lent(names, names_len),
+        name_bytes,
+        name_count,
+        lent(values, values_len),
         lent_mut(out, out_len),
     );
     let answer = lent_mut(answer, answer_len);

@@ -26,7 +26,7 @@ fn items() {
     refuses(b"10 Ab=1", 4, 4);
     lists("10 REMx", "10 REM_x");
     refuses(b"10 A=1e5", 4, 6);
-    refuses(b"\t10 END", 3, 0);
+    refuses(b"\t10 END", 4, 0);
     refuses(b"10\tEND", 4, 2);
     refuses(b"10 END\r", 4, 6);
     refuses(b"10 A=\x9B", 4, 5);
@@ -101,7 +101,6 @@ fn line_numbers_and_deletes() {
     lists("00000000000000000000000000000000000000000 END", "0 END_");
     refuses(b"", 3, 0);
     refuses(b"   ", 3, 0);
-    refuses(b"END", 3, 0);
     refuses(b"99999999999999999999999999", 3, 0);
     refuses(b" 10  ", 9, 0);
     let mut desk = Desk::new();

@@ -53,8 +53,10 @@ fn line_count_and_last_number() {
     // A refusal keeps both.
     keeps(&mut desk, "40 GOTO", 4, 5, 32767);
     keeps(&mut desk, "40 A=1E98", 5, 5, 32767);
-    keeps(&mut desk, "END", 3, 5, 32767);
+    keeps(&mut desk, "", 3, 5, 32767);
     keeps(&mut desk, "40", 9, 5, 32767);
+    // So does a line without a number.
+    keeps(&mut desk, "PRINT A;NEW", 0, 5, 32767);
     // A deletion: of the last line, which leaves the one before it, of another, of the only one.
     keeps(&mut desk, "32767", 0, 4, 30);
     keeps(&mut desk, "15", 0, 3, 30);
@@ -81,12 +83,13 @@ fn three(lines: usize, greatest: usize) -> Desk {
 #[test]
 fn records_that_disagree() {
     let long = [b'1'; 121];
-    // Each would get another number if the record agreed: 0, 0, 2, 3, 4, 5, 6, 8, 9.
-    let texts: [(&[u8], usize); 9] = [
+    // Each would get another number if the record agreed: 0, 0, 0, 2, 3, 4, 5, 6, 8, 9.
+    let texts: [(&[u8], usize); 10] = [
         (b"30", 0),
         (b"20 STOP", 0),
+        (b"END", 0),
         (&long, 2),
-        (b"END", 3),
+        (b"", 3),
         (b"40 GOTO", 4),
         (b"40 A=1E98", 5),
         (b"40 A=1", 6),
@@ -112,12 +115,12 @@ fn records_that_disagree() {
         assert_eq!(three(3, 30).enter(text).number, number);
         for (lines, greatest) in wrong {
             let mut desk = three(lines, greatest);
-            let (store, record) = (desk.store.clone(), desk.record);
+            let (store, line, record) = (desk.store.clone(), desk.line.clone(), desk.record);
             let answer = desk.enter(text);
             let found = (answer.number, answer.place, answer.end, answer.added);
             assert_eq!(found, (1, 0, 0, 0), "{lines} {greatest}");
             assert_eq!((answer.used, desk.record), (18, record));
-            assert_eq!(desk.store, store);
+            assert_eq!((desk.store, desk.line), (store, line));
         }
     }
     // In listing it comes before 9, 10 and 11.
@@ -140,4 +143,207 @@ fn records_that_disagree() {
     assert_eq!(desk.enter(b"0 END").number, 0);
     desk.record.lines = 0;
     assert_eq!(desk.enter(b"0").number, 1);
+}
+
+/// Over empty tables, a text without a number gives this line in the line buffer, and nothing in the store.
+#[track_caller]
+fn gives_direct(text: &str, line: &str) {
+    let mut desk = Desk::new();
+    desk.line.fill(0xEE);
+    let answer = desk.enter(text.as_bytes());
+    assert_eq!(
+        (answer.number, answer.place, answer.end),
+        (0, 0, 0),
+        "{text}"
+    );
+    assert_eq!((answer.used, answer.added), (0, desk.record.name_count));
+    assert_eq!(desk.line_hex(), line, "{text}");
+    let length = desk.line[2] as usize;
+    assert!(desk.line[length..].iter().all(|byte| *byte == 0xEE));
+    assert!(desk.store.iter().all(|byte| *byte == 0), "{text}");
+    assert_eq!(desk.pair(), (0, 0));
+}
+
+/// Over empty tables, a text without a number lists so, and the listing gives the same line again.
+#[track_caller]
+fn shows(text: &str, listing: &str) {
+    let mut desk = Desk::new();
+    assert_eq!(desk.enter(text.as_bytes()).number, 0, "{text}");
+    assert_eq!(desk.show(), Ok(listing.to_string()), "{text}");
+    let line = desk.line.clone();
+    desk.line.fill(0xEE);
+    let answer = desk.enter(listing.as_bytes());
+    assert_eq!((answer.number, answer.added), (0, 0), "{listing}");
+    let length = line[2] as usize;
+    assert_eq!(desk.line[..length], line[..length], "{listing}");
+}
+
+#[test]
+fn lines_without_a_number() {
+    gives_direct("END", "00 80 06 06 15 16");
+    gives_direct("  END", "00 80 06 06 15 16");
+    gives_direct("PRINT A", "00 80 07 07 20 80 16");
+    gives_direct("?\"A", "00 80 09 09 28 0F 01 41 16");
+    gives_direct("REM  X", "00 80 08 08 00 20 58 9B");
+    gives_direct(
+        "A=1:B$=\"\"",
+        "00 80 16 0F 36 80 2D 0E 40 01 00 00 00 00 14 16 36 81 2E 0F 00 16",
+    );
+    // Neither number nor blank before the first statement; blanks elsewhere as ever.
+    shows("END", "END ");
+    shows("   PRINT A", "PRINT A");
+    shows("PRINT NOT A", "PRINT  NOT A");
+    shows("A=1", "A=1");
+    shows("IF A THEN 10", "IF A THEN 10");
+    shows("DATA  1,2", "DATA  1,2");
+    // Digits after blanks are a number; a line with one leaves the line buffer alone.
+    gives("  10 END", "0A 00 06 06 15 16");
+    // What is not blank and has no digit is read as statements, with places counted from the text's start.
+    refuses(b"\t10 END", 4, 0);
+    refuses(b".5 A=1", 4, 0);
+    refuses(b"-1 END", 4, 0);
+    refuses(b" -1 END", 4, 1);
+    refuses(b":END", 4, 0);
+    refuses(b"GOTO", 4, 4);
+    refuses(b"A=1E98", 5, 2);
+    refuses(b"PRINT \"A\x9B\"", 4, 6);
+    // 3 is left for blank texts and great numbers.
+    refuses(b"", 3, 0);
+    refuses(b"    ", 3, 0);
+    refuses(b"32768", 3, 0);
+    refuses(b"32768 END", 3, 0);
+}
+
+#[test]
+fn refusals_of_lines_without_a_number() {
+    // 2, then 3, 4 and 5, then 6, 7 and 8.
+    let long = format!("A=1{}", "+1".repeat(40));
+    assert_eq!(Desk::new().enter(&[b'A'; 121]).number, 2);
+    let mut desk = Desk::with_rooms(0, 8, 0);
+    desk.line.clear();
+    assert_eq!(desk.enter(format!("{long}+").as_bytes()).number, 4);
+    assert_eq!(desk.enter(long.as_bytes()).number, 6);
+    desk.names = vec![0; 1];
+    assert_eq!(desk.enter(long.as_bytes()).number, 7);
+    assert_eq!(desk.enter(b"A=1").number, 8);
+    assert_eq!(desk.record, Record::default());
+    assert_eq!((&desk.names[..], &desk.values[..]), (&[0][..], &[0; 8][..]));
+    // 8 is of the line buffer alone, to the byte; what it held is not looked at.
+    for room in 0..9 {
+        let mut desk = Desk::with_rooms(1, 8, 0);
+        desk.line = vec![0xEE; room];
+        let answer = desk.enter(b"PRINT A");
+        if room < 7 {
+            assert_eq!((answer.number, answer.added, answer.used), (8, 0, 0));
+            assert!(desk.line.iter().all(|byte| *byte == 0xEE));
+            assert_eq!(desk.record, Record::default());
+        } else {
+            assert_eq!((answer.number, answer.added, answer.used), (0, 1, 0));
+            assert_eq!(desk.line_hex(), "00 80 07 07 20 80 16");
+            assert!(desk.line[7..].iter().all(|byte| *byte == 0xEE));
+            assert_eq!((desk.names[0], desk.record.name_count), (0xC1, 1));
+        }
+    }
+    // A full store is no matter to it, and no line buffer none to a line with a number.
+    let mut desk = three(3, 30);
+    desk.line.truncate(6);
+    let store = desk.store.clone();
+    let answer = desk.enter(b"END");
+    assert_eq!((answer.number, answer.used), (0, 18));
+    assert_eq!(
+        (desk.line_hex(), desk.store),
+        ("00 80 06 06 15 16".into(), store)
+    );
+    let mut desk = Desk::new();
+    desk.line.clear();
+    assert_eq!(desk.enter(b"10 END").number, 0);
+    assert_eq!(desk.enter(b"10").number, 0);
+}
+
+#[test]
+fn names_of_lines_without_a_number_stay() {
+    let mut desk = Desk::new();
+    assert_eq!(desk.enter(b"10 A=1").added, 1);
+    assert_eq!(desk.enter(b"PRINT A;B$;C(1)").added, 2);
+    assert_eq!(desk.names_hex(), "C1 42 A4 43 A8");
+    assert_eq!(desk.values[8..10], [0x80, 1]);
+    assert_eq!(desk.values[16..18], [0x40, 2]);
+    assert_eq!(desk.enter(b"20 B$=\"\"").added, 0);
+    assert_eq!(desk.show(), Ok("PRINT A;B$;C(1)".to_string()));
+    // Neither does it stand in the store, nor may it.
+    assert_eq!(desk.list(32768), Err(9));
+    let mut desk = Desk::new();
+    desk.store[..6].copy_from_slice(&[0, 0x80, 6, 6, 0x15, 0x16]);
+    desk.record = Record {
+        used: 6,
+        lines: 1,
+        greatest: 32768,
+        ..desk.record
+    };
+    assert_eq!(desk.list(32768), Err(1));
+    assert_eq!(desk.enter(b"END").number, 1);
+}
+
+/// The answer to listing a line buffer over the names A and B$.
+fn shown(line: &[u8]) -> usize {
+    let mut desk = Desk::with_rooms(0, 16, 0);
+    desk.names = b"\xC1B\xA4".to_vec();
+    desk.record.name_bytes = 3;
+    desk.record.name_count = 2;
+    desk.line = line.to_vec();
+    desk.show().err().unwrap_or(0)
+}
+
+#[test]
+fn line_buffers() {
+    let line = [0, 0x80, 7, 7, 0x20, 0x81, 0x16];
+    assert_eq!(shown(&line), 0);
+    // Cut, too short, empty.
+    for length in 0..7 {
+        assert_eq!(shown(&line[..length]), 10, "{length}");
+    }
+    // Bytes past the line are not read.
+    assert_eq!(shown(&[&line[..], &[0xEE; 300]].concat()), 0);
+    // Another number; a length that is not the line's.
+    for number in [[10, 0], [0xFF, 0x7F], [1, 0x80], [0, 0x81], [0, 0]] {
+        assert_eq!(shown(&[&number[..], &line[2..]].concat()), 10);
+    }
+    for length in [0, 1, 5, 6, 8, 255] {
+        let mut other = [&line[..], &[0; 300]].concat();
+        other[2] = length;
+        assert_eq!(shown(&other), 10, "{length}");
+    }
+    // Not well-formed: a name that is not there, a wrong offset, a wrong end.
+    for (place, byte) in [(5, 0x82), (3, 6), (6, 0x14)] {
+        let mut other = line;
+        other[place] = byte;
+        assert_eq!(shown(&other), 10);
+    }
+    // 1 comes first; it needs names and room for values alone.
+    let mut desk = Desk::with_rooms(1, 8, 0);
+    desk.enter(b"PRINT A");
+    desk.record.used = 77;
+    assert_eq!(desk.show(), Ok("PRINT A".into()));
+    desk.values.truncate(7);
+    assert_eq!(desk.show(), Err(1));
+    desk.line[0] = 1;
+    assert_eq!(desk.show(), Err(1));
+    desk.values.push(0);
+    assert_eq!(desk.show(), Err(10));
+    desk.line[0] = 0;
+    desk.record.name_bytes = 0;
+    assert_eq!(desk.show(), Err(1));
+    // 11, and nothing past the listing is written.
+    for room in 0..9 {
+        let mut out = vec![0xEE; room];
+        let answer = reference::show(&line, b"\xC1\xC2", 2, 2, &[0; 16], &mut out);
+        if room < 7 {
+            assert_eq!((answer.number, answer.written), (11, 0));
+            assert!(out.iter().all(|byte| *byte == 0xEE));
+        } else {
+            assert_eq!((answer.number, answer.written), (0, 7));
+            assert_eq!(&out[..7], b"PRINT B");
+            assert!(out[7..].iter().all(|byte| *byte == 0xEE));
+        }
+    }
 }

@@ -1,6 +1,6 @@
 //! A safe wrapper over the proved library's C interface (include/virgontey.h).
 //!
-//! Without the feature `library` nothing is linked and the two calls are not there.
+//! Without the feature `library` nothing is linked and the calls are not there.
 
 /// Says whether the library is linked.
 pub const LINKED: bool = cfg!(feature = "library");
@@ -41,7 +41,7 @@ pub struct ListAnswer {
 }
 
 #[cfg(feature = "library")]
-pub use linked::{enter, list};
+pub use linked::{enter, list, show};
 
 #[cfg(feature = "library")]
 mod linked {
@@ -57,13 +57,15 @@ mod linked {
             values_len: usize,
             store: *mut u8,
             store_len: usize,
+            line: *mut u8,
+            line_len: usize,
             record: *mut usize,
             record_len: usize,
             answer: *mut usize,
             answer_len: usize,
         );
         fn virgontey_list(
-            line: usize,
+            number: usize,
             names: *const u8,
             names_len: usize,
             values: *const u8,
@@ -77,14 +79,31 @@ mod linked {
             answer: *mut usize,
             answer_len: usize,
         );
+        fn virgontey_show(
+            line: *const u8,
+            line_len: usize,
+            names: *const u8,
+            names_len: usize,
+            name_bytes: usize,
+            name_count: usize,
+            values: *const u8,
+            values_len: usize,
+            out: *mut u8,
+            out_len: usize,
+            answer: *mut usize,
+            answer_len: usize,
+        );
     }
 
-    /// Enters a text: inserts, replaces or deletes a line. The record is updated if it is accepted.
+    /// Enters a text: inserts, replaces or deletes a line of the store, or puts a text without a number
+    /// into the line buffer. The record is updated if it is accepted. An empty line buffer has room for
+    /// no line: a text without a number is then refused with 8.
     pub fn enter(
         text: &[u8],
         names: &mut [u8],
         values: &mut [u8],
         store: &mut [u8],
+        line: &mut [u8],
         record: &mut Record,
     ) -> EnterAnswer {
         let mut counts = counts_of(record);
@@ -101,6 +120,8 @@ mod linked {
                 values.len(),
                 store.as_mut_ptr(),
                 store.len(),
+                line.as_mut_ptr(),
+                line.len(),
                 counts.as_mut_ptr(),
                 counts.len(),
                 answer.as_mut_ptr(),
@@ -126,7 +147,7 @@ mod linked {
 
     /// Lists the line with this number into `out`.
     pub fn list(
-        line: usize,
+        number: usize,
         names: &[u8],
         values: &[u8],
         store: &[u8],
@@ -138,7 +159,7 @@ mod linked {
         // Safe: as above; only `out` and the answer are written.
         unsafe {
             virgontey_list(
-                line,
+                number,
                 names.as_ptr(),
                 names.len(),
                 values.as_ptr(),
@@ -147,6 +168,38 @@ mod linked {
                 store.len(),
                 counts.as_ptr(),
                 counts.len(),
+                out.as_mut_ptr(),
+                out.len(),
+                answer.as_mut_ptr(),
+                answer.len(),
+            );
+        }
+        let [number, written] = answer;
+        ListAnswer { number, written }
+    }
+
+    /// Lists the line at the start of a line buffer into `out`: one that was entered without a number.
+    /// Of the record only the two counts of names are needed.
+    pub fn show(
+        line: &[u8],
+        names: &[u8],
+        name_bytes: usize,
+        name_count: usize,
+        values: &[u8],
+        out: &mut [u8],
+    ) -> ListAnswer {
+        let mut answer = [0; 2];
+        // Safe: as above; only `out` and the answer are written.
+        unsafe {
+            virgontey_show(
+                line.as_ptr(),
+                line.len(),
+                names.as_ptr(),
+                names.len(),
+                name_bytes,
+                name_count,
+                values.as_ptr(),
+                values.len(),
                 out.as_mut_ptr(),
                 out.len(),
                 answer.as_mut_ptr(),
@@ -170,19 +223,23 @@ mod linked {
 
     #[cfg(test)]
     mod tests {
-        use super::{virgontey_enter, virgontey_list, Record};
+        use super::{virgontey_enter, virgontey_list, virgontey_show, Record};
 
         /// What an entry that a test does not expect is filled with.
         const OTHER: usize = 77;
 
+        /// The line of `END`.
+        const END: [u8; 6] = [0, 0x80, 6, 6, 0x15, 0x16];
+
         /// The record of the program below.
         const ONE_LINE: [usize; 5] = [0, 0, 6, 1, 10];
 
-        /// The buffers of a program of one line, `10 END`, without names.
+        /// The buffers of a program of one line, `10 END`, without names, and a line buffer.
         struct Lent {
             names: [u8; 4],
             values: [u8; 8],
             store: [u8; 32],
+            line: [u8; 16],
         }
 
         fn lent() -> Lent {
@@ -192,6 +249,7 @@ mod linked {
                 names: [0; 4],
                 values: [0; 8],
                 store,
+                line: [0xEE; 16],
             }
         }
 
@@ -208,6 +266,8 @@ mod linked {
                     lent.values.len(),
                     lent.store.as_mut_ptr(),
                     lent.store.len(),
+                    lent.line.as_mut_ptr(),
+                    lent.line.len(),
                     record.as_mut_ptr(),
                     record.len(),
                     answer.as_mut_ptr(),
@@ -238,16 +298,42 @@ mod linked {
             }
         }
 
+        /// Lists a line buffer over no names, with an answer of any length.
+        fn show(line: &[u8], out: &mut [u8], answer: &mut [usize]) {
+            let lent = lent();
+            // Safe: as for the wrapper.
+            unsafe {
+                virgontey_show(
+                    line.as_ptr(),
+                    line.len(),
+                    lent.names.as_ptr(),
+                    lent.names.len(),
+                    0,
+                    0,
+                    lent.values.as_ptr(),
+                    lent.values.len(),
+                    out.as_mut_ptr(),
+                    out.len(),
+                    answer.as_mut_ptr(),
+                    answer.len(),
+                );
+            }
+        }
+
         #[test]
         fn a_record_that_lacks_a_count_is_refused() {
             for length in 0..5 {
-                let (mut lent, before) = (self::lent(), self::lent());
-                let mut record = ONE_LINE;
-                let mut answer = [OTHER; 5];
-                enter(b"20 END", &mut lent, &mut record[..length], &mut answer);
-                assert_eq!(answer, [1, 0, 0, 0, if length < 3 { 0 } else { 6 }]);
-                assert_eq!(record, ONE_LINE);
-                assert_eq!(lent.store, before.store);
+                for text in [&b"20 END"[..], b"END"] {
+                    let (mut lent, before) = (self::lent(), self::lent());
+                    let mut record = ONE_LINE;
+                    let mut answer = [OTHER; 5];
+                    enter(text, &mut lent, &mut record[..length], &mut answer);
+                    assert_eq!(answer, [1, 0, 0, 0, if length < 3 { 0 } else { 6 }]);
+                    assert_eq!(record, ONE_LINE);
+                    assert_eq!((lent.store, lent.line), (before.store, before.line));
+                }
+                let lent = lent();
+                let record = ONE_LINE;
 
                 let mut out = [0; 32];
                 let mut answer = [OTHER; 2];
@@ -275,6 +361,16 @@ mod linked {
                 assert_eq!(
                     answer[..length],
                     [0, 7, OTHER, OTHER, OTHER, OTHER][..length]
+                );
+                assert_eq!(answer[length..], [OTHER; 6][length..]);
+
+                let mut out = [0; 32];
+                let mut answer = [OTHER; 6];
+                show(&END, &mut out, &mut answer[..length]);
+                assert_eq!(&out[..5], b"END \0");
+                assert_eq!(
+                    answer[..length],
+                    [0, 4, OTHER, OTHER, OTHER, OTHER][..length]
                 );
                 assert_eq!(answer[length..], [OTHER; 6][length..]);
             }
@@ -333,12 +429,57 @@ mod linked {
                     &mut lent.names,
                     &mut lent.values,
                     &mut lent.store,
+                    &mut [],
                     &mut record,
                 );
                 assert_eq!(answer.number, if refused { 4 } else { 0 });
                 assert_eq!((record.lines, record.greatest), (lines, greatest));
                 assert_eq!(record.used, 6 * lines);
             }
+        }
+
+        #[test]
+        fn a_text_without_a_number_goes_to_the_line_buffer() {
+            let (mut lent, before) = (self::lent(), self::lent());
+            let mut record = ONE_LINE;
+            let mut answer = [OTHER; 5];
+            enter(b"PRINT A", &mut lent, &mut record, &mut answer);
+            assert_eq!(answer, [0, 0, 0, 1, 6]);
+            assert_eq!(record, [1, 1, 6, 1, 10]);
+            assert_eq!(lent.line[..7], [0, 0x80, 7, 7, 0x20, 0x80, 0x16]);
+            assert_eq!(lent.line[7..], before.line[7..]);
+            assert_eq!((lent.names, lent.store), ([0xC1, 0, 0, 0], before.store));
+            let mut out = [0xEE; 9];
+            let answer = super::show(&lent.line, &lent.names, 1, 1, &lent.values, &mut out);
+            assert_eq!((answer.number, answer.written), (0, 7));
+            assert_eq!(&out, b"PRINT A\xEE\xEE");
+        }
+
+        #[test]
+        fn a_line_buffer_has_to_hold_the_line() {
+            for room in 0..8 {
+                let mut lent = lent();
+                let mut record = Record::default();
+                let mut line = vec![0xEE; room];
+                let answer = super::enter(
+                    b"END",
+                    &mut lent.names,
+                    &mut lent.values,
+                    &mut lent.store[..0],
+                    &mut line,
+                    &mut record,
+                );
+                let fits = room >= 6;
+                assert_eq!(answer.number, if fits { 0 } else { 8 });
+                let kept = if fits { 6 } else { 0 };
+                assert_eq!(line[..kept], END[..kept]);
+                assert!(line[kept..].iter().all(|byte| *byte == 0xEE));
+                assert_eq!(record, Record::default());
+                let answer = super::show(&line, &[], 0, 0, &[], &mut [0; 4]);
+                assert_eq!(answer.number, if fits { 0 } else { 10 });
+            }
+            assert_eq!(super::show(&END, &[], 1, 0, &[], &mut [0; 4]).number, 1);
+            assert_eq!(super::show(&END, &[], 0, 0, &[], &mut [0; 3]).number, 11);
         }
     }
 }

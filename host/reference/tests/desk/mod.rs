@@ -1,12 +1,13 @@
 //! A desk with empty tables, for the tests.
 #![allow(dead_code)]
 
-use reference::{enter, list, EnterAnswer, Record};
+use reference::{enter, list, show, EnterAnswer, ListAnswer, Record};
 
 pub struct Desk {
     pub names: Vec<u8>,
     pub values: Vec<u8>,
     pub store: Vec<u8>,
+    pub line: Vec<u8>,
     pub record: Record,
 }
 
@@ -22,6 +23,7 @@ impl Desk {
             names: vec![0; names],
             values: vec![0; values],
             store: vec![0; store],
+            line: vec![0; 255],
             record: Record::default(),
         }
     }
@@ -32,6 +34,7 @@ impl Desk {
             &mut self.names,
             &mut self.values,
             &mut self.store,
+            &mut self.line,
             &mut self.record,
         )
     }
@@ -47,11 +50,26 @@ impl Desk {
             &self.record,
             &mut out,
         );
-        if answer.number != 0 {
-            assert_eq!(answer.written, 0);
-            return Err(answer.number);
-        }
-        Ok(String::from_utf8(out[..answer.written].to_vec()).unwrap())
+        text_of(answer, &out)
+    }
+
+    /// Lists the line buffer; the refusal's number if it is refused.
+    pub fn show(&self) -> Result<String, usize> {
+        let mut out = vec![0; 65536];
+        let answer = show(
+            &self.line,
+            &self.names,
+            self.record.name_bytes,
+            self.record.name_count,
+            &self.values,
+            &mut out,
+        );
+        text_of(answer, &out)
+    }
+
+    /// The line at the start of the line buffer, in hex.
+    pub fn line_hex(&self) -> String {
+        hex(&self.line[..self.line[2] as usize])
     }
 
     /// The used bytes of the store, in hex.
@@ -68,6 +86,15 @@ impl Desk {
     pub fn names_hex(&self) -> String {
         hex(&self.names[..self.record.name_bytes])
     }
+}
+
+/// The text that a listing wrote, or its refusal.
+fn text_of(answer: ListAnswer, out: &[u8]) -> Result<String, usize> {
+    if answer.number != 0 {
+        assert_eq!(answer.written, 0);
+        return Err(answer.number);
+    }
+    Ok(String::from_utf8(out[..answer.written].to_vec()).unwrap())
 }
 
 /// How many lines begin in the used bytes of a store, and the greatest of their numbers, 0 if there are none.
@@ -101,6 +128,7 @@ pub fn gives(text: &str, line: &str) {
     assert_eq!(answer.used, desk.record.used);
     assert_eq!(answer.added, desk.record.name_count);
     assert_eq!(desk.pair(), pair(&desk.store, desk.record.used), "{text}");
+    assert!(desk.line.iter().all(|byte| *byte == 0), "{text}");
 }
 
 /// Over empty tables, a text lists so.
@@ -122,4 +150,5 @@ pub fn refuses(text: &[u8], number: usize, place: usize) {
     assert_eq!((answer.added, answer.used), (0, 0), "{shown}");
     assert_eq!(desk.record, Record::default(), "{shown}");
     assert!(desk.store.iter().all(|byte| *byte == 0), "{shown}");
+    assert!(desk.line.iter().all(|byte| *byte == 0), "{shown}");
 }
