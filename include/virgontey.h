@@ -1,7 +1,7 @@
 /*
  * Virgontey: enter and list lines of tokenized Atari BASIC.
  *
- * Both calls work only in the buffers that are lent to them. Every length, count and byte may have any
+ * The calls work only in the buffers that are lent to them. Every length, count and byte may have any
  * value: tables that are not sound, and a record that disagrees with the store, are refused. No call keeps
  * a pointer. Buffers must not overlap.
  *
@@ -13,8 +13,9 @@
  * Width: counts, lengths, places and the numbers of an answer are size_t of 64 bits, as on x86-64 and
  * on 64-bit Arm. There is no library for other widths.
  *
- * Stack: virgontey_enter takes at most 8 KB and virgontey_list at most 3 KB, in the fast and in the small
- * library, as measured over 39,740 texts (docs/FIGURES.md). No call takes memory from elsewhere.
+ * Stack: virgontey_enter takes at most 8 KB, virgontey_list and virgontey_show at most 3 KB, in the fast
+ * and in the small library, as measured over 39,740 texts, each with its number and without
+ * (docs/FIGURES.md). No call takes memory from elsewhere.
  *
  * Size: each function stands in a section of its own, so a build that links with --gc-sections leaves
  * out what it does not call.
@@ -36,7 +37,8 @@ extern "C" {
  * last reads LINES and GREATEST from the record as it stands between two calls: that takes no call, and
  * no walk over the store. Where LINES is 0 there is no line; line 0 alone has 1 and 0.
  *
- * Both calls test the record: one whose counts are not those of the lent store is refused with 1.
+ * virgontey_enter and virgontey_list test the record: one whose counts are not those of the lent store is
+ * refused with 1.
  */
 enum {
     VIRGONTEY_RECORD_NAME_BYTES = 0, /* bytes of name table in use */
@@ -57,7 +59,7 @@ enum {
     VIRGONTEY_ENTER_LENGTH = 5
 };
 
-/* What virgontey_list answers. */
+/* What virgontey_list and virgontey_show answer. */
 enum {
     VIRGONTEY_LIST_NUMBER = 0,  /* 0 done, otherwise the refusal, see below */
     VIRGONTEY_LIST_WRITTEN = 1, /* bytes written to out, 0 on a refusal */
@@ -69,24 +71,39 @@ enum {
     VIRGONTEY_DONE = 0,
     VIRGONTEY_UNSOUND = 1,         /* tables or store are unsound, or the record disagrees with the store */
     VIRGONTEY_TEXT_TOO_LONG = 2,   /* text is over 120 bytes */
-    VIRGONTEY_NO_LINE_NUMBER = 3,  /* no digit after blanks, or a number above 32767 */
+    VIRGONTEY_NO_LINE_NUMBER = 3,  /* the text is empty or blank, or its number is above 32767 */
     VIRGONTEY_NO_READING = 4,      /* the grammar has no reading; see place and end */
     VIRGONTEY_OUT_OF_RANGE = 5,    /* a constant is out of range; see place and end */
     VIRGONTEY_NAMES_FULL = 6,      /* names would pass 128, or lack name or value room */
     VIRGONTEY_LINE_TOO_LONG = 7,   /* the token line would pass 255 bytes */
-    VIRGONTEY_STORE_FULL = 8,      /* the store would pass its room */
+    VIRGONTEY_STORE_FULL = 8,      /* the store would pass its room; for a text without a number: the line buffer is too short */
     VIRGONTEY_NO_SUCH_LINE = 9,    /* the line to delete or list is not there */
-    VIRGONTEY_NOT_WELL_FORMED = 10, /* the line to list is not well-formed */
+    VIRGONTEY_NOT_WELL_FORMED = 10, /* the line to list is not well-formed, or the line buffer holds none */
     VIRGONTEY_OUTPUT_TOO_SHORT = 11 /* the listing is longer than the output buffer */
 };
 
 /*
- * Enters a text: a line number and statements insert or replace a line, a number alone deletes one.
+ * A text without a number, such as PRINT A, becomes a token line too, with this number and in a lent line
+ * buffer, where virgontey_show lists it: the store is for the program. Its new names are added as for any
+ * line, and stay.
+ */
+enum {
+    VIRGONTEY_DIRECT_LINE = 32768, /* the number of such a line: its first two bytes are 00 80 */
+    VIRGONTEY_LINE_ROOM = 255      /* a line buffer of so many bytes has room for every line */
+};
+
+/*
+ * Enters a text: a line number and statements insert or replace a line, a number alone deletes one, and
+ * statements alone go to the line buffer.
  *
  *   text    the typed line, without its end; at most 120 bytes are taken
  *   names   the name table; names_len is its room
  *   values  the value table, 8 bytes a name; values_len is its room
  *   store   the token lines; store_len is its room, of which at most 65,535 bytes are used
+ *   line    the line buffer, for a text without a number; line_len is its room. What it held is not looked
+ *           at; the new line stands at its start, and its third byte says how long it is. Bytes past that
+ *           stay. Where such texts are not wanted it may be NULL and 0: they are then refused with 8 (or
+ *           with what comes before 8, such as 4). A text with a number neither reads nor changes it.
  *   record  the editor record, read and updated, all five counts; record_len is VIRGONTEY_RECORD_LENGTH
  *   answer  written; answer_len is VIRGONTEY_ENTER_LENGTH
  *
@@ -94,7 +111,8 @@ enum {
  */
 void virgontey_enter(const uint8_t *text, size_t text_len, uint8_t *names, size_t names_len,
                      uint8_t *values, size_t values_len, uint8_t *store, size_t store_len,
-                     size_t *record, size_t record_len, size_t *answer, size_t answer_len);
+                     uint8_t *line, size_t line_len, size_t *record, size_t record_len,
+                     size_t *answer, size_t answer_len);
 
 /*
  * Lists the line with a number into out, without an end mark. Only the bytes written change there;
@@ -110,6 +128,22 @@ void virgontey_list(size_t line, const uint8_t *names, size_t names_len, const u
                     size_t values_len, const uint8_t *store, size_t store_len,
                     const size_t *record, size_t record_len, uint8_t *out, size_t out_len,
                     size_t *answer, size_t answer_len);
+
+/*
+ * Lists the line at the start of a line buffer into out, as virgontey_list does a stored one, but with no
+ * number and no blank before its first statement. Neither store nor record is needed: the two counts of
+ * names are handed over as they stand in the record.
+ *
+ *   line        the line buffer; bytes past the line in it are not read. A buffer that does not begin with
+ *               a whole well-formed line with number 32768 is refused with 10
+ *   name_bytes  bytes of name table in use
+ *   name_count  names in the name table
+ *   out         where the text goes; out_len is its room
+ *   answer      written; answer_len is VIRGONTEY_LIST_LENGTH
+ */
+void virgontey_show(const uint8_t *line, size_t line_len, const uint8_t *names, size_t names_len,
+                    size_t name_bytes, size_t name_count, const uint8_t *values, size_t values_len,
+                    uint8_t *out, size_t out_len, size_t *answer, size_t answer_len);
 
 #ifdef __cplusplus
 }

@@ -1,4 +1,7 @@
-/* Enters three lines and two that are refused, lists the program, and takes its last line out. */
+/*
+ * Enters three lines and two that are refused, lists the program, and takes its last line out. Then what
+ * service staff type at the tag to see a value: a line without a number, which leaves the program alone.
+ */
 #include <stdio.h>
 #include <string.h>
 
@@ -9,6 +12,7 @@ struct program {
     uint8_t names[2048];
     uint8_t values[1024];
     uint8_t store[32768];
+    uint8_t line[VIRGONTEY_LINE_ROOM];
     size_t record[VIRGONTEY_RECORD_LENGTH];
 };
 
@@ -18,7 +22,7 @@ static void enter(struct program *p, const char *text)
     size_t answer[VIRGONTEY_ENTER_LENGTH];
 
     virgontey_enter((const uint8_t *)text, strlen(text), p->names, sizeof p->names, p->values,
-                    sizeof p->values, p->store, sizeof p->store, p->record,
+                    sizeof p->values, p->store, sizeof p->store, p->line, sizeof p->line, p->record,
                     VIRGONTEY_RECORD_LENGTH, answer, VIRGONTEY_ENTER_LENGTH);
     if (answer[VIRGONTEY_ENTER_NUMBER] == VIRGONTEY_DONE) {
         printf("taken:   %s (%zu new names, %zu bytes used)\n", text,
@@ -47,8 +51,26 @@ static void list(const struct program *p, size_t line)
     }
 }
 
-/* Says how many lines there are and which is the last: the record holds both, and nothing is looked for. */
+/* Lists the line that was entered without a number. */
 static void show(const struct program *p)
+{
+    uint8_t out[1024];
+    size_t answer[VIRGONTEY_LIST_LENGTH];
+
+    virgontey_show(p->line, sizeof p->line, p->names, sizeof p->names,
+                   p->record[VIRGONTEY_RECORD_NAME_BYTES], p->record[VIRGONTEY_RECORD_NAME_COUNT],
+                   p->values, sizeof p->values, out, sizeof out, answer, VIRGONTEY_LIST_LENGTH);
+    if (answer[VIRGONTEY_LIST_NUMBER] == VIRGONTEY_DONE) {
+        printf("to run now, %d bytes: ", p->line[2]);
+        fwrite(out, 1, answer[VIRGONTEY_LIST_WRITTEN], stdout);
+        putchar('\n');
+    } else {
+        printf("line buffer: number %zu\n", answer[VIRGONTEY_LIST_NUMBER]);
+    }
+}
+
+/* Says how many lines there are and which is the last: the record holds both, and nothing is looked for. */
+static void count(const struct program *p)
 {
     printf("program: %zu lines, the last is %zu\n", p->record[VIRGONTEY_RECORD_LINES],
            p->record[VIRGONTEY_RECORD_GREATEST]);
@@ -57,18 +79,30 @@ static void show(const struct program *p)
 int main(void)
 {
     static struct program program;
+    static uint8_t store[sizeof program.store];
 
     enter(&program, "10 L=2:H=8");
     enter(&program, "20 IF V<L OR T>H THEN 900");
     enter(&program, "900 PRINT \"ALARM \";V");
     enter(&program, "30 GOTO");
     enter(&program, "30 IF V<L BORT THEN 900");
-    show(&program);
+    count(&program);
     list(&program, 10);
     list(&program, 20);
     list(&program, 900);
     list(&program, 30);
     enter(&program, "900");
+    count(&program);
+
+    memcpy(store, program.store, sizeof store);
     show(&program);
+    enter(&program, "PRINT V;\" OF \";L");
+    show(&program);
+    enter(&program, "PRINT ALARMS");
+    show(&program);
+    enter(&program, "PRINT V V");
+    show(&program);
+    count(&program);
+    printf("store:   %s\n", memcmp(store, program.store, sizeof store) ? "changed" : "as it was");
     return 0;
 }

@@ -1,9 +1,10 @@
 /*
- * Prints the greatest stack that entering and listing take, and the text that took it. Each call runs on
- * a stack of its own that was painted before; what is no longer paint was used. Many texts are entered,
- * of 1 to 20 parts and of as many as fit in 120 bytes, and the lines that come of them are listed.
+ * Prints the greatest stack that entering and the two listings take, and the text that took it. Each call
+ * runs on a stack of its own that was painted before; what is no longer paint was used. Many texts are
+ * entered, of 1 to 20 parts and of as many as fit in 120 bytes, each with its number and without, and the
+ * lines that come of them are listed.
  *
- *   stack [ENTER LIST]      status 1 where entering or listing takes more bytes than that
+ *   stack [ENTER LIST]      status 1 where entering, or a listing, takes more bytes than that
  */
 #include <stdio.h>
 #include <stdlib.h>
@@ -69,9 +70,12 @@ static const char *lines[] = {
 static uint64_t stack[STACK / sizeof(uint64_t)];
 static ucontext_t outside, inside;
 
-static uint8_t names[2048], values[1024], store[65535], out[1024];
+static uint8_t names[2048], values[1024], store[65535], line[255], out[1024];
 static size_t record[VIRGONTEY_RECORD_LENGTH], answer[VIRGONTEY_ENTER_LENGTH];
 static char text[TEXT + 1];
+
+/* What is entered: the text, or what stands after its number, 1. */
+static const char *entered;
 
 /* The greatest stack of a call so far, and the text with which it took that. */
 struct most {
@@ -79,7 +83,7 @@ struct most {
     char text[TEXT + 1];
 };
 
-static struct most entering, listing;
+static struct most entering, listing, showing;
 
 /* What a stack of its own takes for nothing. */
 static size_t idle;
@@ -89,11 +93,11 @@ static void nothing(void)
 {
 }
 
-/* Enters the text. */
+/* Enters a text. */
 static void enter(void)
 {
-    virgontey_enter((const uint8_t *)text, strlen(text), names, sizeof names, values, sizeof values,
-                    store, sizeof store, record, VIRGONTEY_RECORD_LENGTH, answer,
+    virgontey_enter((const uint8_t *)entered, strlen(entered), names, sizeof names, values, sizeof values,
+                    store, sizeof store, line, sizeof line, record, VIRGONTEY_RECORD_LENGTH, answer,
                     VIRGONTEY_ENTER_LENGTH);
 }
 
@@ -102,6 +106,14 @@ static void list(void)
 {
     virgontey_list(1, names, sizeof names, values, sizeof values, store, sizeof store, record,
                    VIRGONTEY_RECORD_LENGTH, out, sizeof out, answer, VIRGONTEY_LIST_LENGTH);
+}
+
+/* Lists the line buffer. */
+static void show(void)
+{
+    virgontey_show(line, sizeof line, names, sizeof names, record[VIRGONTEY_RECORD_NAME_BYTES],
+                   record[VIRGONTEY_RECORD_NAME_COUNT], values, sizeof values, out, sizeof out, answer,
+                   VIRGONTEY_LIST_LENGTH);
 }
 
 /* How many bytes of stack a call takes. All of the stack is paint before and after. */
@@ -129,8 +141,21 @@ static void measure(void (*call)(void), struct most *most)
 
     if (bytes > most->bytes) {
         most->bytes = bytes;
-        strcpy(most->text, text);
+        strcpy(most->text, entered);
     }
+}
+
+/* Measures the entry of the text with its number and without, and then the listing of the line, if one can come of it. */
+static void measure_both(int whole)
+{
+    entered = text;
+    measure(enter, &entering);
+    if (whole)
+        measure(list, &listing);
+    entered = text + 1;
+    measure(enter, &entering);
+    if (whole)
+        measure(show, &showing);
 }
 
 /* Makes a text of a head, a part so many times or as often as it fits, a middle, and for each part a close. */
@@ -171,18 +196,17 @@ int main(int argc, char **argv)
 
                 memset(record, 0, sizeof record);
                 make(heads[h], parts[p], n, "", "");
-                measure(enter, &entering);
+                measure_both(0);
                 make(heads[h], parts[p], n, "1", ")");
-                measure(enter, &entering);
-                measure(list, &listing);
+                measure_both(1);
             }
     memset(record, 0, sizeof record);
     for (p = 0; p < COUNT(lines); p++) {
         strcpy(text, lines[p]);
-        measure(enter, &entering);
-        measure(list, &listing);
+        measure_both(1);
     }
     well = within("enter", &entering, argc == 3 ? argv[1] : NULL);
     well &= within("list", &listing, argc == 3 ? argv[2] : NULL);
+    well &= within("show", &showing, argc == 3 ? argv[2] : NULL);
     return well ? 0 : 1;
 }
