@@ -123,28 +123,16 @@ fn enter_or_refuse(
     names: &mut [u8],
     values: &mut [u8],
     store: &mut [u8],
-    line: &mut [u8],
+    buffer: &mut [u8],
     record: &mut Record,
 ) -> Result<usize, Refused> {
     let table = sound_tables(names, values, store, record).ok_or((1, 0, 0))?;
     if text.len() > LONGEST_TEXT {
         return Err((2, 0, 0));
     }
-    match read_head(text) {
-        Head::Refused => Err((3, 0, 0)),
-        Head::Unnumbered => {
-            let translation = accepted(text, 0, DIRECT_LINE, &table, names, values, record)?;
-            let new = translation.line.bytes();
-            let room = line.get_mut(..new.len()).ok_or((8, 0, 0))?;
-            room.copy_from_slice(new);
-            Ok(add_names(
-                text,
-                &translation.new_names,
-                names,
-                values,
-                record,
-            ))
-        }
+    let (number, from, place) = match read_head(text) {
+        Head::Refused => return Err((3, 0, 0)),
+        Head::Unnumbered => (DIRECT_LINE, 0, None),
         Head::Numbered { number, end } => {
             let place = find_line(store, record.used, number);
             if items::skip_blanks(text, end) == text.len() {
@@ -154,42 +142,33 @@ fn enter_or_refuse(
                 take_line(store, record, &place);
                 return Ok(0);
             }
-            let translation = accepted(text, end, number, &table, names, values, record)?;
-            let new = translation.line.bytes();
-            if record.used - place.length + new.len() > store_room(store) {
-                return Err((8, 0, 0));
-            }
-            put_line(store, record, &place, number, new);
-            Ok(add_names(
-                text,
-                &translation.new_names,
-                names,
-                values,
-                record,
-            ))
+            (number, end, Some(place))
         }
-    }
-}
+    };
 
-/// Translates a text's statements, from `from` on; refusals 4 to 7.
-fn accepted(
-    text: &[u8],
-    from: usize,
-    number: usize,
-    table: &Names,
-    names: &[u8],
-    values: &[u8],
-    record: &Record,
-) -> Result<Translation, Refused> {
-    let translation = translate(text, from, number, table)
+    let translation = translate(text, from, number, &table)
         .map_err(|refusal| (refusal.number as usize, refusal.place, refusal.end))?;
-    if lacks_name_room(text, &translation.new_names, names, values, record) {
+    let Translation { line, new_names } = translation;
+    if lacks_name_room(text, &new_names, names, values, record) {
         return Err((6, 0, 0));
     }
-    if translation.line.length() > LONGEST_LINE {
+    if line.length() > LONGEST_LINE {
         return Err((7, 0, 0));
     }
-    Ok(translation)
+    match place {
+        Some(place) => {
+            if record.used - place.length + line.length() > store_room(store) {
+                return Err((8, 0, 0));
+            }
+            put_line(store, record, &place, number, line.bytes());
+        }
+        None => {
+            let front = buffer.get_mut(..line.length()).ok_or((8, 0, 0))?;
+            front.copy_from_slice(line.bytes());
+        }
+    }
+    add_names(text, &new_names, names, values, record);
+    Ok(new_names.count())
 }
 
 /// Lists a line; gives the count of bytes written, or the refusal.
@@ -235,6 +214,7 @@ fn list_line(line: &[u8], table: &Names, out: &mut [u8]) -> Result<usize, usize>
 }
 
 /// Tests tables, store and record; gives the names if all are sound and the record agrees.
+#[inline(always)]
 fn sound_tables<'a>(
     names: &'a [u8],
     values: &[u8],
@@ -250,6 +230,7 @@ fn sound_tables<'a>(
 }
 
 /// Tests the name table and the room for values; gives the names if both are sound.
+#[inline(always)]
 fn sound_names<'a>(
     names: &'a [u8],
     name_bytes: usize,
@@ -303,14 +284,14 @@ fn change_bytes(store: &mut [u8], record: &mut Record, place: &Place, line: &[u8
     record.used = record.used - old + line.len();
 }
 
-/// Adds new names at the end of the tables; gives their count.
+/// Adds new names at the end of the tables.
 fn add_names(
     text: &[u8],
     new_names: &NewNames,
     names: &mut [u8],
     values: &mut [u8],
     record: &mut Record,
-) -> usize {
+) {
     for number in 0..new_names.count() {
         let name = new_names.name(text, number);
         let end = record.name_bytes + name.len();
@@ -330,5 +311,4 @@ fn add_names(
         record.name_bytes = end;
         record.name_count += 1;
     }
-    new_names.count()
 }
