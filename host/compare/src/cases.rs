@@ -2,12 +2,13 @@
 
 use std::collections::{BTreeMap, VecDeque};
 
-use protocol::{run_reference, Answer, Call, Tables};
+use protocol::{run_reference, Answer, Call, Names, Tables};
 use reference::Record;
 
-use crate::lines::{any_line, change};
+use crate::lines::{any_line, change, spoil_buffer};
 use crate::random::Random;
 use crate::texts::{any_text, bulky_text, delete_text, lawful_text, new_name, spoil};
+use crate::texts::{has_number, take_number_off};
 
 /// One call, what the reference answers, and what the demands say of it besides.
 pub struct Case {
@@ -19,12 +20,15 @@ pub struct Case {
 }
 
 /// What a call must do beyond agreeing with the reference.
-#[derive(Clone, Copy, PartialEq, Eq, Debug)]
+#[derive(Clone, PartialEq, Eq, Debug)]
 pub enum Promise {
     /// Nothing special.
     None,
     /// The text is a stored line's listing: the same bytes must be stored and no name added.
     SameLine,
+    /// The text is the listing of this line without a number: the line buffer must begin with it, and no
+    /// name be added.
+    SameDirect(Vec<u8>),
     /// The line was just entered: it must list.
     WellFormed,
 }
@@ -46,7 +50,12 @@ struct World {
     tables: Tables,
     names: Vec<Vec<u8>>,
     lines: BTreeMap<usize, Vec<u8>>,
+    /// The line buffer that the last call left.
+    buffer: Vec<u8>,
 }
+
+/// The number of a line that was entered without one, as its first two bytes.
+const DIRECT_HEAD: [u8; 2] = [0x00, 0x80];
 
 impl Iterator for Cases {
     type Item = Case;
@@ -66,8 +75,9 @@ impl Iterator for Cases {
         self.left_in_world -= 1;
         Some(match self.random.below(100) {
             0..=54 => self.enter_case(),
-            55..=76 => self.list_case(),
-            77..=89 => self.foreign_case(),
+            55..=70 => self.list_case(),
+            71..=81 => self.foreign_case(),
+            82..=89 => self.show_case(),
             _ => self.unsound_case(),
         })
     }
@@ -97,8 +107,17 @@ impl Cases {
         }
     }
 
-    /// A text for this world.
+    /// A text for this world, one in five without a number.
     fn text(&mut self) -> Vec<u8> {
+        let mut text = self.numbered_text();
+        if self.random.chance(20) {
+            take_number_off(&mut self.random, &mut text);
+        }
+        text
+    }
+
+    /// A text for this world, with a number if it is not any text.
+    fn numbered_text(&mut self) -> Vec<u8> {
         let random = &mut self.random;
         match random.below(100) {
             0..=49 => lawful_text(random, &self.world.names),
@@ -141,33 +160,70 @@ impl Cases {
         text
     }
 
+    /// An entry over these tables, with a line buffer.
+    fn entry(&mut self, text: Vec<u8>, tables: Tables) -> Call {
+        let line = self.buffer_for(&text, &tables);
+        Call::Enter { text, tables, line }
+    }
+
+    /// A line buffer for a text: of any length, mostly about that of the line if the text has no number.
+    fn buffer_for(&mut self, text: &[u8], tables: &Tables) -> Vec<u8> {
+        let length = match self.random.below(10) {
+            0 => 0,
+            1 => self.random.below(300),
+            2..=4 => 255,
+            _ if has_number(text) => self.random.below(12),
+            _ => {
+                let length = direct_length(text, tables);
+                (length + self.random.below(4)).saturating_sub(2)
+            }
+        };
+        self.stale_buffer(length)
+    }
+
+    /// A line buffer of so many bytes: what the last call left, as far as it goes, or any bytes.
+    fn stale_buffer(&mut self, length: usize) -> Vec<u8> {
+        let kept = if self.random.chance(50) { length } else { 0 };
+        let mut buffer: Vec<u8> = self.world.buffer.iter().take(kept).copied().collect();
+        buffer.extend(self.random.bytes(length - buffer.len()));
+        buffer
+    }
+
     /// Enters a text; sometimes the world goes on from what it leaves.
     fn enter_case(&mut self) -> Case {
-        let call = Call::Enter {
-            text: self.text(),
-            tables: self.world.tables.clone(),
-        };
+        let text = self.text();
+        let direct = !has_number(&text);
+        let call = self.entry(text, self.world.tables.clone());
         let case = self.case(call, Promise::None);
         if let Answer::Enter {
             number: 0,
             added,
             tables,
+            line,
             ..
         } = &case.expected
         {
-            let tables = tables.clone();
-            let added = *added;
+            let (tables, line, added) = (tables.clone(), line.clone(), *added);
             if self.random.chance(30) {
-                if let Some(line) = changed_line(&self.world.tables, &tables) {
-                    let call = Call::List {
-                        line,
-                        tables: tables.clone(),
-                        out: self.random.bytes(1024),
-                    };
+                let out = self.random.bytes(1024);
+                let call = if direct {
+                    Some(show_call(line.clone(), &tables, out))
+                } else {
+                    let tables = tables.clone();
+                    changed_line(&self.world.tables, &tables).map(|number| Call::List {
+                        number,
+                        tables,
+                        out,
+                    })
+                };
+                if let Some(call) = call {
                     let mut listed = self.case(call, Promise::WellFormed);
                     listed.table = if added == 0 { self.table } else { 0 };
                     self.waiting.push_back(listed);
                 }
+            }
+            if direct {
+                self.world.buffer = line;
             }
             if self.random.chance(50) {
                 self.world.adopt(tables);
@@ -177,11 +233,77 @@ impl Cases {
         case
     }
 
+    /// Lists a line buffer, then sometimes enters the listing.
+    fn show_case(&mut self) -> Case {
+        let mut tables = self.world.tables.clone();
+        let buffer = self.some_buffer();
+        let unsound = self.random.chance(10);
+        if unsound {
+            self.upset_tables(&mut tables);
+        }
+        let room = self.out_room();
+        let call = show_call(buffer.clone(), &tables, self.random.bytes(room));
+        let mut case = self.case(call, Promise::None);
+        if unsound {
+            case.table = 0;
+        }
+        if let Answer::List {
+            number: 0,
+            written,
+            out,
+        } = &case.expected
+        {
+            if !unsound && *written <= 120 && self.random.chance(70) {
+                let line = buffer[..buffer[2] as usize].to_vec();
+                let spare = self.random.below(3);
+                let call = Call::Enter {
+                    text: out[..*written].to_vec(),
+                    tables,
+                    line: self.stale_buffer(line.len() + spare),
+                };
+                let again = self.case(call, Promise::SameDirect(line));
+                self.waiting.push_back(again);
+            }
+        }
+        case
+    }
+
+    /// A line buffer to list: what the last call left, a stored line, or one of a foreign hand, sometimes spoilt.
+    fn some_buffer(&mut self) -> Vec<u8> {
+        let mut buffer = self.world.buffer.clone();
+        if self.random.chance(70) {
+            if let (Some(number), Some(other)) = (self.stored_line(), self.stored_line()) {
+                let random = &mut self.random;
+                let (line, other) = (&self.world.lines[&number], &self.world.lines[&other]);
+                buffer = match random.below(10) {
+                    0..=5 => line.clone(),
+                    6..=8 => change(random, line, other),
+                    _ => any_line(random, number),
+                };
+                buffer[..2].copy_from_slice(&DIRECT_HEAD);
+            }
+        }
+        if self.random.chance(30) {
+            spoil_buffer(&mut self.random, &mut buffer);
+        }
+        buffer
+    }
+
+    /// A room for output, mostly ample.
+    fn out_room(&mut self) -> usize {
+        let ample = self.random.chance(60);
+        if ample {
+            1024
+        } else {
+            self.random.below(80)
+        }
+    }
+
     /// Lists a line of the world, then sometimes enters the listing.
     fn list_case(&mut self) -> Case {
-        let line = self.some_line();
+        let number = self.some_line();
         let tables = self.world.tables.clone();
-        self.list_over(line, tables)
+        self.list_over(number, tables)
     }
 
     /// Lists a line that was changed by a foreign hand.
@@ -211,11 +333,10 @@ impl Cases {
     }
 
     /// Lists a line over these tables; a short listing is sometimes entered again.
-    fn list_over(&mut self, line: usize, tables: Tables) -> Case {
-        let ample = self.random.chance(60);
-        let room = if ample { 1024 } else { self.random.below(80) };
+    fn list_over(&mut self, number: usize, tables: Tables) -> Case {
+        let room = self.out_room();
         let call = Call::List {
-            line,
+            number,
             tables: tables.clone(),
             out: self.random.bytes(room),
         };
@@ -227,10 +348,7 @@ impl Cases {
         } = &case.expected
         {
             if *written <= 120 && self.random.chance(70) {
-                let call = Call::Enter {
-                    text: out[..*written].to_vec(),
-                    tables,
-                };
+                let call = self.entry(out[..*written].to_vec(), tables);
                 let again = self.case(call, Promise::SameLine);
                 self.waiting.push_back(again);
             }
@@ -290,13 +408,11 @@ impl Cases {
             self.upset(&mut tables);
         }
         let call = if self.random.chance(50) {
-            Call::Enter {
-                text: self.text(),
-                tables,
-            }
+            let text = self.text();
+            self.entry(text, tables)
         } else {
             Call::List {
-                line: self.some_line(),
+                number: self.some_line(),
                 tables,
                 out: self.random.bytes(200),
             }
@@ -418,6 +534,35 @@ impl Cases {
         tables.names = stored_names(&names);
         tables.record.name_bytes = tables.names.len();
         tables.names.extend(self.random.bytes(spare));
+    }
+}
+
+/// A listing of this line buffer over the names of these tables.
+fn show_call(line: Vec<u8>, tables: &Tables, out: Vec<u8>) -> Call {
+    Call::Show {
+        line,
+        names: Names {
+            table: tables.names.clone(),
+            bytes: tables.record.name_bytes,
+            count: tables.record.name_count,
+        },
+        values: tables.values.clone(),
+        out,
+    }
+}
+
+/// How long the line of a text without a number is, 0 if it is refused.
+fn direct_length(text: &[u8], tables: &Tables) -> usize {
+    let call = Call::Enter {
+        text: text.to_vec(),
+        tables: tables.clone(),
+        line: vec![0; 255],
+    };
+    match run_reference(call) {
+        Answer::Enter {
+            number: 0, line, ..
+        } => line[2] as usize,
+        _ => 0,
     }
 }
 
@@ -576,7 +721,8 @@ fn new_world(random: &mut Random) -> World {
         tables.record.used = 0;
         agree(&mut tables);
         let text = lawful_text(random, &names);
-        let call = Call::Enter { text, tables };
+        let line = Vec::new();
+        let call = Call::Enter { text, tables, line };
         let Answer::Enter { tables: left, .. } = run_reference(call) else {
             unreachable!("an entry is answered as an entry");
         };

@@ -5,6 +5,7 @@ use std::collections::HashMap;
 use protocol::{Answer, Call, Tables};
 
 use crate::cases::{Case, Promise};
+use crate::texts::has_number;
 
 /// Keeps what the demands compare between calls.
 #[derive(Default)]
@@ -14,9 +15,13 @@ pub struct Checker {
     listings: HashMap<Vec<u8>, Vec<u8>>,
     /// How often each answer was given.
     pub counts: [u64; 12],
-    /// Listings entered again, and pairs of equal listings seen.
+    /// Listings entered again, with a number and without, and pairs of equal listings seen.
     pub entered_again: u64,
+    pub direct_again: u64,
     pub listed_again: u64,
+    /// Lines without a number that were taken, and listed.
+    pub direct: u64,
+    pub shown: u64,
     /// Records that disagree with a store of lines end to end.
     pub disagreeing: u64,
 }
@@ -30,11 +35,9 @@ impl Checker {
         if let Some(count) = self.counts.get_mut(answer.number()) {
             *count += 1;
         }
-        let (Call::Enter { tables, .. } | Call::List { tables, .. }) = &case.call;
-        self.check_record(tables, answer.number())?;
         match (&case.call, answer) {
             (
-                Call::Enter { text, tables },
+                Call::Enter { text, tables, line },
                 Answer::Enter {
                     number,
                     place,
@@ -42,8 +45,10 @@ impl Checker {
                     added,
                     used,
                     tables: after,
+                    line: line_after,
                 },
             ) => {
+                self.check_record(tables, *number)?;
                 require(*used == after.record.used, "used and the record differ")?;
                 let placed = *number == 4 || *number == 5;
                 require(placed || (*place, *end) == (0, 0), "a place without cause")?;
@@ -53,39 +58,69 @@ impl Checker {
                     !placed || (place == end) == (*place == text.len()),
                     "an item without bytes",
                 )?;
+                let blank = text.iter().all(|byte| *byte == b' ');
+                let direct = !has_number(text) && !blank;
+                require(
+                    !direct || !matches!(number, 3 | 9),
+                    "a line without a number was refused as one with a number",
+                )?;
                 if *number != 0 {
                     require(tables == after, "a refusal changed something")?;
                     require(*added == 0, "a refusal added names")?;
+                } else if direct {
+                    self.direct += 1;
+                    check_direct(tables, after, line, line_after)?;
+                    check_names(tables, after, *added)?;
                 } else {
-                    check_edit(tables, after, *added)?;
+                    check_edit(tables, after)?;
+                    check_names(tables, after, *added)?;
                 }
+                require(
+                    line == line_after || *number == 0 && direct,
+                    "the line buffer changed without cause",
+                )?;
                 self.check_entered(case, answer)
             }
             (
-                Call::List { line, tables, out },
+                Call::List {
+                    number: asked,
+                    tables,
+                    out,
+                },
                 Answer::List {
                     number,
                     written,
                     out: after,
                 },
             ) => {
-                require(out.len() == after.len(), "the output has another length")?;
-                require(
-                    out[*written..] == after[*written..],
-                    "bytes past the listing changed",
-                )?;
-                if *number != 0 {
-                    require(*written == 0, "a refused listing wrote")?;
-                    require(
-                        case.promise != Promise::WellFormed,
-                        "an entered line does not list",
-                    )?;
+                self.check_record(tables, *number)?;
+                let Some(listing) = check_output(case, *number, out, *written, after)? else {
                     return Ok(());
-                }
-                let listing = &after[..*written];
-                let Some(bytes) = find(tables, *line) else {
+                };
+                let Some(bytes) = find(tables, *asked) else {
                     return Err("a line that is not there was listed".into());
                 };
+                self.check_listing(case.table, listing, bytes)
+            }
+            (
+                Call::Show { line, out, .. },
+                Answer::List {
+                    number,
+                    written,
+                    out: after,
+                },
+            ) => {
+                let Some(listing) = check_output(case, *number, out, *written, after)? else {
+                    return Ok(());
+                };
+                self.shown += 1;
+                let Some(bytes) = direct_line(line) else {
+                    return Err("a line buffer without a line was listed".into());
+                };
+                require(
+                    !has_number(listing) && listing.first() != Some(&b' '),
+                    "a number or a blank before the first statement",
+                )?;
                 self.check_listing(case.table, listing, bytes)
             }
             _ => Err("an answer of the other kind".into()),
@@ -104,16 +139,18 @@ impl Checker {
 
     /// A listing that was entered must have left everything as it was.
     fn check_entered(&mut self, case: &Case, answer: &Answer) -> Result<(), String> {
-        if case.promise != Promise::SameLine {
-            return Ok(());
-        }
-        self.entered_again += 1;
+        let shown = match &case.promise {
+            Promise::SameLine => None,
+            Promise::SameDirect(shown) => Some(shown),
+            _ => return Ok(()),
+        };
         let (
             Call::Enter { tables, .. },
             Answer::Enter {
                 number,
                 added,
                 tables: after,
+                line,
                 ..
             },
         ) = (&case.call, answer)
@@ -124,7 +161,15 @@ impl Checker {
             *number == 0 && *added == 0,
             "a listing was not taken as it is",
         )?;
-        require(tables == after, "a listing gave other bytes")
+        require(tables == after, "a listing changed the program")?;
+        match shown {
+            None => self.entered_again += 1,
+            Some(shown) => {
+                self.direct_again += 1;
+                require(line.starts_with(shown), "a listing gave other bytes")?;
+            }
+        }
+        Ok(())
     }
 
     /// Equal listings over one table come from equal lines.
@@ -197,8 +242,59 @@ fn lines(tables: &Tables) -> Option<Vec<&[u8]>> {
     Some(lines)
 }
 
-/// An accepted edit: order, other lines, the record, names, and all bytes behind the new ends.
-fn check_edit(before: &Tables, after: &Tables, added: usize) -> Result<(), String> {
+/// The line at the start of a line buffer, if one with the number of lines without a number lies there whole.
+fn direct_line(buffer: &[u8]) -> Option<&[u8]> {
+    let length = *buffer.get(2)? as usize;
+    let line = buffer.get(..length)?;
+    (length >= 6 && number_of(line) == 32768).then_some(line)
+}
+
+/// What a listing wrote, None if it was refused; bytes past it are as they were.
+fn check_output<'a>(
+    case: &Case,
+    number: usize,
+    before: &[u8],
+    written: usize,
+    after: &'a [u8],
+) -> Result<Option<&'a [u8]>, String> {
+    require(before.len() == after.len(), "the output has another length")?;
+    require(
+        before[written..] == after[written..],
+        "bytes past the listing changed",
+    )?;
+    if number == 0 {
+        return Ok(Some(&after[..written]));
+    }
+    require(written == 0, "a refused listing wrote")?;
+    require(
+        case.promise != Promise::WellFormed,
+        "an entered line does not list",
+    )?;
+    Ok(None)
+}
+
+/// An accepted line without a number: it stands in the line buffer, whose other bytes are as they were, and the
+/// store and its counts are untouched.
+fn check_direct(
+    before: &Tables,
+    after: &Tables,
+    buffer: &[u8],
+    buffer_after: &[u8],
+) -> Result<(), String> {
+    let Some(line) = direct_line(buffer_after) else {
+        return Err("the line buffer does not begin with the line".into());
+    };
+    tail(buffer, buffer_after, line.len())?;
+    require(before.store == after.store, "the store changed")?;
+    let counts = |tables: &Tables| (tables.record.used, pair(tables));
+    require(
+        counts(before) == counts(after),
+        "the counts of the store changed",
+    )
+}
+
+/// An accepted edit: order, other lines, the record, and all bytes of the store behind its new end.
+fn check_edit(before: &Tables, after: &Tables) -> Result<(), String> {
     let (Some(old), Some(new)) = (lines(before), lines(after)) else {
         return Err("the store does not hold lines end to end".into());
     };
@@ -220,7 +316,12 @@ fn check_edit(before: &Tables, after: &Tables, added: usize) -> Result<(), Strin
         || (!new_rest.is_empty() && *old_rest == new_rest[1..])
         || (!old_rest.is_empty() && !new_rest.is_empty() && old_rest[1..] == new_rest[1..]);
     require(same, "another line changed")?;
+    tail(&before.store, &after.store, after.record.used)
+}
 
+/// An accepted text: so many names more, the old ones and their values as they were, and all bytes behind the
+/// new ends.
+fn check_names(before: &Tables, after: &Tables, added: usize) -> Result<(), String> {
     let counts = (before.record, after.record);
     require(
         counts.1.name_count == counts.0.name_count + added,
@@ -238,8 +339,7 @@ fn check_edit(before: &Tables, after: &Tables, added: usize) -> Result<(), Strin
         "an old value changed",
     )?;
     tail(&before.names, &after.names, counts.1.name_bytes)?;
-    tail(&before.values, &after.values, 8 * counts.1.name_count)?;
-    tail(&before.store, &after.store, counts.1.used)
+    tail(&before.values, &after.values, 8 * counts.1.name_count)
 }
 
 /// Bytes behind a new end are as they were.

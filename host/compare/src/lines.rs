@@ -169,6 +169,29 @@ pub fn change(random: &mut Random, line: &[u8], other: &[u8]) -> Vec<u8> {
     new
 }
 
+/// Spoils a line buffer that holds a line: cut, another number or length, another byte, bytes behind it.
+pub fn spoil_buffer(random: &mut Random, buffer: &mut Vec<u8>) {
+    let place = random.below(buffer.len().max(1));
+    match random.below(8) {
+        0 => buffer.truncate(place),
+        1 => buffer.truncate(random.below(8)),
+        _ if buffer.len() < 3 => {}
+        2 => buffer[0] = random.byte(),
+        3 => buffer[1] = random.pick(&[0x00, 0x7F, 0x81, 0xFF]),
+        4 => buffer[2] = random.byte(),
+        5 => {
+            buffer[2] = buffer[2]
+                .wrapping_add(random.below(3) as u8)
+                .wrapping_sub(1)
+        }
+        6 => buffer[place] ^= 1 << random.below(8),
+        _ => {
+            let spare = random.below(20);
+            buffer.extend(random.bytes(spare));
+        }
+    }
+}
+
 /// A line of any bytes behind a right head.
 pub fn any_line(random: &mut Random, number: usize) -> Vec<u8> {
     let longest = if random.chance(10) { 255 } else { 24 };

@@ -170,8 +170,12 @@ impl Run {
             println!("  answer {number:2}: {count}");
         }
         println!(
-            "  listings entered again: {}, listings met again: {}",
-            self.checker.entered_again, self.checker.listed_again
+            "  listings entered again: {}, without a number: {}, listings met again: {}",
+            self.checker.entered_again, self.checker.direct_again, self.checker.listed_again
+        );
+        println!(
+            "  lines without a number taken: {}, listed: {}",
+            self.checker.direct, self.checker.shown
         );
         println!(
             "  records that disagree with the store: {}",
@@ -206,6 +210,7 @@ mod tests {
         assert_eq!((run.done, run.differences), (options.calls, 0));
         assert!(run.checker.counts.iter().all(|count| *count > 0));
         assert!(run.checker.entered_again > 0 && run.checker.listed_again > 0);
+        assert!(run.checker.direct > 0 && run.checker.shown > 0 && run.checker.direct_again > 0);
         assert!(run.checker.disagreeing > 0);
     }
 }

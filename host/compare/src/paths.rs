@@ -12,21 +12,25 @@ use protocol::{read_call, run_reference, write_answer};
 pub fn through_text(call: &Call) -> Option<Answer> {
     let line = write_call(call);
     let answer = run_reference(read_call(&line)?);
-    let to_enter = matches!(call, Call::Enter { .. });
-    read_answer(&write_answer(&answer), to_enter)
+    read_answer(&write_answer(&answer), call.kind())
 }
 
 /// The proved library.
 #[cfg(feature = "library")]
 pub fn through_library(call: &Call) -> Option<Answer> {
     Some(match call.clone() {
-        Call::Enter { text, mut tables } => {
+        Call::Enter {
+            text,
+            mut tables,
+            mut line,
+        } => {
             let mut record = lend(&tables.record);
             let answer = virgontey::enter(
                 &text,
                 &mut tables.names,
                 &mut tables.values,
                 &mut tables.store,
+                &mut line,
                 &mut record,
             );
             tables.record = given_back(&record);
@@ -37,20 +41,41 @@ pub fn through_library(call: &Call) -> Option<Answer> {
                 added: answer.added,
                 used: answer.used,
                 tables,
+                line,
             }
         }
         Call::List {
-            line,
+            number,
             tables,
             mut out,
         } => {
             let record = lend(&tables.record);
             let answer = virgontey::list(
-                line,
+                number,
                 &tables.names,
                 &tables.values,
                 &tables.store,
                 &record,
+                &mut out,
+            );
+            Answer::List {
+                number: answer.number,
+                written: answer.written,
+                out,
+            }
+        }
+        Call::Show {
+            line,
+            names,
+            values,
+            mut out,
+        } => {
+            let answer = virgontey::show(
+                &line,
+                &names.table,
+                names.bytes,
+                names.count,
+                &values,
                 &mut out,
             );
             Answer::List {
@@ -111,5 +136,5 @@ pub fn receive(output: &mut impl BufRead, call: &Call) -> io::Result<Option<Answ
     if line.pop() != Some(b'\n') {
         return Ok(None);
     }
-    Ok(read_answer(&line, matches!(call, Call::Enter { .. })))
+    Ok(read_answer(&line, call.kind()))
 }

@@ -175,6 +175,25 @@ pub fn lawful_text(random: &mut Random, names: &[Vec<u8>]) -> Vec<u8> {
     maker.text
 }
 
+/// Says whether a text begins with a digit, after blanks.
+pub fn has_number(text: &[u8]) -> bool {
+    let first = text.iter().find(|byte| **byte != b' ');
+    first.is_some_and(u8::is_ascii_digit)
+}
+
+/// Takes the number off the front of a text; blanks may stand there then.
+pub fn take_number_off(random: &mut Random, text: &mut Vec<u8>) {
+    let blanks = text.iter().take_while(|byte| **byte == b' ').count();
+    let digits = text[blanks..].iter().take_while(|b| b.is_ascii_digit());
+    let end = blanks + digits.count();
+    let kept = if random.chance(20) {
+        random.below(4)
+    } else {
+        0
+    };
+    text.splice(..end, vec![b' '; kept]);
+}
+
 /// Text that deletes a line.
 pub fn delete_text(random: &mut Random) -> Vec<u8> {
     let mut text = line_number_text(random);
