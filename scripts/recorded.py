@@ -1,9 +1,9 @@
-"""Writes crates/cases/specs/Recorded.antt: recorded calls, chosen from those of crates/calls, which `enter` and `list` of paper must meet.
+"""Writes crates/cases/specs/Recorded.antt: recorded calls, chosen from those of crates/calls, which `typed`, `list` and `show` of paper must meet.
 
   python3 scripts/recorded.py      (from the repository's root)
 
-Chosen are: for every row of the grammar that an accepted text of them uses, a short one that uses it; some calls of every answer; and some whose
-record disagrees with a sound store. None is longer than is quick to compute with. docs/PROTOCOL.md says what the fields of a call are.
+Chosen are: for every row of the grammar that an accepted text of them uses, a short one that uses it; some calls of every answer, to texts with a number and
+without, to listings and to `show`; and some whose record disagrees with a sound store. None is longer than is quick to compute with. docs/PROTOCOL.md says what the fields of a call are.
 """
 import re
 from collections import Counter
@@ -13,6 +13,7 @@ import grammar
 
 LONGEST = 1100  # characters of a call: the time to compute grows with it
 EACH_ANSWER = 9
+EACH_DIRECT = 3  # of texts without a number, and of `show`
 DISAGREEING = 4
 
 STATEMENTS, OPERATORS = ({w.spelling: w.class_ for w in table} for table in (grammar.words("statements"), grammar.words("functions") + grammar.words("read-operators")))
@@ -81,6 +82,15 @@ def of_word(word, recorded):
     return [call for call in recorded if call[0][0] == word]
 
 
+def text_of(call):
+    return bytes.fromhex(call[0][1].replace("-", ""))
+
+
+def is_direct(call):
+    """Whether a call enters a text without a number."""
+    return call[0][0] == "enter" and not text_of(call).lstrip(b" ")[:1].isdigit() and text_of(call).strip(b" ") != b""
+
+
 def size(call):
     return sum(len(field) for field in call[0])
 
@@ -96,26 +106,33 @@ def disagrees(call):
     return sound and (int(lines), int(greatest)) != (len(numbers) - 1, max(numbers[-1], 0))
 
 
+def of_each_answer(count, recorded, taken):
+    """So many calls of every answer, that are short and not taken yet."""
+    answers = Counter()
+    for call in recorded:
+        if call not in taken and size(call) <= LONGEST and answers[call[1][0]] < count:
+            answers[call[1][0]] += 1
+            yield call
+
+
 def chosen():
-    """The calls of the table. But for records that disagree they are chosen from those before the first line that is no call."""
-    first = list(takewhile(is_call, CALLS))
-    entered, listed = of_word("enter", first), of_word("list", first)
+    """The calls of the table. Texts with a number and listings, but for records that disagree, are chosen from those before the first line that is no call."""
+    first, every = list(takewhile(is_call, CALLS)), list(filter(is_call, CALLS))
+    entered = [call for call in of_word("enter", first) if not is_direct(call)]
     taken, rows = [], Counter()
     for call in sorted(entered, key=size):
-        text = bytes.fromhex(call[0][1].replace("-", ""))
+        text = text_of(call)
         if call[1][0] == "0" and text.strip(b" 0123456789"):
             new = rows_used(text)
             if any(not rows[r] for r in new):
                 rows.update(new)
                 taken.append(call)
-    for of in (entered, listed):
-        answers = Counter()
-        for call in of:
-            if call not in taken and size(call) <= LONGEST and answers[call[1][0]] < EACH_ANSWER:
-                answers[call[1][0]] += 1
-                taken.append(call)
+    for recorded in (entered, of_word("list", first)):
+        taken += list(of_each_answer(EACH_ANSWER, recorded, taken))
+    for recorded in (filter(is_direct, every), of_word("show", every)):
+        taken += list(of_each_answer(EACH_DIRECT, recorded, taken))
     for word in ("enter", "list"):
-        short = (call for call in of_word(word, filter(is_call, CALLS)) if size(call) <= LONGEST)
+        short = (call for call in of_word(word, every) if size(call) <= LONGEST)
         taken += islice((call for call in short if disagrees(call) and call not in taken), DISAGREEING)
     return taken
 
@@ -129,20 +146,23 @@ def state(names, size_of_names, count, values, store, used, lines, greatest):
 
 
 def row(call):
-    """A call and its answer as a row of the table."""
+    """A call and its answer as a row of the table. What lists a line buffer is lent no store."""
     asked, answer = call
     if asked[0] == "enter":
-        text, before = asked[1], state(*asked[2:])
-        number, place, end, added, used, lines, greatest, size_of_names, count, names, values, store = answer
+        text, before, line = asked[1], state(*asked[2:-1]), asked[-1]
+        number, place, end, added, used, lines, greatest, size_of_names, count, names, values, store, line_after = answer
         after = state(names, size_of_names, count, values, store, used, lines, greatest)
-        return f"enters (hex {quoted(text)}) {before} {number} {place} {end} {added} {after}"
-    line, before, output = asked[1], state(*asked[2:-1]), asked[-1]
-    return f"lists {line} {before} (hex {quoted(output)}) {answer[0]} {answer[1]} (hex {quoted(answer[2])})"
+        return f"types (hex {quoted(text)}) {before} (hex {quoted(line)}) {number} {place} {end} {added} {after} (hex {quoted(line_after)})"
+    if asked[0] == "show":
+        what = f"shows (hex {quoted(asked[1])}) {state(*asked[2:-1], '-', 0, 0, 0)}"
+    else:
+        what = f"lists {asked[1]} {state(*asked[2:-1])}"
+    return f"{what} (hex {quoted(asked[-1])}) {answer[0]} {answer[1]} (hex {quoted(answer[2])})"
 
 
 FILE = "crates/cases/specs/Recorded.antt"
 GROUP = 20
-HEAD = """-- Recorded calls, on which two implementations by different hands agree, as a table that `enter` and `list` meet. (Made by scripts/recorded.py.)
+HEAD = """-- Recorded calls, on which two implementations by different hands agree, as a table that `typed`, `list` and `show` meet. (Made by scripts/recorded.py.)
 use Prim.Native.Nat.{ℕ}
 use Prim.Native.String.{String}
 use mathlib.Core.Path.{_≡_, refl}
@@ -150,7 +170,7 @@ use mathlib.Core.List.{List, [], _∷_}
 use Rattle.paper.specs.Hex.{hex}
 use Rattle.paper.specs.Calls.{State}
 use Rattle.paper.specs.Open.{everything}
-use Rattle.cases.specs.Answers.{Call, enters, lists, same-state, meets, failing}
+use Rattle.cases.specs.Answers.{Call, types, lists, shows, same-state, meets, failing}
 
 -- names, their bytes and count, values, store, the bytes used, the count of lines and the greatest number; all bytes in hexadecimal
 unfoldable pub state : String → ℕ → ℕ → String → String → ℕ → ℕ → ℕ → State
