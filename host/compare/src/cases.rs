@@ -253,7 +253,9 @@ impl Cases {
             out,
         } = &case.expected
         {
-            if !unsound && *written <= 120 && self.random.chance(70) {
+            // The listing of a line buffer is lent no store; what enters it again is.
+            let sound = !unsound && tables.record.used <= 65535;
+            if sound && *written <= 120 && self.random.chance(70) {
                 let line = buffer[..buffer[2] as usize].to_vec();
                 let spare = self.random.below(3);
                 let call = Call::Enter {
