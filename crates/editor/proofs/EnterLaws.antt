@@ -14,7 +14,7 @@ use Rattle.paper.specs.Constants.{value}
 use Rattle.paper.specs.Items.{span, no-span}
 use Rattle.paper.specs.Names.{names-in, name-bytes, add-names}
 use Rattle.paper.specs.Line.{line-bytes, lawful-number?, direct-number?, direct-number}
-use Rattle.paper.specs.Calls.{State, names-of, sound-state, refusal, Translated, tokens, refused-at, translate, accept, answered, delete, Head, numbered, too-great, only-blanks, unnumbered, head-of, at-head, enter-sound, enter}
+use Rattle.paper.specs.Calls.{State, names-of, sound-state, refusal, Translated, tokens, refused-at, translate, answered, delete, Head, numbered, too-great, only-blanks, unnumbered, head-of, at-head, enter-sound, enter}
 use Rattle.paper.specs.Direct.{Typed, line-kept, answered-direct, unnumbered?, typed}
 use Rattle.laws.specs.Names.{names-added, closed?, closed-names}
 use Rattle.laws.specs.Tests.{is-true}
@@ -190,7 +190,7 @@ module _ (names : List ℕ) (e : Editor) (direct : Bool) (text line fresh line�
       written (told .accepted (l .number) (x .p) (x .ts) (x .start) (x .translated)) (l .named) (x .named) room (take (l .named) fresh′) refl (l .size) (x .size) fits
 
   -- a line can be edited by
-  pub reads-line : Ready ks line′ fresh′ r
+  reads-line : Ready ks line′ fresh′ r
   reads-line l q = record { ts = tokens-read l q .ts; written = line-written l q }
 
   -- and what comes of the edit is what the text's start gives

@@ -7,8 +7,8 @@ use borrow.Author.Tests.{eq-eqb, ne-eqb}
 use Rattle.paper.specs.Items.{span}
 use Rattle.paper.specs.Names.{names-in}
 use Rattle.paper.specs.Line.{direct-number, direct-number?}
-use Rattle.paper.specs.Calls.{State, names-of, lines-of, refusal, delete}
-use Rattle.paper.specs.Direct.{Typed, line-kept}
+use Rattle.paper.specs.Calls.{State, lines-of, refusal, delete}
+use Rattle.paper.specs.Direct.{line-kept}
 use Rattle.store.specs.declared.Place.{Place}
 use Rattle.store.specs.Answers.{place-of}
 use Rattle.store.specs.Places.{own-place}

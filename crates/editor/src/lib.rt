@@ -62,9 +62,9 @@ pub fn enter_sound(
     )
 }
 
-// Enters a text: a line is put in or takes the place of the one with its number, a number alone deletes, a line without a number is written to the
-// front of the line buffer and leaves the store. A refusal, 1 to 9, changes nothing. The text is read first, so that one walk over the store tests it
-// and finds the place.
+// Enters a text: a line is put in or takes the place of the one with its number, a number alone deletes. A line without a number is written to the
+// front of the line buffer, and the store stays as it is. A refusal, 1 to 9, changes nothing. The text is read first, so that one walk over the store
+// tests it and finds the place.
 pub fn enter(
     text: &[u8],
     names: &mut [u8],

@@ -1,5 +1,5 @@
 -- What the edits of a sound store give, in the words of `paper`.
-use Prim.Native.Nat.{ℕ, _+_, _-_, _*_, _≤_, _<_}
+use Prim.Native.Nat.{ℕ, _+_, _-_, _*_, _≤_}
 use native.Mathlib.Nat.{add-zero, zero-add}
 use native.Mathlib.Omega.{arith}
 use mathlib.Core.Path.{_≡_, refl, sym, ap, _∙_}
@@ -34,12 +34,12 @@ same-over k l h =
     ap (λ (z : List ℕ). z ++ drop (length z) l) (append-nil (take k l)) ∙ ap (λ (z : ℕ). take k l ++ drop z l) (length-take-le k l h) ∙ take-append-drop k l
 
 -- the state with other lines
-abbrev pub with-lines : State → List (List ℕ) → State
+abbrev with-lines : State → List (List ℕ) → State
 with-lines s ls =
     record { names = s .names; name-size = s .name-size; name-count = s .name-count; values = s .values; store = overwritten (joined ls) (s .store); used = length (joined ls); line-count = length ls; greatest = greatest-number ls }
 
 -- where no name is new the tables stay
-pub tables-stay : (s : State) → T (sound-state s) → (ls : List (List ℕ)) → stored s (names-of s) ls ≡ with-lines s ls
+tables-stay : (s : State) → T (sound-state s) → (ls : List (List ℕ)) → stored s (names-of s) ls ≡ with-lines s ls
 unfolding stored with-names name-bytes value-entries names-of
 tables-stay s o ls =
     let t = table-sound s o in
@@ -79,10 +79,10 @@ module _ (lack : Bool) (size : ℕ) where
       go false false h = (refl, refl)
 
   -- where neither holds there is room for the names, and the line is short
-  pub not-lacking : short-of lack size ≡ 0 → lack ≡ false
+  not-lacking : short-of lack size ≡ 0 → lack ≡ false
   not-lacking h = nothing-short h .0
 
-  pub not-long : short-of lack size ≡ 0 → size ≤ 255
+  not-long : short-of lack size ≡ 0 → size ≤ 255
   not-long h = ltb-false 255 size (nothing-short h .1)
 
   module _ {A : Type 0} (refuse : ℕ → A) (line : List ℕ) (is : size ≡ length line) (unfitting : Bool) (a : A) where
@@ -162,7 +162,7 @@ module _ (s : State) (t : Sound (s .names) (s .name-size) (s .name-count)) (v : 
     added-is = omega (arith, ap length (names-are w), length-append (names-of s) (names-in fresh))
 
     -- the line is written out where it is short and its names are few
-    pub line-is : short-of lack size ≡ 0 → take size line ≡ line-bytes ns n ts
+    line-is : short-of lack size ≡ 0 → take size line ≡ line-bytes ns n ts
     line-is h = w .bytes (not-long lack size h) (omega (arith, roomy h (w .closed) .few, ap length (names-are w), length-append (names-of s) (names-in fresh), counted))
 
     -- its number

@@ -1,4 +1,4 @@
-// The edits of a sound state: a line put in or put into a line buffer, with its new names, or taken out.
+// The edits of a sound state: a line put into the store or into a line buffer, with its new names, or taken out of the store.
 use buffers::copy;
 use buffers::front;
 use store::Counts;

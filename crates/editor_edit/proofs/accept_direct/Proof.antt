@@ -1,4 +1,3 @@
-use native.Mathlib.Omega.{arith}
 use mathlib.Core.List.{[]}
 use Rattle.paper.specs.Line.{direct-number}
 use Rattle.editor_edit.proofs.AnswerLaws.{room-is, direct-short, direct-8, direct-0}

@@ -1,4 +1,3 @@
-use native.Mathlib.Omega.{arith}
 use borrow.Author.Needs.{needs}
 use Rattle.editor_edit.proofs.accepted.Statement.{statement}
 use Rattle.editor_edit.proofs.accepted.Tie as tie

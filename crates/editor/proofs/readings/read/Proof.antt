@@ -1,6 +1,5 @@
 use native.Mathlib.Omega.{arith}
 use Rattle.editor.proofs.EnterLaws.{long-text, short-text}
-use borrow.Author.Needs.{needs}
 use Rattle.editor.proofs.readings.read.Statement.{statement}
 use Rattle.editor.proofs.readings.read.Tie as tie
 
