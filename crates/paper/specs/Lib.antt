@@ -15,6 +15,7 @@ pub mod Listing
 pub mod Store
 pub mod Calls
 pub mod Direct
+pub mod Batch
 pub mod Hex
 pub mod Open
 pub mod Cases
