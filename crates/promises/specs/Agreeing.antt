@@ -1,17 +1,19 @@
 -- The record's count of lines and greatest number (document 02, §6): what every call leaves agrees with the store, and a record that does not is refused.
 use Prim.Native.Nat.{ℕ}
-use mathlib.Core.Path.{_≡_, refl, ap, sym, _∙_}
+use mathlib.Core.Path.{_≡_, refl, subst, ap, sym, _∙_}
 use mathlib.Core.Bool.{Bool, true, false}
-use mathlib.Core.List.{List}
+use mathlib.Core.List.{List, [], _∷_}
 use lib.ListN.{length, take}
 use Rattle.paper.specs.Store.{lines-in, lines-from, greatest-number}
 use Rattle.paper.specs.Calls.{State, lines-of, sound-state, Entered, refusal, enter, not-listed, list}
 use Rattle.paper.specs.Direct.{typed}
 use Rattle.laws.specs.Tests.{as-T}
-use Rattle.promises.specs.Terms.{Agrees, Edited, Reached, empty-record, after-text, after-typed}
+use Rattle.promises.specs.Terms.{Agrees, Edited, Reached, empty-record, after-text, after-typed, state-after, after-batch}
 use Rattle.promises.specs.States.{state-says}
 use Rattle.promises.specs.Editing.{sound-after, after-any}
 use Rattle.promises.specs.DirectLines.{after-any-typed}
+use Rattle.paper.specs.Batch.{text-lines, answers-to, batch}
+use Rattle.promises.specs.Batches.{batch-answers}
 
 -- an empty record agrees
 empty-agrees : (s : State) → s .used ≡ 0 → s .line-count ≡ 0 → s .greatest ≡ 0 → Agrees s
@@ -32,11 +34,21 @@ stays-agreeing text s a = after-any Agrees text s a (edit-agrees text s)
 pub typed-stays-agreeing : (text : List ℕ) (s : State) (buffer : List ℕ) → Agrees s → Agrees ((typed text s buffer) .entered .after)
 typed-stays-agreeing text s buffer a = after-any-typed text s buffer Agrees a (edit-agrees text s) (λ t m. state-says (t .entered .after) (m .kept .sound) .agrees)
 
+lines-agreeing : (ls : List (List ℕ)) (s : State) → Agrees s → Agrees (state-after s (answers-to ls s))
+unfolding answers-to state-after
+lines-agreeing [] s a = a
+lines-agreeing (l ∷ ls) s a = lines-agreeing ls ((enter l s) .after) (stays-agreeing l s a)
+
+-- so many lines leave it
+batch-agrees : (text : List ℕ) (s : State) → Agrees s → Agrees ((batch text s) .after)
+batch-agrees text s a = subst Agrees (sym (batch-answers text s .after)) (lines-agreeing (text-lines text) s a)
+
 -- a record reached from an empty one agrees
 pub reached-agrees : (s : State) → Reached s → Agrees s
 reached-agrees s (empty-record t u n g) = empty-agrees t u n g
 reached-agrees s (after-text text t r) = stays-agreeing text t (reached-agrees t r)
 reached-agrees s (after-typed text t buffer r) = typed-stays-agreeing text t buffer (reached-agrees t r)
+reached-agrees s (after-batch text t r) = batch-agrees text t (reached-agrees t r)
 
 -- ---- a record that disagrees
 

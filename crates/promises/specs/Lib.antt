@@ -40,6 +40,7 @@ pub mod Growing
 pub mod ReEntry
 pub mod DirectLines
 pub mod DirectAgain
+pub mod Batches
 pub mod Agreeing
 pub mod WellFormedLines
 pub mod Tested

@@ -1,5 +1,5 @@
 -- The promises that document 02 adds, a section for each request in the order in which they landed.
-use Prim.Native.Nat.{ℕ, _≤_, _<_}
+use Prim.Native.Nat.{ℕ, _≤_, _<_, _+_}
 use mathlib.Core.Path.{_≡_, refl, ap}
 use mathlib.Core.Bool.{Bool, false}
 use mathlib.Core.Logic.{_↔_, _⊎_}
@@ -14,10 +14,11 @@ use Rattle.paper.specs.Line.{direct-number?}
 use Rattle.paper.specs.WellFormed.{WellFormedDirect, formed?}
 use Rattle.paper.specs.Listing.{direct-listing}
 use Rattle.paper.specs.Store.{overwritten}
-use Rattle.paper.specs.Calls.{State, names-of, sound-state, enter, Listed, list}
+use Rattle.paper.specs.Calls.{State, names-of, sound-state, enter, Listed, list, refusal}
 use Rattle.paper.specs.Direct.{line-kept, typed, line-in, show}
 use Rattle.laws.specs.Runs.{all-every}
-use Rattle.promises.specs.Terms.{number-in, direct?, NoReading, OutOfRange, EndsThere, Readable, Exactly, NoLineNumber, Unread, TooFar, typed-refusals, show-refusals, Unchanged, LineMade, over-store, typed-over-store, HoldsWellFormed, Written, Agrees, Reached, accepted-with}
+use Rattle.promises.specs.Terms.{number-in, direct?, NoReading, OutOfRange, EndsThere, Readable, Exactly, NoLineNumber, Unread, TooFar, typed-refusals, show-refusals, Unchanged, LineMade, over-store, typed-over-store, HoldsWellFormed, Written, Agrees, Reached, accepted-with, digit-count, Parting, EachExactly, Summed, one-then, all-unsound}
+use Rattle.paper.specs.Batch.{text-lines, answers-to, batch}
 use Rattle.laws.specs.Ends as Ends′
 use Rattle.promises.specs.Strings as Strings′
 use Rattle.promises.specs.Answers as Answers′
@@ -29,6 +30,7 @@ use Rattle.promises.specs.WellFormedTest as WellFormedTest′
 use Rattle.promises.specs.WellFormedLines as WellFormedLines′
 use Rattle.promises.specs.OnePlace as OnePlace′
 use Rattle.promises.specs.ExactlyTyped as ExactlyTyped′
+use Rattle.promises.specs.Batches as Batches′
 
 -- ---- §2 A quote left open
 
@@ -187,3 +189,43 @@ direct-neither-4-nor-5 text = OnePlace′.neither 0 text
 -- the listing of a line buffer
 pub show-exactly : (buffer names : List ℕ) (size count : ℕ) (values output : List ℕ) → Exactly (show-refusals buffer names size count values output) ((show buffer names size count values output) .number)
 show-exactly buffer names size count values output = ExactlyTyped′.show-exactly buffer names size count values output
+
+-- ---- §3 A whole listing at once
+
+-- A text is parted into lines: each 9B ends one, and bytes after the last 9B, if any, are one too.
+pub lines-of-text : Parting text-lines
+lines-of-text = Batches′.lines-of-text
+
+-- Each line is answered as the single call answers it over the state that the lines before it left, and so exactly when its condition is the first that holds
+-- there, whether those lines were taken or refused.
+pub lines-exactly : (text : List ℕ) (s : State) → EachExactly (text-lines text) s (answers-to (text-lines text) s)
+lines-exactly text s = Batches′.lines-exactly text s
+
+-- The one call says of these answers how many take their lines, deletions among them, and how many do not; number, place in its line and line of the first
+-- refusal, all 0 if there is none; and it leaves the state that the last line left.
+pub batch-answers : (text : List ℕ) (s : State) → Summed s (answers-to (text-lines text) s) (batch text s)
+batch-answers text s = Batches′.batch-answers text s
+
+-- Every line is taken or refused.
+pub batch-counts : (text : List ℕ) (s : State) → (batch text s) .taken + (batch text s) .refused ≡ length (text-lines text)
+batch-counts text s = Batches′.batch-counts text s
+
+-- A text may be sent in two parts, the first with its last 9B: the second call goes on where the first one ended.
+pub batch-in-two : (a b : List ℕ) (s : State) → batch (a ++ 0x9b ∷ b) s ≡ one-then (batch (a ++ 0x9b ∷ []) s) (batch b ((batch (a ++ 0x9b ∷ []) s) .after))
+batch-in-two a b s = Batches′.batch-in-two a b s
+
+-- Tables, store and record are sound after a text, and after any number of lines, exactly when they were before: one test serves all lines.
+pub same-soundness : (text : List ℕ) (s : State) → sound-state ((enter text s) .after) ≡ sound-state s
+same-soundness text s = Batches′.same-soundness text s
+
+-- many lines
+pub batch-soundness : (text : List ℕ) (s : State) → sound-state ((batch text s) .after) ≡ sound-state s
+batch-soundness text s = Batches′.batch-soundness text s
+
+-- Where they are unsound every line is refused with 1; a text without a line is not.
+pub batch-unsound : (text : List ℕ) (s : State) → sound-state s ≡ false → batch text s ≡ all-unsound (length (text-lines text)) s
+batch-unsound text s u = Batches′.batch-unsound text s u
+
+-- A line without a number, the empty one too, is refused with 3 after 1 and 2, and adds no name.
+pub unnumbered-line : (l : List ℕ) (s : State) → T (sound-state s) → length l ≤ 120 → digit-count l ≡ 0 → enter l s ≡ refusal 3 no-span s
+unnumbered-line l s o h d = Batches′.unnumbered-line l s o h d

@@ -1,5 +1,5 @@
 -- The terms in which the promises are stated.
-use Prim.Native.Nat.{ℕ, _+_, _*_, _^_, _≤_, _<_}
+use Prim.Native.Nat.{ℕ, zero, suc, _+_, _*_, _^_, _≤_, _<_}
 use mathlib.Core.Path.{_≡_}
 use mathlib.Core.Bool.{Bool, not, _&&_}
 use mathlib.Core.Logic.{_↔_, _⊎_}
@@ -10,13 +10,14 @@ use Rattle.paper.specs.Bytes.{pick, every, joined, blank?, digit?, run}
 use Rattle.paper.specs.Tokens.{Token, out-of-range, out-of-range?}
 use Rattle.paper.specs.Constants.{value, five, six}
 use Rattle.paper.specs.Names.{most-names, names-in, sound-names, name-bytes, add-names, value-entries}
-use Rattle.paper.specs.Items.{Item, Span, span-of, no-span, size-at, items}
+use Rattle.paper.specs.Items.{Item, Span, span-of, no-span, size-at, items, raw-byte?}
 use Rattle.paper.specs.Line.{line-bytes, line-number, direct-number}
 use Rattle.paper.specs.WellFormed.{Lawful, WellFormed, WellFormedDirect}
 use Rattle.paper.specs.Listing.{listing, direct-listing}
 use Rattle.paper.specs.Store.{greatest-number, sound-lines, room, stored?, line-at, overwritten}
 use Rattle.paper.specs.Calls.{State, names-of, lines-of, sound-state, Entered, enter, Listed}
 use Rattle.paper.specs.Direct.{Typed, typed, line-in}
+use Rattle.paper.specs.Batch.{RefusedLine, none-refused, Batched, no-lines, batch}
 
 -- ---- a text's number and items
 
@@ -349,6 +350,7 @@ pub data Reached : State → Type 0 where
   empty-record : (s : State) → s .used ≡ 0 → s .line-count ≡ 0 → s .greatest ≡ 0 → Reached s
   after-text : (text : List ℕ) (s : State) → Reached s → Reached ((enter text s) .after)
   after-typed : (text : List ℕ) (s : State) (buffer : List ℕ) → Reached s → Reached ((typed text s buffer) .entered .after)
+  after-batch : (text : List ℕ) (s : State) → Reached s → Reached ((batch text s) .after)
 
 -- ---- constants
 
@@ -375,3 +377,60 @@ with-lines s ls =
 -- the answer of a text that is accepted and adds no name
 unfoldable pub accepted-with : State → Entered
 accepted-with after = record { number = 0; place = no-span; added = 0; after = after }
+
+-- ---- a whole listing at once (document 02, §3)
+
+-- A parting of texts into lines: no bytes are no line; a line and its 9B stand before the lines of what follows; bytes without a 9B are one line.
+pub record Parting (lines : List ℕ → List (List ℕ)) : Type 0 where
+  pub none : lines [] ≡ []
+  pub ended : (l rest : List ℕ) → T (every raw-byte? l) → lines (l ++ 0x9b ∷ rest) ≡ l ∷ lines rest
+  pub last : (b : ℕ) (l : List ℕ) → T (every raw-byte? (b ∷ l)) → lines (b ∷ l) ≡ (b ∷ l) ∷ []
+
+-- Answers to lines, a line each: its number is exactly that of the first condition that holds of the line, over the state that the lines before it left.
+pub data EachExactly : List (List ℕ) → State → List Entered → Type 1 where
+  no-answer : (s : State) → EachExactly [] s []
+  answer-and : {l : List ℕ} {ls : List (List ℕ)} {s : State} {e : Entered} {es : List Entered} → Exactly (text-refusals l s) (e .number) → EachExactly ls (e .after) es → EachExactly (l ∷ ls) s (e ∷ es)
+
+-- an answer that takes its line
+unfoldable pub takes? : Entered → Bool
+takes? e = eqb (e .number) 0
+
+-- how many answers pass a test
+unfoldable pub how-many : (Entered → Bool) → List Entered → ℕ
+how-many p [] = 0
+how-many p (e ∷ es) = let n = how-many p es in pick (p e) (suc n) n
+
+-- the state after calls with these answers: the last one's, or that before them if there is none
+unfoldable pub state-after : State → List Entered → State
+state-after s [] = s
+state-after s (e ∷ es) = state-after (e .after) es
+
+-- the first refusal among answers, the first of which is that of line i: all before it take their lines
+pub record FirstRefused (i : ℕ) (es : List Entered) (first : RefusedLine) : Type 0 where
+  pub before : List Entered
+  pub here : Entered
+  pub rest : List Entered
+  pub answers : es ≡ before ++ here ∷ rest
+  pub none-before : T (every takes? before)
+  pub refuses : here .number ≡ 0 → ⊥
+  pub is : first ≡ record { number = here .number; place = here .place; line = i + length before }
+
+-- what the one call for many lines says of their answers: how many take their lines and how many do not, the first that does not, and the state after all
+pub record Summed (s : State) (es : List Entered) (b : Batched) : Type 0 where
+  pub taken : b .taken ≡ how-many takes? es
+  pub refused : b .refused ≡ how-many (λ e. not (takes? e)) es
+  pub first : (T (every takes? es) × (b .first ≡ none-refused)) ⊎ FirstRefused 1 es (b .first)
+  pub after : b .after ≡ state-after s es
+
+-- The answer to two texts, one after the other, from the answer to each: the counts are added; the first refusal is that of the first text, or if it has
+-- none that of the second, with its line counted on.
+unfoldable pub one-then : Batched → Batched → Batched
+one-then x y =
+    let counted-on : RefusedLine = record { number = y .first .number; place = y .first .place; line = x .taken + x .refused + y .first .line } in
+    let in-second : RefusedLine = pick (eqb (y .refused) 0) none-refused counted-on in
+    record { taken = x .taken + y .taken; refused = x .refused + y .refused; first = pick (eqb (x .refused) 0) in-second (x .first); after = y .after }
+
+-- n lines, each refused with 1, the first of them as the first refusal
+unfoldable pub all-unsound : ℕ → State → Batched
+all-unsound zero s = no-lines s
+all-unsound (suc n) s = record { taken = 0; refused = suc n; first = record { number = 1; place = no-span; line = 1 }; after = s }
