@@ -2,3 +2,4 @@ pub mod Quotes
 pub mod Ends
 pub mod Pairs
 pub mod Typed
+pub mod Batches

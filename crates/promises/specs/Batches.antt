@@ -1,6 +1,6 @@
 -- A whole listing at once (document 02, §3): the lines of a text, the answers to them, what the one call makes of these, and its one test of the tables.
 use Prim.Native.Nat.{ℕ, zero, suc, _+_, _≤_}
-use native.Mathlib.Nat.{zero-add, add-zero, add-suc}
+use native.Mathlib.Nat.{zero-add, add-zero, add-suc, suc-add}
 use native.Mathlib.Omega.{arith}
 use mathlib.Core.Path.{_≡_, refl, sym, ap, _∙_}
 use mathlib.Core.Bool.{Bool, true, false, not}
@@ -110,14 +110,26 @@ refused-so (e ∷ es) b = go (eqb (e .number) 0) refl (refused-so es (with-answe
     go true h k = rw h (omega (arith, k, ap (λ (z : Batched). z .refused) (with-taken b e h)))
     go false h k = rw h (omega (arith, k, ap (λ (z : Batched). z .refused) (with-refused b e h)))
 
-after-so : (es : List Entered) (b : Batched) → (with-answers b es) .after ≡ state-after (b .after) es
-unfolding with-answers state-after
-after-so [] b = refl
-after-so (e ∷ es) b = after-so es (with-answer b e) ∙ ap (λ (z : State). state-after z es) (go (eqb (e .number) 0) refl)
+-- one more answer leaves what its line left
+pub answer-after : (b : Batched) (e : Entered) → (with-answer b e) .after ≡ e .after
+answer-after b e = go (eqb (e .number) 0) refl
   where
     go : (x : Bool) → eqb (e .number) 0 ≡ x → (with-answer b e) .after ≡ e .after
     go true h = ap (λ (z : Batched). z .after) (with-taken b e h)
     go false h = ap (λ (z : Batched). z .after) (with-refused b e h)
+
+-- and counts one line more
+pub answer-counted : (b : Batched) (e : Entered) → (with-answer b e) .taken + (with-answer b e) .refused ≡ suc (b .taken + b .refused)
+answer-counted b e = go (eqb (e .number) 0) refl
+  where
+    go : (x : Bool) → eqb (e .number) 0 ≡ x → (with-answer b e) .taken + (with-answer b e) .refused ≡ suc (b .taken + b .refused)
+    go true h = ap (λ (z : Batched). z .taken + z .refused) (with-taken b e h) ∙ suc-add (b .taken) (b .refused)
+    go false h = ap (λ (z : Batched). z .taken + z .refused) (with-refused b e h) ∙ add-suc (b .taken) (b .refused)
+
+after-so : (es : List Entered) (b : Batched) → (with-answers b es) .after ≡ state-after (b .after) es
+unfolding with-answers state-after
+after-so [] b = refl
+after-so (e ∷ es) b = after-so es (with-answer b e) ∙ ap (λ (z : State). state-after z es) (answer-after b e)
 
 -- once a line is refused, the first refusal stays
 first-stays : (es : List Entered) (b : Batched) (n : ℕ) → b .refused ≡ suc n → (with-answers b es) .first ≡ b .first
