@@ -49,14 +49,14 @@ drop-most n xs = go (leb n (length xs)) refl
         let more : length xs ≤ n = omega arith in
         drop-of-length-le xs most ∙ sym (drop-of-length-le xs more)
 
-module _ (rest : List ℕ) (some : 0 < length rest) (end : ℕ) (ends : end ≡ 0 + run raw-byte? (drop 0 rest)) where
+module _ (rest : List ℕ) (end : ℕ) (ends : end ≡ 0 + run raw-byte? (drop 0 rest)) where
   -- the line ends among the bytes
   pub within : end ≤ length rest
   within = omega (arith, ends, run-within raw-byte? rest)
 
   -- its line and those after it, in what a slice has of the bytes
-  pub lines-so : (next : ℕ) → next ≡ min (suc end) (length rest) → text-lines rest ≡ take end rest ∷ text-lines (take (length rest - next) (drop next rest))
-  lines-so next k =
+  pub lines-so : 0 < length rest → (next : ℕ) → next ≡ min (suc end) (length rest) → text-lines rest ≡ take end rest ∷ text-lines (take (length rest - next) (drop next rest))
+  lines-so some next k =
       let e : end ≡ run raw-byte? rest = omega (arith, ends) in
       first rest some
       ∙ ap (λ (z : ℕ). take z rest ∷ text-lines (drop (suc z) rest)) (sym e)

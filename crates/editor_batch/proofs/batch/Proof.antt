@@ -1,7 +1,7 @@
 -- The invariant: `sound` says whether the tables are sound now; no more lines are counted than bytes passed; and the call, going on with the rest from the
 -- answer so far, comes to what it comes to from the start. No buffer has another length.
 use mathlib.Core.Path.{_≡_, refl, sym, ap, _∙_}
-use Prim.Native.Nat.{_+_, _≤_}
+use Prim.Native.Nat.{_+_, _≤_, _<_}
 use native.Mathlib.Omega.{arith}
 use lib.ListN.{length}
 use lib.Seq.{length-take-le}
@@ -43,7 +43,7 @@ batch-spec =
       refl,
     ))
     (λ c κs. search needs)
-    (λ c. let turn = c .before .before .before .loop in sym (length-take-le _ (turn .rest .now) (within (turn .rest .now) (c .before .before .loop-test .taken) _ (c .before .run-end .ensures .0))))
+    (λ c. let turn = c .before .before .before .loop in sym (length-take-le _ (turn .rest .now) (within (turn .rest .now) _ (c .before .run-end .ensures .0))))
     (λ c κs. c .before .before .before .before .before .before .loop .inv .0)
     (λ c κs. omega (arith, c .before .before .before .before .before .before .before .before .before .before .before .before .before .loop .inv .1, c .before .before .before .before .before .before .before .before .before .before .before .before .loop-test .taken, c .before .before .before .before .before .before .before .before .before .before .before .before .before .before .before .before .before .before .before .before .before .before .before .good .0))
     (λ c κs. search needs)
@@ -52,14 +52,15 @@ batch-spec =
     (λ c. omega (arith, c .next-line .ensures))
     (λ c. omega (arith, c .before .next-line .ensures, c .rest .given .2, c .before .before .before .before .before .before .before .before .before .before .before .before .before .before .before .loop-test .taken))
     (λ c. let turn = c .before .before .before .before .before .before .before .before .before .before .before .before .before .before .before .before .loop in
+    let some : 0 < length (turn .rest .now) = omega (arith, c .before .before .before .before .before .before .before .before .before .before .before .before .before .before .before .loop-test .taken) in
     let answer = c .before .before .with-answer .ensures _ _ _ _ _ _ in
     let entry = c .before .before .before .before .before .before .before .before .before .enter-tested .ensures in (
       turn .inv .0 ∙ sym (as-sound _ _ _ answer _ entry),
-      omega (arith, one-counted _ _ _ answer, c .before .next-line .ensures, c .rest .given .2, turn .inv .1, c .before .before .before .before .before .before .before .before .before .before .before .before .before .before .before .loop-test .taken),
+      omega (arith, one-counted _ _ _ answer, c .before .next-line .ensures, c .rest .given .2, turn .inv .1),
       omega (arith, c .before .before .before .before .before .before .before .before .before .enter-tested .kept .1 .1 .0, turn .inv .2),
       omega (arith, c .before .before .before .before .before .before .before .before .before .enter-tested .kept .1 .1 .1 .0, turn .inv .3),
       omega (arith, c .before .before .before .before .before .before .before .before .before .enter-tested .kept .1 .1 .1 .1 .0, turn .inv .4),
-      comes-to _ _ _ answer _ entry _ _ (lines-so (turn .rest .now) (c .before .before .before .before .before .before .before .before .before .before .before .before .before .before .before .loop-test .taken) _ (c .before .before .before .before .before .before .before .before .before .before .before .before .before .before .run-end .ensures .0) _ (c .before .next-line .ensures)) ∙ turn .inv .5,
+      comes-to _ _ _ answer _ entry _ _ (lines-so (turn .rest .now) _ (c .before .before .before .before .before .before .before .before .before .before .before .before .before .before .run-end .ensures .0) some _ (c .before .next-line .ensures)) ∙ turn .inv .5,
     ))
     (λ c. c .before .loop .inv .2)
     (λ c. c .before .loop .inv .3)
