@@ -2,10 +2,11 @@
 
 #![forbid(unsafe_code)]
 
-use reference::Record;
+use reference::{BatchAnswer, Record};
 
 /// The most bytes of each field.
 pub const MOST_TEXT: usize = 4096;
+pub const MOST_LINES_TEXT: usize = 70_000;
 pub const MOST_NAMES: usize = 8192;
 pub const MOST_VALUES: usize = 4096;
 pub const MOST_STORE: usize = 70_000;
@@ -50,6 +51,10 @@ pub enum Call {
         values: Vec<u8>,
         out: Vec<u8>,
     },
+    Batch {
+        text: Vec<u8>,
+        tables: Tables,
+    },
 }
 
 impl Call {
@@ -58,6 +63,7 @@ impl Call {
         match self {
             Call::Enter { .. } => Kind::Enter,
             Call::List { .. } | Call::Show { .. } => Kind::List,
+            Call::Batch { .. } => Kind::Batch,
         }
     }
 }
@@ -67,6 +73,7 @@ impl Call {
 pub enum Kind {
     Enter,
     List,
+    Batch,
 }
 
 /// What a call answers and leaves, whole.
@@ -86,13 +93,18 @@ pub enum Answer {
         written: usize,
         out: Vec<u8>,
     },
+    Batch {
+        answer: BatchAnswer,
+        tables: Tables,
+    },
 }
 
 impl Answer {
-    /// The answer's number.
+    /// The answer's number; of many lines that of the first refusal.
     pub fn number(&self) -> usize {
         match self {
             Answer::Enter { number, .. } | Answer::List { number, .. } => *number,
+            Answer::Batch { answer, .. } => answer.number,
         }
     }
 }
@@ -128,6 +140,11 @@ pub fn read_call(line: &[u8]) -> Option<Call> {
                 values,
                 out,
             }
+        }
+        b"batch" => {
+            let text = fields.bytes(MOST_LINES_TEXT)?;
+            let tables = fields.tables()?;
+            Call::Batch { text, tables }
         }
         _ => return None,
     };
@@ -166,6 +183,11 @@ pub fn write_call(call: &Call) -> Vec<u8> {
             row.bytes(values);
             row.bytes(out);
         }
+        Call::Batch { text, tables } => {
+            row.word("batch");
+            row.bytes(text);
+            row.tables(tables);
+        }
     }
     row.text
 }
@@ -173,9 +195,9 @@ pub fn write_call(call: &Call) -> Vec<u8> {
 /// Reads a line as an answer of this kind; None: it is no such answer.
 pub fn read_answer(line: &[u8], kind: Kind) -> Option<Answer> {
     let mut fields = Fields::new(line);
-    let number = fields.number()?;
     let answer = match kind {
         Kind::Enter => {
+            let number = fields.number()?;
             let place = fields.number()?;
             let end = fields.number()?;
             let added = fields.number()?;
@@ -191,9 +213,20 @@ pub fn read_answer(line: &[u8], kind: Kind) -> Option<Answer> {
             }
         }
         Kind::List => Answer::List {
-            number,
+            number: fields.number()?,
             written: fields.number()?,
             out: fields.bytes(MOST_OUT)?,
+        },
+        Kind::Batch => Answer::Batch {
+            answer: BatchAnswer {
+                taken: fields.number()?,
+                refused: fields.number()?,
+                number: fields.number()?,
+                place: fields.number()?,
+                end: fields.number()?,
+                line: fields.number()?,
+            },
+            tables: fields.tables_after()?,
         },
     };
     fields.at_end().then_some(answer)
@@ -227,6 +260,15 @@ pub fn write_answer(answer: &Answer) -> Vec<u8> {
             row.number(*number);
             row.number(*written);
             row.bytes(out);
+        }
+        Answer::Batch { answer, tables } => {
+            row.number(answer.taken);
+            row.number(answer.refused);
+            row.number(answer.number);
+            row.number(answer.place);
+            row.number(answer.end);
+            row.number(answer.line);
+            row.tables_after(tables.record.used, tables);
         }
     }
     row.text
@@ -296,6 +338,16 @@ pub fn run_reference(call: Call) -> Answer {
                 written: answer.written,
                 out,
             }
+        }
+        Call::Batch { text, mut tables } => {
+            let answer = reference::batch(
+                &text,
+                &mut tables.names,
+                &mut tables.values,
+                &mut tables.store,
+                &mut tables.record,
+            );
+            Answer::Batch { answer, tables }
         }
     }
 }
@@ -501,7 +553,7 @@ mod tests {
 
     #[test]
     fn lines_that_are_no_call() {
-        let bad: [&[u8]; 28] = [
+        let bad: [&[u8]; 31] = [
             b"",
             b" ",
             b"enter",
@@ -530,6 +582,9 @@ mod tests {
             b"show - - 0 0 - - 0 0 0 -",
             b"show 1 - 0 0 - -",
             b"show 0 - 0 0 - -",
+            b"batch - - 0 0 - - 0 0",
+            b"batch - - 0 0 - - 0 0 0 -",
+            b"batch 9 - 0 0 - - 0 0 0",
         ];
         for line in bad {
             assert_eq!(
@@ -541,7 +596,12 @@ mod tests {
         }
         let long_text = ["enter ", &"30".repeat(MOST_TEXT + 1), " - 0 0 - - 0 0 0 -"];
         let long_line = ["show ", &"30".repeat(MOST_LINE + 1), " - 0 0 - -"];
-        for long in [long_text, long_line] {
+        let long_lines = [
+            "batch ",
+            &"9b".repeat(MOST_LINES_TEXT + 1),
+            " - 0 0 - - 0 0 0",
+        ];
+        for long in [long_text, long_line, long_lines] {
             assert_eq!(answer_line(long.concat().as_bytes()), b"bad");
         }
     }
@@ -574,6 +634,11 @@ mod tests {
         answers("list 9223372036854775807 - 0 0 - - 0 0 0 -", "9 0 -");
         answers("show 008006061516ff - 0 0 - ffffffffff", "0 4 454e4420ff");
         answers("show - - 1 0 - -", "1 0 -");
+        answers(
+            "batch 313020454e449b9b454e449b3130 - 0 0 - ffffffffffffff 0 0 0",
+            "2 2 3 0 0 2 0 0 0 0 0 - - 0a0006061516ff",
+        );
+        answers("batch - - 1 0 - - 7 0 0", "0 0 0 0 0 0 7 0 0 1 0 - - -");
     }
 
     #[test]
@@ -583,6 +648,7 @@ mod tests {
             "enter 313020413d31 ff 0 0 ffffffffffffffff - 0 2 3 -",
             "enter 413d31 ff 0 0 ffffffffffffffff - 0 0 0 ffffffffffffffffffffffffffffffff",
             "show 0080060615160a c1 1 1 0000000000000000 ffffff",
+            "batch 3130204242429b323020413d31 ff 0 0 ffffffffffffffff ffffffffffffffffffffffffffffffff 0 0 0",
         ] {
             let call = read_call(line.as_bytes()).unwrap();
             assert_eq!(write_call(&call), line.as_bytes());

@@ -34,39 +34,71 @@ impl Variable {
     }
 }
 
-/// A name table that was found sound, with the places where its names start.
-pub struct Names<'a> {
-    bytes: &'a [u8],
-    starts: [usize; MOST_NAMES + 1],
+/// Where the names of a sound table start.
+pub struct Starts {
+    places: [usize; MOST_NAMES + 1],
     count: usize,
 }
 
-impl<'a> Names<'a> {
+impl Starts {
     /// Tests a name table and notes where each name starts. None: it is unsound.
-    pub fn new(lent: &'a [u8], name_bytes: usize, name_count: usize) -> Option<Names<'a>> {
+    #[inline(always)]
+    pub fn new(lent: &[u8], name_bytes: usize, name_count: usize) -> Option<Starts> {
         if name_count > MOST_NAMES {
             return None;
         }
         let bytes = lent.get(..name_bytes)?;
-        let mut names = Names {
-            bytes,
-            starts: [0; MOST_NAMES + 1],
+        let mut starts = Starts {
+            places: [0; MOST_NAMES + 1],
             count: 0,
         };
         let mut start = 0;
         for _ in 0..name_count {
             let length = 1 + bytes[start..].iter().position(|byte| *byte >= 0x80)?;
             let name = &bytes[start..start + length];
-            if !is_name(name) || names.find_stored(name).is_some() {
+            if !is_name(name) || starts.holds(bytes, name) {
                 return None;
             }
             start += length;
-            names.count += 1;
-            names.starts[names.count] = start;
+            starts.add(length);
         }
-        (start == bytes.len()).then_some(names)
+        (start == bytes.len()).then_some(starts)
     }
 
+    /// Notes that a name of this length stands behind the others.
+    pub fn add(&mut self, length: usize) {
+        self.places[self.count + 1] = self.places[self.count] + length;
+        self.count += 1;
+    }
+
+    /// Says whether a name, as it is stored, stands in the table. Most names differ in their last byte already.
+    fn holds(&self, bytes: &[u8], name: &[u8]) -> bool {
+        let last = name[name.len() - 1];
+        let places = &self.places[..=self.count];
+        places.windows(2).any(|place| {
+            let (start, end) = (place[0], place[1]);
+            bytes[end - 1] == last && bytes[start..end] == *name
+        })
+    }
+
+    /// The names, over the bytes of their table.
+    pub fn over<'a>(&'a self, bytes: &'a [u8]) -> Names<'a> {
+        Names {
+            bytes,
+            starts: &self.places,
+            count: self.count,
+        }
+    }
+}
+
+/// The names of a sound table.
+pub struct Names<'a> {
+    bytes: &'a [u8],
+    starts: &'a [usize; MOST_NAMES + 1],
+    count: usize,
+}
+
+impl<'a> Names<'a> {
     /// How many names there are.
     pub fn count(&self) -> usize {
         self.count
@@ -91,16 +123,8 @@ impl<'a> Names<'a> {
 
     /// Finds a name given as plain text, with its `$` or `(`.
     pub fn find(&self, name: &[u8]) -> Option<usize> {
-        (0..self.count).find(|number| same_name(self.stored(*number), name))
-    }
-
-    /// Finds a name given as it is stored. Most names differ in their last byte already.
-    fn find_stored(&self, name: &[u8]) -> Option<usize> {
-        let last = name.last()?;
-        (0..self.count).find(|number| {
-            let end = self.starts[*number + 1];
-            self.bytes[end - 1] == *last && self.stored(*number) == name
-        })
+        let mut places = self.starts[..=self.count].windows(2);
+        places.position(|place| same_name(&self.bytes[place[0]..place[1]], name))
     }
 
     /// Says whether a name, less its `(`, is spelled like a statement word.
@@ -216,10 +240,11 @@ pub struct Place {
     pub before: usize,
 }
 
-/// Finds the place of a line in a sound store.
-pub fn find_line(store: &[u8], used: usize, number: usize) -> Place {
-    let mut at = 0;
-    let mut before = 0;
+/// Finds the place of a line in a sound store, from the start of a line on whose predecessor, if there is
+/// one, has the number `before`, which is below the one asked for.
+pub fn find_line(store: &[u8], used: usize, number: usize, from: usize, before: usize) -> Place {
+    let mut at = from;
+    let mut before = before;
     while at < used && line_number(store, at) < number {
         before = line_number(store, at);
         at += line_length(store, at);

@@ -347,3 +347,125 @@ fn line_buffers() {
         }
     }
 }
+
+/// Enters a text of many lines over a desk, and each by itself over another like it: answers, tables and store
+/// are the same. Gives what the one call answered: taken, refused, and number, place, end and line of the first
+/// refusal.
+#[track_caller]
+fn batch(desk: &mut Desk, text: &[u8]) -> [usize; 6] {
+    let mut single = desk.clone();
+    let (mut taken, mut refused, mut first) = (0, 0, [0; 4]);
+    let mut lines: Vec<&[u8]> = text.split(|byte| *byte == 0x9B).collect();
+    if lines.last() == Some(&&b""[..]) {
+        lines.pop();
+    }
+    for (count, line) in lines.iter().enumerate() {
+        let digit = line.iter().find(|byte| **byte != b' ');
+        let direct = digit.is_some_and(|byte| !byte.is_ascii_digit());
+        let sound = single.clone().enter(b"").number != 1;
+        let (number, place, end) = if direct && sound && line.len() <= 120 {
+            (3, 0, 0)
+        } else {
+            let answer = single.enter(line);
+            (answer.number, answer.place, answer.end)
+        };
+        taken += (number == 0) as usize;
+        refused += (number != 0) as usize;
+        if number != 0 && refused == 1 {
+            first = [number, place, end, count + 1];
+        }
+    }
+    let answer = desk.batch(text);
+    let found = [
+        answer.taken,
+        answer.refused,
+        answer.number,
+        answer.place,
+        answer.end,
+        answer.line,
+    ];
+    let [number, place, end, line] = first;
+    let shown = String::from_utf8_lossy(text);
+    assert_eq!(found, [taken, refused, number, place, end, line], "{shown}");
+    assert_eq!(*desk, single, "{shown}");
+    found
+}
+
+/// Over empty tables, a text of many lines gets this answer.
+#[track_caller]
+fn batches(text: &[u8], answer: [usize; 6]) {
+    let shown = String::from_utf8_lossy(text).into_owned();
+    assert_eq!(batch(&mut Desk::new(), text), answer, "{shown}");
+}
+
+#[test]
+fn whole_listings() {
+    batches(b"10 A=1\x9B20 END\x9B", [2, 0, 0, 0, 0, 0]);
+    // Each 9B ends a line; bytes after the last one are a line too.
+    batches(b"10 A=1\x9B20 END", [2, 0, 0, 0, 0, 0]);
+    batches(b"10 A=1", [1, 0, 0, 0, 0, 0]);
+    batches(b"", [0, 0, 0, 0, 0, 0]);
+    batches(b"\x9B", [0, 1, 3, 0, 0, 1]);
+    batches(b"\x9B\x9B", [0, 2, 3, 0, 0, 1]);
+    batches(b"10 END\x9B\x9B", [1, 1, 3, 0, 0, 2]);
+    batches(b" ", [0, 1, 3, 0, 0, 1]);
+    // It goes on after a refused line, and tells the first with its place in its own line.
+    batches(
+        b"10 END\x9B30 GOTO\x9B40 A=1E98\x9B50 END",
+        [2, 2, 4, 7, 7, 2],
+    );
+    batches(b"10 IF A BORC THEN 10\x9B20 END", [1, 1, 4, 8, 12, 1]);
+    batches(b"10 A=1E98\x9B\x9B", [0, 2, 5, 5, 9, 1]);
+    // A line without a number gets 3 and adds no name, whatever it holds; one of 121 bytes gets 2.
+    batches(b"10 A=1\x9BPRINT B\x9B20 C=1", [2, 1, 3, 0, 0, 2]);
+    batches(b"PRINT (\x9B-1", [0, 2, 3, 0, 0, 1]);
+    batches(&[b'A'; 121], [0, 1, 2, 0, 0, 1]);
+    batches(&[b'A'; 120], [0, 1, 3, 0, 0, 1]);
+    // Deletions are taken too, or refused.
+    batches(b"10 END\x9B10\x9B10\x9B20", [2, 2, 9, 0, 0, 3]);
+    // A quote left open ends with its line.
+    batches(b"10 ?\"A\x9B20 ?\"B\"\x9B", [2, 0, 0, 0, 0, 0]);
+    let mut desk = Desk::new();
+    batch(&mut desk, b"10 ?\"A\x9B20 END");
+    assert_eq!(desk.list(10), Ok("10 ? \"A\"".into()));
+    // Rising, falling, the same number again, between others; names of earlier lines are known to later ones.
+    batches(
+        b"30 A=B\x9B10 B=A\x9B20 C=A\x9B20 D$=\"\"\x9B40 C(1)=D\x9B10\x9B5 END",
+        [7, 0, 0, 0, 0, 0],
+    );
+    let mut desk = Desk::new();
+    batch(
+        &mut desk,
+        b"30 A=1\x9B10 B=A\x9B30 END\x9B20 A(1)=B\x9B40 B=2",
+    );
+    assert_eq!(desk.names_hex(), "C1 C2 41 A8");
+    assert_eq!(desk.pair(), (4, 40));
+}
+
+#[test]
+fn whole_listings_over_full_or_unsound_tables() {
+    // Unsound tables refuse every line with 1, but no line is none.
+    let mut desk = Desk::with_rooms(0, 0, 0);
+    desk.record.name_bytes = 1;
+    assert_eq!(
+        batch(&mut desk, b"10 END\x9BEND\x9B\x9B"),
+        [0, 3, 1, 0, 0, 1]
+    );
+    assert_eq!(batch(&mut desk, b""), [0; 6]);
+    let mut desk = three(3, 31);
+    assert_eq!(batch(&mut desk, b"10\x9B20"), [0, 2, 1, 0, 0, 1]);
+    // A full store: what does not fit is refused, what comes after it may fit.
+    let mut desk = Desk::with_rooms(1, 8, 18);
+    let text = b"10 END\x9B20 A=1\x9B20 END\x9B30 B=1\x9B10\x9B30 A=B\x9B40 REM\x9B50 END";
+    assert_eq!(batch(&mut desk, text), [5, 3, 8, 0, 0, 2]);
+    // No room for names.
+    let mut desk = Desk::with_rooms(1, 8, 100);
+    assert_eq!(
+        batch(&mut desk, b"10 A=1\x9B20 B=1\x9B30 A=2"),
+        [2, 1, 6, 0, 0, 2]
+    );
+    // A listing of 128 names and one more.
+    let lines = (0..129).map(|number| format!("{number} N{number}=1").into_bytes());
+    let text = lines.collect::<Vec<_>>().join(&0x9B);
+    assert_eq!(batch(&mut Desk::new(), &text), [128, 1, 6, 0, 0, 129]);
+}

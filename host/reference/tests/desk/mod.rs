@@ -1,8 +1,9 @@
 //! A desk with empty tables, for the tests.
 #![allow(dead_code)]
 
-use reference::{enter, list, show, EnterAnswer, ListAnswer, Record};
+use reference::{batch, enter, list, show, BatchAnswer, EnterAnswer, ListAnswer, Record};
 
+#[derive(Clone, PartialEq, Eq, Debug)]
 pub struct Desk {
     pub names: Vec<u8>,
     pub values: Vec<u8>,
@@ -35,6 +36,16 @@ impl Desk {
             &mut self.values,
             &mut self.store,
             &mut self.line,
+            &mut self.record,
+        )
+    }
+
+    pub fn batch(&mut self, text: &[u8]) -> BatchAnswer {
+        batch(
+            text,
+            &mut self.names,
+            &mut self.values,
+            &mut self.store,
             &mut self.record,
         )
     }
