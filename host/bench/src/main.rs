@@ -25,9 +25,11 @@ enum Task {
     ReplaceLonger(usize),
     Delete(usize),
     List(usize),
+    EnterOneByOne(usize),
+    EnterWhole(usize),
 }
 
-const TASKS: [Task; 11] = [
+const TASKS: [Task; 15] = [
     Task::EnterAlone,
     Task::Enter(200),
     Task::Enter(2000),
@@ -39,14 +41,18 @@ const TASKS: [Task; 11] = [
     Task::Delete(2000),
     Task::List(200),
     Task::List(2000),
+    Task::EnterOneByOne(200),
+    Task::EnterWhole(200),
+    Task::EnterOneByOne(2000),
+    Task::EnterWhole(2000),
 ];
 const NAME_COUNTS: [usize; 3] = [0, 18, 128];
 
 impl Task {
-    /// How many lines the store has.
+    /// How many lines the store has at first.
     fn lines(self) -> usize {
         match self {
-            Task::EnterAlone => 0,
+            Task::EnterAlone | Task::EnterOneByOne(_) | Task::EnterWhole(_) => 0,
             Task::Enter(lines)
             | Task::Replace(lines)
             | Task::ReplaceEqual(lines)
@@ -65,6 +71,16 @@ impl Task {
             Task::ReplaceLonger(lines) => format!("replace by a longer line in {lines}"),
             Task::Delete(lines) => format!("delete from {lines}"),
             Task::List(lines) => format!("list of {lines}"),
+            Task::EnterOneByOne(lines) => format!("{lines} lines one by one"),
+            Task::EnterWhole(lines) => format!("{lines} lines at once"),
+        }
+    }
+
+    /// How many lines a round enters or lists.
+    fn calls(self) -> usize {
+        match self {
+            Task::EnterOneByOne(lines) | Task::EnterWhole(lines) => lines,
+            _ => CALLS,
         }
     }
 }
@@ -77,16 +93,16 @@ struct Job {
     numbers: Vec<usize>,
 }
 
-/// Calls of one round.
+/// Calls of one round, unless it enters a program of its own.
 const CALLS: usize = 24;
 
-/// Sets up a task: its calls are spread over the whole program.
+/// Sets up a task: its calls are spread over the whole program, or make it, in rising order.
 fn job(task: Task, names: usize) -> Job {
     let lines = task.lines();
     let place = |call: usize| call * lines.max(1) / CALLS;
     let mut texts = Vec::new();
     let mut numbers = Vec::new();
-    for call in 0..CALLS {
+    for call in 0..task.calls() {
         let number = place(call) * STEP + STEP;
         numbers.push(number);
         texts.push(match task {
@@ -100,7 +116,11 @@ fn job(task: Task, names: usize) -> Job {
             Task::ReplaceLonger(_) => [text(names, number, place(call)), b":END".to_vec()].concat(),
             Task::Delete(_) => number.to_string().into_bytes(),
             Task::List(_) => Vec::new(),
+            Task::EnterOneByOne(_) | Task::EnterWhole(_) => text(names, call * STEP + STEP, call),
         });
+    }
+    if let Task::EnterWhole(_) = task {
+        texts = vec![texts.join(&0x9B)];
     }
     Job {
         task,
@@ -110,12 +130,12 @@ fn job(task: Task, names: usize) -> Job {
     }
 }
 
-/// Runs a round and gives the nanoseconds for each call.
+/// Runs a round and gives the nanoseconds for each line.
 fn round<S: Side>(job: &Job) -> f64 {
     let mut work = job.program.clone();
     let mut out = [0; 1024];
     let start = Instant::now();
-    for call in 0..CALLS {
+    for call in 0..job.texts.len() {
         let number = match job.task {
             Task::List(_) => {
                 let (number, written) = S::list(
@@ -129,6 +149,13 @@ fn round<S: Side>(job: &Job) -> f64 {
                 black_box(&out[..written]);
                 number
             }
+            Task::EnterWhole(_) => S::batch(
+                black_box(&job.texts[call]),
+                &mut work.names,
+                &mut work.values,
+                &mut work.store,
+                &mut work.record,
+            ),
             _ => {
                 if let Task::EnterAlone = job.task {
                     work.empty_store();
@@ -146,7 +173,7 @@ fn round<S: Side>(job: &Job) -> f64 {
     }
     let time = start.elapsed();
     black_box(&work.store);
-    time.as_nanos() as f64 / CALLS as f64
+    time.as_nanos() as f64 / job.task.calls() as f64
 }
 
 /// The bytes of the store that each edit of a round moves, on average, by the number that the contract of the library's
@@ -207,9 +234,9 @@ fn main() {
     let mut words = env::args().skip(1);
     let rounds = match (words.next().as_deref(), words.next()) {
         (Some("--rounds"), Some(count)) => count.parse().expect("a number of rounds"),
-        _ => 500,
+        _ => 500_usize,
     };
-    println!("ns for each line, median of {rounds} rounds of {CALLS} calls");
+    println!("ns for each line, median of {rounds} rounds of {CALLS} calls; of a tenth as many where a program is entered");
     println!("| task | names | reference | library | ratio | bytes moved |");
     println!("|---|---|---|---|---|---|");
     for task in TASKS {
@@ -217,7 +244,8 @@ fn main() {
             let job = job(task, names);
             let mut reference = Vec::new();
             let mut library: Vec<f64> = Vec::new();
-            for _ in 0..rounds {
+            let whole = task.calls() != CALLS;
+            for _ in 0..if whole { rounds.div_ceil(10) } else { rounds } {
                 reference.push(round::<Reference>(&job));
                 #[cfg(feature = "library")]
                 library.push(round::<sides::Library>(&job));
@@ -234,7 +262,7 @@ fn main() {
             };
             let title = task.title();
             let moved = match task {
-                Task::List(_) => "-".into(),
+                Task::List(_) | Task::EnterOneByOne(_) | Task::EnterWhole(_) => "-".into(),
                 _ => format!("{:.0}", moved(&job)),
             };
             println!("| {title} | {names} | {reference:.0} | {shown} | {ratio} | {moved} |");

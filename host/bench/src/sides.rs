@@ -13,6 +13,15 @@ pub trait Side {
         record: &mut Record,
     ) -> usize;
 
+    /// Enters a text of many lines and gives how many were refused.
+    fn batch(
+        text: &[u8],
+        names: &mut [u8],
+        values: &mut [u8],
+        store: &mut [u8],
+        record: &mut Record,
+    ) -> usize;
+
     /// Lists a line and gives the answer's number and the bytes written.
     fn list(
         line: usize,
@@ -37,6 +46,17 @@ impl Side for Reference {
         record: &mut Record,
     ) -> usize {
         reference::enter(text, names, values, store, &mut [], record).number
+    }
+
+    #[inline(never)]
+    fn batch(
+        text: &[u8],
+        names: &mut [u8],
+        values: &mut [u8],
+        store: &mut [u8],
+        record: &mut Record,
+    ) -> usize {
+        reference::batch(text, names, values, store, record).refused
     }
 
     #[inline(never)]
@@ -69,14 +89,22 @@ impl Side for Library {
     ) -> usize {
         let mut lent = lend(record);
         let answer = virgontey::enter(text, names, values, store, &mut [], &mut lent);
-        *record = Record {
-            name_bytes: lent.name_bytes,
-            name_count: lent.name_count,
-            used: lent.used,
-            lines: lent.lines,
-            greatest: lent.greatest,
-        };
+        *record = given_back(&lent);
         answer.number
+    }
+
+    #[inline(never)]
+    fn batch(
+        text: &[u8],
+        names: &mut [u8],
+        values: &mut [u8],
+        store: &mut [u8],
+        record: &mut Record,
+    ) -> usize {
+        let mut lent = lend(record);
+        let answer = virgontey::batch(text, names, values, store, &mut lent);
+        *record = given_back(&lent);
+        answer.refused
     }
 
     #[inline(never)]
@@ -97,6 +125,18 @@ impl Side for Library {
 #[cfg(feature = "library")]
 fn lend(record: &Record) -> virgontey::Record {
     virgontey::Record {
+        name_bytes: record.name_bytes,
+        name_count: record.name_count,
+        used: record.used,
+        lines: record.lines,
+        greatest: record.greatest,
+    }
+}
+
+/// The record as the wrapper gives it back.
+#[cfg(feature = "library")]
+fn given_back(record: &virgontey::Record) -> Record {
+    Record {
         name_bytes: record.name_bytes,
         name_count: record.name_count,
         used: record.used,

@@ -3,7 +3,7 @@
 use std::collections::{BTreeMap, VecDeque};
 
 use protocol::{run_reference, Answer, Call, Names, Tables};
-use reference::Record;
+use reference::{BatchAnswer, Record};
 
 use crate::lines::{any_line, change, spoil_buffer};
 use crate::random::Random;
@@ -29,6 +29,8 @@ pub enum Promise {
     /// The text is the listing of this line without a number: the line buffer must begin with it, and no
     /// name be added.
     SameDirect(Vec<u8>),
+    /// Many lines at once: this is what single calls in the same order add up to.
+    OneByOne(Box<Answer>),
     /// The line was just entered: it must list.
     WellFormed,
 }
@@ -74,10 +76,11 @@ impl Iterator for Cases {
         }
         self.left_in_world -= 1;
         Some(match self.random.below(100) {
-            0..=54 => self.enter_case(),
-            55..=70 => self.list_case(),
-            71..=81 => self.foreign_case(),
-            82..=89 => self.show_case(),
+            0..=51 => self.enter_case(),
+            52..=66 => self.list_case(),
+            67..=77 => self.foreign_case(),
+            78..=85 => self.show_case(),
+            86..=89 => self.batch_case(),
             _ => self.unsound_case(),
         })
     }
@@ -231,6 +234,94 @@ impl Cases {
             }
         }
         case
+    }
+
+    /// Enters many lines at once; sometimes the world goes on from what they leave.
+    fn batch_case(&mut self) -> Case {
+        let text = self.lines_text();
+        let case = self.batch_over(text, self.world.tables.clone());
+        if let Answer::Batch { tables, .. } = &case.expected {
+            if self.random.chance(50) {
+                let grown = tables.record.name_count > self.world.tables.record.name_count;
+                self.world.adopt(tables.clone());
+                self.table += grown as u64;
+            }
+        }
+        case
+    }
+
+    /// Many lines at once over these tables, with what single calls add up to.
+    fn batch_over(&mut self, text: Vec<u8>, tables: Tables) -> Case {
+        let promise = Promise::OneByOne(Box::new(one_by_one(&text, tables.clone())));
+        self.case(Call::Batch { text, tables }, promise)
+    }
+
+    /// A text of many lines: texts of any kind, a program in rising order, or the program that is there. A line
+    /// is empty now and then, and the last one has its 9B or not.
+    fn lines_text(&mut self) -> Vec<u8> {
+        let mut text = Vec::new();
+        match self.random.below(10) {
+            0..=3 => {
+                for _ in 0..self.random.between(0, 12) {
+                    let line = self.text();
+                    self.add_line(&mut text, &line);
+                }
+            }
+            4..=6 => {
+                let mut number = self.random.below(100);
+                for _ in 0..self.random.between(1, 40) {
+                    let line = self.statements_text(number);
+                    self.add_line(&mut text, &line);
+                    number += self.random.below(12);
+                }
+            }
+            7 | 8 => {
+                let tables = self.world.tables.clone();
+                for number in self
+                    .world
+                    .lines
+                    .keys()
+                    .copied()
+                    .take(100)
+                    .collect::<Vec<_>>()
+                {
+                    let line = listing(number, &tables);
+                    self.add_line(&mut text, &line);
+                }
+            }
+            _ => {
+                let length = self.random.below(300);
+                text = self.random.bytes(length);
+                for byte in &mut text {
+                    *byte = if *byte < 40 { 0x9B } else { *byte };
+                }
+            }
+        }
+        if self.random.chance(50) {
+            text.pop();
+        }
+        text
+    }
+
+    /// Adds a line and its 9B, and sometimes an empty line.
+    fn add_line(&mut self, text: &mut Vec<u8>, line: &[u8]) {
+        text.extend_from_slice(line);
+        text.push(0x9B);
+        if self.random.chance(3) {
+            text.push(0x9B);
+        }
+    }
+
+    /// The text of a line with this number: statements that are mostly lawful, or none.
+    fn statements_text(&mut self, number: usize) -> Vec<u8> {
+        let mut text = self.numbered_text();
+        take_number_off(&mut self.random, &mut text);
+        let mut line = number.to_string().into_bytes();
+        if self.random.chance(95) {
+            line.push(b' ');
+            line.append(&mut text);
+        }
+        line
     }
 
     /// Lists a line buffer, then sometimes enters the listing.
@@ -412,6 +503,11 @@ impl Cases {
         let call = if self.random.chance(50) {
             let text = self.text();
             self.entry(text, tables)
+        } else if self.random.chance(10) {
+            let text = self.lines_text();
+            let mut case = self.batch_over(text, tables);
+            case.table = 0;
+            return case;
         } else {
             Call::List {
                 number: self.some_line(),
@@ -550,6 +646,70 @@ fn show_call(line: Vec<u8>, tables: &Tables, out: Vec<u8>) -> Call {
         },
         values: tables.values.clone(),
         out,
+    }
+}
+
+/// What the lines of a text add up to by single calls in their order, going on after a refused one, where a line
+/// without a number is refused with 3 in 3's place.
+fn one_by_one(text: &[u8], mut tables: Tables) -> Answer {
+    let mut answer = BatchAnswer::default();
+    let mut lines: Vec<&[u8]> = text.split(|byte| *byte == 0x9B).collect();
+    if lines.last().is_some_and(|line| line.is_empty()) {
+        lines.pop();
+    }
+    for (count, line) in lines.into_iter().enumerate() {
+        // A blank line is refused with 3, but for what comes before 3, as one without a number is here.
+        let direct = !has_number(line) && line.len() <= 120;
+        let text = if direct { Vec::new() } else { line.to_vec() };
+        let entry = Call::Enter {
+            text,
+            tables,
+            line: Vec::new(),
+        };
+        let Answer::Enter {
+            number,
+            place,
+            end,
+            tables: left,
+            ..
+        } = run_reference(entry)
+        else {
+            unreachable!("an entry is answered as an entry");
+        };
+        tables = left;
+        if number == 0 {
+            answer.taken += 1;
+            continue;
+        }
+        if answer.refused == 0 {
+            answer = BatchAnswer {
+                number,
+                place,
+                end,
+                line: count + 1,
+                ..answer
+            };
+        }
+        answer.refused += 1;
+    }
+    Answer::Batch { answer, tables }
+}
+
+/// The listing of a stored line, or a line of nothing if it has none.
+fn listing(number: usize, tables: &Tables) -> Vec<u8> {
+    let call = Call::List {
+        number,
+        tables: tables.clone(),
+        out: vec![0; 300],
+    };
+    match run_reference(call) {
+        Answer::List {
+            written, mut out, ..
+        } => {
+            out.truncate(written);
+            out
+        }
+        _ => unreachable!("a listing is answered as a listing"),
     }
 }
 

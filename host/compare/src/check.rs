@@ -3,6 +3,7 @@
 use std::collections::HashMap;
 
 use protocol::{Answer, Call, Tables};
+use reference::BatchAnswer;
 
 use crate::cases::{Case, Promise};
 use crate::texts::has_number;
@@ -22,6 +23,10 @@ pub struct Checker {
     /// Lines without a number that were taken, and listed.
     pub direct: u64,
     pub shown: u64,
+    /// Texts of many lines, and lines in them that were taken and refused.
+    pub batches: u64,
+    pub batch_taken: u64,
+    pub batch_refused: u64,
     /// Records that disagree with a store of lines end to end.
     pub disagreeing: u64,
 }
@@ -122,6 +127,41 @@ impl Checker {
                     "a number or a blank before the first statement",
                 )?;
                 self.check_listing(case.table, listing, bytes)
+            }
+            (
+                Call::Batch { text, tables },
+                Answer::Batch {
+                    answer: found,
+                    tables: after,
+                },
+            ) => {
+                self.batches += 1;
+                self.batch_taken += found.taken as u64;
+                self.batch_refused += found.refused as u64;
+                if let Promise::OneByOne(expected) = &case.promise {
+                    require(answer == &**expected, "single calls give something else")?;
+                }
+                if text.is_empty() {
+                    require(
+                        *found == BatchAnswer::default() && tables == after,
+                        "no line did something",
+                    )?;
+                    return Ok(());
+                }
+                self.check_record(tables, found.number)?;
+                check_batch(text, found)?;
+                if found.taken == 0 {
+                    return require(tables == after, "refused lines changed something");
+                }
+                let Some(lines) = lines(after) else {
+                    return Err("the store does not hold lines end to end".into());
+                };
+                require(
+                    pair(after) == walk(&lines),
+                    "the record is not what a walk of the store finds",
+                )?;
+                let added = after.record.name_count - tables.record.name_count;
+                check_names(tables, after, added)
             }
             _ => Err("an answer of the other kind".into()),
         }
@@ -247,6 +287,35 @@ fn direct_line(buffer: &[u8]) -> Option<&[u8]> {
     let length = *buffer.get(2)? as usize;
     let line = buffer.get(..length)?;
     (length >= 6 && number_of(line) == 32768).then_some(line)
+}
+
+/// The answer to many lines, of which there are some: all are counted, and the first refusal has a place in its own
+/// line.
+fn check_batch(text: &[u8], answer: &BatchAnswer) -> Result<(), String> {
+    let ends = text.split_inclusive(|byte| *byte == 0x9B);
+    let lines: Vec<&[u8]> = ends
+        .map(|line| line.strip_suffix(b"\x9B").unwrap_or(line))
+        .collect();
+    require(
+        answer.taken + answer.refused == lines.len(),
+        "a line was not counted",
+    )?;
+    let BatchAnswer {
+        number,
+        place,
+        end,
+        line,
+        ..
+    } = *answer;
+    require(
+        (number == 0) == (answer.refused == 0) && (number == 0) == (line == 0),
+        "a refusal without cause",
+    )?;
+    if number != 4 && number != 5 {
+        return require((place, end) == (0, 0), "a place without cause");
+    }
+    let length = lines.get(line - 1).map_or(0, |line| line.len());
+    require(place <= end && end <= length, "a place outside its line")
 }
 
 /// What a listing wrote, None if it was refused; bytes past it are as they were.

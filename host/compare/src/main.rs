@@ -178,6 +178,10 @@ impl Run {
             self.checker.direct, self.checker.shown
         );
         println!(
+            "  texts of many lines: {}, with {} lines taken and {} refused",
+            self.checker.batches, self.checker.batch_taken, self.checker.batch_refused
+        );
+        println!(
             "  records that disagree with the store: {}",
             self.checker.disagreeing
         );
@@ -211,6 +215,7 @@ mod tests {
         assert!(run.checker.counts.iter().all(|count| *count > 0));
         assert!(run.checker.entered_again > 0 && run.checker.listed_again > 0);
         assert!(run.checker.direct > 0 && run.checker.shown > 0 && run.checker.direct_again > 0);
+        assert!(run.checker.batch_taken > 0 && run.checker.batch_refused > 0);
         assert!(run.checker.disagreeing > 0);
     }
 }

@@ -84,6 +84,26 @@ pub fn through_library(call: &Call) -> Option<Answer> {
                 out,
             }
         }
+        Call::Batch { text, mut tables } => {
+            let mut record = lend(&tables.record);
+            let answer = virgontey::batch(
+                &text,
+                &mut tables.names,
+                &mut tables.values,
+                &mut tables.store,
+                &mut record,
+            );
+            tables.record = given_back(&record);
+            let answer = reference::BatchAnswer {
+                taken: answer.taken,
+                refused: answer.refused,
+                number: answer.number,
+                place: answer.place,
+                end: answer.end,
+                line: answer.line,
+            };
+            Answer::Batch { answer, tables }
+        }
     })
 }
 

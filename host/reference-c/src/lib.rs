@@ -32,6 +32,15 @@ fn read_record(record: &[usize]) -> Record {
     }
 }
 
+/// Writes the editor record.
+fn write_record(record: &Record, lent: &mut [usize]) {
+    lent[0] = record.name_bytes;
+    lent[1] = record.name_count;
+    lent[2] = record.used;
+    lent[3] = record.lines;
+    lent[4] = record.greatest;
+}
+
 /// # Safety
 /// Each pointer must be good for its length, and no two buffers may overlap.
 #[no_mangle]
@@ -61,17 +70,49 @@ pub unsafe extern "C" fn virgontey_enter(
         lent_mut(line, line_len),
         &mut record,
     );
-    lent_record[0] = record.name_bytes;
-    lent_record[1] = record.name_count;
-    lent_record[2] = record.used;
-    lent_record[3] = record.lines;
-    lent_record[4] = record.greatest;
+    write_record(&record, lent_record);
     let answer = lent_mut(answer, answer_len);
     answer[0] = given.number;
     answer[1] = given.place;
     answer[2] = given.end;
     answer[3] = given.added;
     answer[4] = given.used;
+}
+
+/// # Safety
+/// Each pointer must be good for its length, and no two buffers may overlap.
+#[no_mangle]
+pub unsafe extern "C" fn virgontey_batch(
+    text: *const u8,
+    text_len: usize,
+    names: *mut u8,
+    names_len: usize,
+    values: *mut u8,
+    values_len: usize,
+    store: *mut u8,
+    store_len: usize,
+    record: *mut usize,
+    record_len: usize,
+    answer: *mut usize,
+    answer_len: usize,
+) {
+    let lent_record = lent_mut(record, record_len);
+    let mut record = read_record(lent_record);
+    let given = reference::batch(
+        lent(text, text_len),
+        lent_mut(names, names_len),
+        lent_mut(values, values_len),
+        lent_mut(store, store_len),
+        &mut record,
+    );
+    write_record(&record, lent_record);
+    let answer = lent_mut(answer, answer_len);
+    answer[0] = given.taken;
+    answer[1] = given.refused;
+    answer[2] = given.number;
+    answer[3] = given.place;
+    answer[4] = given.end;
+    answer[5] = given.line;
 }
 
 /// # Safety

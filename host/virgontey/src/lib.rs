@@ -33,6 +33,21 @@ pub struct EnterAnswer {
     pub used: usize,
 }
 
+/// What the entry of many lines answers.
+#[derive(Clone, Copy, PartialEq, Eq, Debug, Default)]
+pub struct BatchAnswer {
+    /// How many lines were taken.
+    pub taken: usize,
+    /// How many were refused.
+    pub refused: usize,
+    /// The first refusal: its number, its place in its own line and that place's end, and the line, counted
+    /// from 1. All are 0 if there is none.
+    pub number: usize,
+    pub place: usize,
+    pub end: usize,
+    pub line: usize,
+}
+
 /// What a listing answers.
 #[derive(Clone, Copy, PartialEq, Eq, Debug)]
 pub struct ListAnswer {
@@ -41,11 +56,11 @@ pub struct ListAnswer {
 }
 
 #[cfg(feature = "library")]
-pub use linked::{enter, list, show};
+pub use linked::{batch, enter, list, show};
 
 #[cfg(feature = "library")]
 mod linked {
-    use super::{EnterAnswer, ListAnswer, Record};
+    use super::{BatchAnswer, EnterAnswer, ListAnswer, Record};
 
     extern "C" {
         fn virgontey_enter(
@@ -93,6 +108,20 @@ mod linked {
             answer: *mut usize,
             answer_len: usize,
         );
+        fn virgontey_batch(
+            text: *const u8,
+            text_len: usize,
+            names: *mut u8,
+            names_len: usize,
+            values: *mut u8,
+            values_len: usize,
+            store: *mut u8,
+            store_len: usize,
+            record: *mut usize,
+            record_len: usize,
+            answer: *mut usize,
+            answer_len: usize,
+        );
     }
 
     /// Enters a text: inserts, replaces or deletes a line of the store, or puts a text without a number
@@ -128,13 +157,7 @@ mod linked {
                 answer.len(),
             );
         }
-        [
-            record.name_bytes,
-            record.name_count,
-            record.used,
-            record.lines,
-            record.greatest,
-        ] = counts;
+        *record = record_of(counts);
         let [number, place, end, added, used] = answer;
         EnterAnswer {
             number,
@@ -142,6 +165,47 @@ mod linked {
             end,
             added,
             used,
+        }
+    }
+
+    /// Enters a text of many lines, each ended by 9B, the last perhaps by the text's end: as if each were
+    /// entered by itself, in this order, but that one without a number is refused with 3. A refused line
+    /// changes nothing, and those after it are entered. The tables are tested once.
+    pub fn batch(
+        text: &[u8],
+        names: &mut [u8],
+        values: &mut [u8],
+        store: &mut [u8],
+        record: &mut Record,
+    ) -> BatchAnswer {
+        let mut counts = counts_of(record);
+        let mut answer = [0; 6];
+        // Safe: as above.
+        unsafe {
+            virgontey_batch(
+                text.as_ptr(),
+                text.len(),
+                names.as_mut_ptr(),
+                names.len(),
+                values.as_mut_ptr(),
+                values.len(),
+                store.as_mut_ptr(),
+                store.len(),
+                counts.as_mut_ptr(),
+                counts.len(),
+                answer.as_mut_ptr(),
+                answer.len(),
+            );
+        }
+        *record = record_of(counts);
+        let [taken, refused, number, place, end, line] = answer;
+        BatchAnswer {
+            taken,
+            refused,
+            number,
+            place,
+            end,
+            line,
         }
     }
 
@@ -221,9 +285,22 @@ mod linked {
         ]
     }
 
+    /// The record of counts in that order.
+    fn record_of(counts: [usize; 5]) -> Record {
+        let [name_bytes, name_count, used, lines, greatest] = counts;
+        Record {
+            name_bytes,
+            name_count,
+            used,
+            lines,
+            greatest,
+        }
+    }
+
     #[cfg(test)]
     mod tests {
-        use super::{virgontey_enter, virgontey_list, virgontey_show, Record};
+        use super::{virgontey_batch, virgontey_enter, virgontey_list, virgontey_show};
+        use super::{BatchAnswer, Record};
 
         /// What an entry that a test does not expect is filled with.
         const OTHER: usize = 77;
@@ -268,6 +345,27 @@ mod linked {
                     lent.store.len(),
                     lent.line.as_mut_ptr(),
                     lent.line.len(),
+                    record.as_mut_ptr(),
+                    record.len(),
+                    answer.as_mut_ptr(),
+                    answer.len(),
+                );
+            }
+        }
+
+        /// Enters many lines with a record and an answer of any length.
+        fn batch(text: &[u8], lent: &mut Lent, record: &mut [usize], answer: &mut [usize]) {
+            // Safe: as for the wrapper.
+            unsafe {
+                virgontey_batch(
+                    text.as_ptr(),
+                    text.len(),
+                    lent.names.as_mut_ptr(),
+                    lent.names.len(),
+                    lent.values.as_mut_ptr(),
+                    lent.values.len(),
+                    lent.store.as_mut_ptr(),
+                    lent.store.len(),
                     record.as_mut_ptr(),
                     record.len(),
                     answer.as_mut_ptr(),
@@ -332,8 +430,13 @@ mod linked {
                     assert_eq!(record, ONE_LINE);
                     assert_eq!((lent.store, lent.line), (before.store, before.line));
                 }
-                let lent = lent();
-                let record = ONE_LINE;
+                let (mut lent, before) = (self::lent(), self::lent());
+                let mut record = ONE_LINE;
+                let mut answer = [OTHER; 6];
+                let text = b"20 END\x9B10\x9B";
+                batch(text, &mut lent, &mut record[..length], &mut answer);
+                assert_eq!(answer, [0, 2, 1, 0, 0, 1]);
+                assert_eq!((record, lent.store), (ONE_LINE, before.store));
 
                 let mut out = [0; 32];
                 let mut answer = [OTHER; 2];
@@ -352,6 +455,15 @@ mod linked {
                 enter(b"20 END", &mut lent, &mut record, &mut answer[..length]);
                 assert_eq!(answer[..length], whole[..length]);
                 assert_eq!(answer[length..], [OTHER; 6][length..]);
+                assert_eq!(record, [0, 0, 12, 2, 20, OTHER]);
+
+                let whole = [2, 2, 4, 7, 7, 2, OTHER];
+                let mut record = [0, 0, 6, 1, 10, OTHER];
+                let mut answer = [OTHER; 7];
+                let text = b"20 END\x9B30 GOTO\x9B20 STOP\x9B\x9B";
+                batch(text, &mut self::lent(), &mut record, &mut answer[..length]);
+                assert_eq!(answer[..length], whole[..length]);
+                assert_eq!(answer[length..], [OTHER; 7][length..]);
                 assert_eq!(record, [0, 0, 12, 2, 20, OTHER]);
 
                 let mut out = [0; 32];
@@ -480,6 +592,55 @@ mod linked {
             }
             assert_eq!(super::show(&END, &[], 1, 0, &[], &mut [0; 4]).number, 1);
             assert_eq!(super::show(&END, &[], 0, 0, &[], &mut [0; 3]).number, 11);
+        }
+
+        #[test]
+        fn many_lines_are_entered_as_one_by_one() {
+            let (mut lent, mut single) = (self::lent(), self::lent());
+            let text = b"20 A=1\x9BPRINT A\x9B30 NEXT A(1)\x9B10\x9B\x9B5 ?A";
+            let (mut record, mut counts) = (Record::default(), Record::default());
+            for line in [&b"20 A=1"[..], b"10", b"5 ?A"] {
+                super::enter(
+                    line,
+                    &mut single.names,
+                    &mut single.values,
+                    &mut single.store,
+                    &mut [],
+                    &mut counts,
+                );
+            }
+            let answer = super::batch(
+                text,
+                &mut lent.names,
+                &mut lent.values,
+                &mut lent.store,
+                &mut record,
+            );
+            let expected = BatchAnswer {
+                taken: 2,
+                refused: 4,
+                number: 3,
+                place: 0,
+                end: 0,
+                line: 2,
+            };
+            assert_eq!(answer, expected);
+            assert_eq!(record, counts);
+            assert_eq!(lent.names, single.names);
+            assert_eq!((lent.values, lent.store), (single.values, single.store));
+            assert_eq!((record.lines, record.greatest), (2, 20));
+        }
+
+        #[test]
+        fn no_line_is_no_refusal() {
+            let mut record = Record {
+                name_bytes: OTHER,
+                ..Record::default()
+            };
+            let answer = super::batch(b"", &mut [], &mut [], &mut [], &mut record);
+            assert_eq!(answer, BatchAnswer::default());
+            let answer = super::batch(b"\x9B10 END", &mut [], &mut [], &mut [], &mut record);
+            assert_eq!((answer.refused, answer.number, answer.line), (2, 1, 1));
         }
     }
 }
