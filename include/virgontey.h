@@ -13,8 +13,8 @@
  * Width: counts, lengths, places and the numbers of an answer are size_t of 64 bits, as on x86-64 and
  * on 64-bit Arm. There is no library for other widths.
  *
- * Stack: virgontey_enter takes at most 8 KB, virgontey_list and virgontey_show at most 3 KB, in the fast
- * and in the small library, as measured over 39,740 texts, each with its number and without
+ * Stack: virgontey_enter and virgontey_batch take at most 8 KB, virgontey_list and virgontey_show at most
+ * 3 KB, in the fast and in the small library, as measured over 39,740 texts, each with its number and without
  * (docs/FIGURES.md). No call takes memory from elsewhere.
  *
  * Size: each function stands in a section of its own, so a build that links with --gc-sections leaves
@@ -33,12 +33,12 @@ extern "C" {
 /*
  * The editor record: the counts that go with the buffers. All five are 0 for an empty program.
  *
- * virgontey_enter keeps them true. So a terminal that shows how many lines the program has and which is the
+ * virgontey_enter and virgontey_batch keep them true. So a terminal that shows how many lines the program has and which is the
  * last reads LINES and GREATEST from the record as it stands between two calls: that takes no call, and
  * no walk over the store. Where LINES is 0 there is no line; line 0 alone has 1 and 0.
  *
- * virgontey_enter and virgontey_list test the record: one whose counts are not those of the lent store is
- * refused with 1.
+ * virgontey_enter, virgontey_batch and virgontey_list test the record: one whose counts are not those of the
+ * lent store is refused with 1.
  */
 enum {
     VIRGONTEY_RECORD_NAME_BYTES = 0, /* bytes of name table in use */
@@ -57,6 +57,17 @@ enum {
     VIRGONTEY_ENTER_ADDED = 3,  /* how many names were added, 0 on a refusal */
     VIRGONTEY_ENTER_USED = 4,   /* bytes of store in use afterwards, as given on a refusal */
     VIRGONTEY_ENTER_LENGTH = 5
+};
+
+/* What virgontey_batch answers. The last four are of the first line that was refused, all 0 where none was. */
+enum {
+    VIRGONTEY_BATCH_TAKEN = 0,   /* how many lines were taken, deletions too */
+    VIRGONTEY_BATCH_REFUSED = 1, /* how many lines were refused */
+    VIRGONTEY_BATCH_NUMBER = 2,  /* the refusal, see below */
+    VIRGONTEY_BATCH_PLACE = 3,   /* offset in that line for refusals 4 and 5, otherwise 0 */
+    VIRGONTEY_BATCH_END = 4,     /* offset past the item at that place, as VIRGONTEY_ENTER_END */
+    VIRGONTEY_BATCH_LINE = 5,    /* which line it is, counted from 1 */
+    VIRGONTEY_BATCH_LENGTH = 6
 };
 
 /* What virgontey_list and virgontey_show answer. */
@@ -113,6 +124,23 @@ void virgontey_enter(const uint8_t *text, size_t text_len, uint8_t *names, size_
                      uint8_t *values, size_t values_len, uint8_t *store, size_t store_len,
                      uint8_t *line, size_t line_len, size_t *record, size_t record_len,
                      size_t *answer, size_t answer_len);
+
+/*
+ * Enters a text of many lines, such as a whole program. Each byte 9B ends a line, and bytes after the last
+ * 9B are a line too; an empty text is no line. Buffers and record are left as virgontey_enter would leave
+ * them if it were called for each line in this order, but names, values and store are tested once. A line
+ * without a number is refused with 3, and no line buffer is lent.
+ *
+ *   text    the lines, of any length together; each is taken up to 120 bytes
+ *   names, values, store, record   as for virgontey_enter
+ *   answer  written; answer_len is VIRGONTEY_BATCH_LENGTH
+ *
+ * A refused line changes nothing, and the lines after it are entered. To learn of more refusals than the
+ * first, enter the lines one by one, or those after the first again.
+ */
+void virgontey_batch(const uint8_t *text, size_t text_len, uint8_t *names, size_t names_len,
+                     uint8_t *values, size_t values_len, uint8_t *store, size_t store_len,
+                     size_t *record, size_t record_len, size_t *answer, size_t answer_len);
 
 /*
  * Lists the line with a number into out, without an end mark. Only the bytes written change there;

@@ -1,6 +1,7 @@
 /*
  * Enters three lines and two that are refused, lists the program, and takes its last line out. Then what
  * service staff type at the tag to see a value: a line without a number, which leaves the program alone.
+ * Last, a whole listing is sent to another tag in one call.
  */
 #include <stdio.h>
 #include <string.h>
@@ -32,6 +33,22 @@ static void enter(struct program *p, const char *text)
                answer[VIRGONTEY_ENTER_NUMBER], answer[VIRGONTEY_ENTER_PLACE],
                answer[VIRGONTEY_ENTER_END]);
     }
+}
+
+/* Sends a whole listing, whose lines end in 9B, and says how it went. */
+static void send(struct program *p, const char *listing)
+{
+    size_t answer[VIRGONTEY_BATCH_LENGTH];
+
+    virgontey_batch((const uint8_t *)listing, strlen(listing), p->names, sizeof p->names, p->values,
+                    sizeof p->values, p->store, sizeof p->store, p->record, VIRGONTEY_RECORD_LENGTH,
+                    answer, VIRGONTEY_BATCH_LENGTH);
+    printf("listing: %zu lines taken, %zu refused\n", answer[VIRGONTEY_BATCH_TAKEN],
+           answer[VIRGONTEY_BATCH_REFUSED]);
+    if (answer[VIRGONTEY_BATCH_REFUSED] > 0)
+        printf("line %zu of it was the first: number %zu, from %zu to %zu\n",
+               answer[VIRGONTEY_BATCH_LINE], answer[VIRGONTEY_BATCH_NUMBER],
+               answer[VIRGONTEY_BATCH_PLACE], answer[VIRGONTEY_BATCH_END]);
 }
 
 /* Lists one line. */
@@ -78,7 +95,7 @@ static void count(const struct program *p)
 
 int main(void)
 {
-    static struct program program;
+    static struct program program, other;
     static uint8_t store[sizeof program.store];
 
     enter(&program, "10 L=2:H=8");
@@ -104,5 +121,13 @@ int main(void)
     show(&program);
     count(&program);
     printf("store:   %s\n", memcmp(store, program.store, sizeof store) ? "changed" : "as it was");
+
+    send(&other, "10 L=2:H=8\x9B"
+                 "20 IF V<L OR T>H THEN 900\x9B"
+                 "30 GOTO\x9B"
+                 "PRINT V\x9B"
+                 "900 PRINT \"ALARM \";V\x9B");
+    count(&other);
+    list(&other, 900);
     return 0;
 }

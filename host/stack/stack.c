@@ -1,10 +1,10 @@
 /*
- * Prints the greatest stack that entering and the two listings take, and the text that took it. Each call
- * runs on a stack of its own that was painted before; what is no longer paint was used. Many texts are
- * entered, of 1 to 20 parts and of as many as fit in 120 bytes, each with its number and without, and the
- * lines that come of them are listed.
+ * Prints the greatest stack that entering, a batch and the two listings take, and the text that took it.
+ * Each call runs on a stack of its own that was painted before; what is no longer paint was used. Many texts
+ * are entered, of 1 to 20 parts and of as many as fit in 120 bytes, each with its number, without, and as a
+ * batch of one line, and the lines that come of them are listed.
  *
- *   stack [ENTER LIST]      status 1 where entering, or a listing, takes more bytes than that
+ *   stack [ENTER LIST]      status 1 where entering or a batch, or a listing, takes more bytes than that
  */
 #include <stdio.h>
 #include <stdlib.h>
@@ -71,7 +71,7 @@ static uint64_t stack[STACK / sizeof(uint64_t)];
 static ucontext_t outside, inside;
 
 static uint8_t names[2048], values[1024], store[65535], line[255], out[1024];
-static size_t record[VIRGONTEY_RECORD_LENGTH], answer[VIRGONTEY_ENTER_LENGTH];
+static size_t record[VIRGONTEY_RECORD_LENGTH], answer[VIRGONTEY_BATCH_LENGTH];
 static char text[TEXT + 1];
 
 /* What is entered: the text, or what stands after its number, 1. */
@@ -83,7 +83,7 @@ struct most {
     char text[TEXT + 1];
 };
 
-static struct most entering, listing, showing;
+static struct most entering, sending, listing, showing;
 
 /* What a stack of its own takes for nothing. */
 static size_t idle;
@@ -99,6 +99,13 @@ static void enter(void)
     virgontey_enter((const uint8_t *)entered, strlen(entered), names, sizeof names, values, sizeof values,
                     store, sizeof store, line, sizeof line, record, VIRGONTEY_RECORD_LENGTH, answer,
                     VIRGONTEY_ENTER_LENGTH);
+}
+
+/* Enters a text as a batch of one line. */
+static void batch(void)
+{
+    virgontey_batch((const uint8_t *)entered, strlen(entered), names, sizeof names, values, sizeof values,
+                    store, sizeof store, record, VIRGONTEY_RECORD_LENGTH, answer, VIRGONTEY_BATCH_LENGTH);
 }
 
 /* Lists line 1. */
@@ -150,6 +157,7 @@ static void measure_both(int whole)
 {
     entered = text;
     measure(enter, &entering);
+    measure(batch, &sending);
     if (whole)
         measure(list, &listing);
     entered = text + 1;
@@ -206,6 +214,7 @@ int main(int argc, char **argv)
         measure_both(1);
     }
     well = within("enter", &entering, argc == 3 ? argv[1] : NULL);
+    well &= within("batch", &sending, argc == 3 ? argv[1] : NULL);
     well &= within("list", &listing, argc == 3 ? argv[2] : NULL);
     well &= within("show", &showing, argc == 3 ? argv[2] : NULL);
     return well ? 0 : 1;
