@@ -14,8 +14,8 @@
  * on 64-bit Arm. There is no library for other widths.
  *
  * Stack: virgontey_enter and virgontey_batch take at most 8 KB, virgontey_list and virgontey_show at most
- * 3 KB, in the fast and in the small library, as measured over 39,740 texts, each with its number and without
- * (docs/FIGURES.md). No call takes memory from elsewhere.
+ * 3 KB, in the fast and in the small library, as measured over 39,740 texts, each with its number, without, and
+ * as a batch (docs/FIGURES.md). No call takes memory from elsewhere.
  *
  * Size: each function stands in a section of its own, so a build that links with --gc-sections leaves
  * out what it does not call.
