@@ -75,10 +75,12 @@ impl<'a> Program<'a> {
                 before: self.record.greatest,
             };
         }
-        if number > self.last_before {
-            return find_line(self.store, used, number, self.last_at, self.last_before);
-        }
-        find_line(self.store, used, number, 0, 0)
+        let (from, before) = if number > self.last_before {
+            (self.last_at, self.last_before)
+        } else {
+            (0, 0)
+        };
+        find_line(self.store, used, number, from, before)
     }
 
     /// Puts the line of a text's statements, from `from` on, where it belongs, and adds its new names.

@@ -242,6 +242,7 @@ pub struct Place {
 
 /// Finds the place of a line in a sound store, from the start of a line on whose predecessor, if there is
 /// one, has the number `before`, which is below the one asked for.
+#[inline(always)]
 pub fn find_line(store: &[u8], used: usize, number: usize, from: usize, before: usize) -> Place {
     let mut at = from;
     let mut before = before;
