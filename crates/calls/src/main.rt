@@ -14,7 +14,10 @@ use fields::number_field;
 ghost use Rattle.io.specs.Counts.{Counts};
 
 // The longest line that is kept: more than any call has, unless its numbers begin with thousands of zeros.
-const LONGEST: usize = 300000;
+const LONGEST: usize = 310000;
+
+// The most bytes that a text of one line may have; that of a batch may have as many as its buffer.
+const LONGEST_TEXT: usize = 4096;
 
 // Prints a blank and a number.
 fn print_number(n: usize) {
@@ -28,6 +31,18 @@ fn print_bytes(bytes: &[u8]) {
     console::print_bytes(bytes);
 }
 
+// Prints a record's counts, and the buffers that go with it.
+fn print_after(after: Editor, names: &[u8], values: &[u8], store: &[u8]) {
+    print_number(after.used);
+    print_number(after.lines);
+    print_number(after.greatest);
+    print_number(after.name_bytes);
+    print_number(after.name_count);
+    print_bytes(names);
+    print_bytes(values);
+    print_bytes(store);
+}
+
 // Enters a text and prints the answer: number, place, its end, names added, the record's counts and the buffers afterwards, the line buffer last.
 fn enter(
     text: &[u8],
@@ -38,20 +53,26 @@ fn enter(
     record: Editor,
 ) {
     let r = editor::enter(text, names, values, store, direct, record);
-    let after = r.editor;
     console::print_number(r.number as usize);
     print_number(r.place);
     print_number(r.end);
     print_number(r.added);
-    print_number(after.used);
-    print_number(after.lines);
-    print_number(after.greatest);
-    print_number(after.name_bytes);
-    print_number(after.name_count);
-    print_bytes(names);
-    print_bytes(values);
-    print_bytes(store);
+    print_after(r.editor, names, values, store);
     print_bytes(direct);
+    print(b"\n");
+}
+
+// Enters the lines of a text and prints the answer: lines taken and refused; of the first refusal number, place, its end and line; the record's counts and the buffers
+// afterwards.
+fn batch(text: &[u8], names: &mut [u8], values: &mut [u8], store: &mut [u8], record: Editor) {
+    let r = editor_batch::batch(text, names, values, store, record);
+    console::print_number(r.taken);
+    print_number(r.refused);
+    print_number(r.number as usize);
+    print_number(r.place);
+    print_number(r.end);
+    print_number(r.line);
+    print_after(r.editor, names, values, store);
     print(b"\n");
 }
 
@@ -82,7 +103,7 @@ fn show(
     print_listed(r, out);
 }
 
-// The fields that calls of enter and list have: how many bytes each buffer has, the record, and where the next field begins.
+// The fields that calls of enter, batch and list have: how many bytes each buffer has, the record, and where the next field begins.
 struct Tables {
     names: usize,
     values: usize,
@@ -191,11 +212,50 @@ fn answer_enter(
     store: &mut [u8],
     direct: &mut [u8],
 ) -> bool {
-    let call = read_entering(line, text, names, values, store, direct);
+    let most = within(LONGEST_TEXT, text);
+    let call = read_entering(line, &mut text[..most], names, values, store, direct);
     if !ends(line, call.next) {
         return false;
     }
     enter_within(front(text, call.text), names, values, store, direct, call);
+    true
+}
+
+// Enters the lines of a text over the first bytes of buffers, as many as the fields had.
+fn batch_within(
+    text: &[u8],
+    names: &mut [u8],
+    values: &mut [u8],
+    store: &mut [u8],
+    tables: Tables,
+) {
+    let a = within(tables.names, names);
+    let b = within(tables.values, values);
+    let c = within(tables.store, store);
+    let record = tables.record;
+    batch(
+        text,
+        &mut names[..a],
+        &mut values[..b],
+        &mut store[..c],
+        record,
+    );
+}
+
+// Answers a call of batch, whose fields begin at place 6: false where it is none.
+fn answer_batch(
+    line: &[u8],
+    text: &mut [u8],
+    names: &mut [u8],
+    values: &mut [u8],
+    store: &mut [u8],
+) -> bool {
+    let lines = bytes_field(line, 6, text);
+    let tables = read_tables(line, lines.next, names, values, store);
+    if !ends(line, tables.next) {
+        return false;
+    }
+    batch_within(front(text, lines.n), names, values, store, tables);
     true
 }
 
@@ -291,6 +351,9 @@ fn answer_call(
     if check::same(front(line, 6), b"enter ") {
         return answer_enter(line, text, names, values, store, direct);
     }
+    if check::same(front(line, 6), b"batch ") {
+        return answer_batch(line, text, names, values, store);
+    }
     if check::same(front(line, 5), b"list ") {
         return answer_list(line, names, values, store, out);
     }
@@ -351,7 +414,7 @@ fn answer_all(
 fn main() {
     let mut buffer = io::large_buffer();
     let mut line = [0u8; LONGEST];
-    let mut text = [0u8; 4096];
+    let mut text = [0u8; 70000];
     let mut names = [0u8; 8192];
     let mut values = [0u8; 4096];
     let mut store = [0u8; 70000];

@@ -1,15 +1,18 @@
 -- The answer with that to one line more: taken, refused as the first, refused after another.
-use Prim.Native.Nat.{ℕ, _+_}
+use Prim.Native.Nat.{ℕ, zero, suc, _+_}
 use native.Mathlib.Numerals.{add-one}
 use native.Mathlib.Nat.{add-zero}
-use mathlib.Core.Path.{_≡_, sym, ap, _∙_}
+use mathlib.Core.Path.{_≡_, refl, sym, ap, _∙_}
 use mathlib.Core.Bool.{false}
-use mathlib.Core.List.{List}
+use mathlib.Core.List.{List, []}
+use lib.ListN.{length}
 use borrow.Author.Tests.{eq-eqb, ne-eqb}
 use Rattle.paper.specs.Items.{no-span}
-use Rattle.paper.specs.Calls.{sound-state, refusal, enter}
-use Rattle.paper.specs.Batch.{with-answer}
-use Rattle.promises.specs.Batches.{unsound-entered}
+use Rattle.paper.specs.Calls.{State, sound-state, refusal, enter}
+use Rattle.paper.specs.Batch.{Batched as Outcome, text-lines, no-lines, with-answer, batch}
+use Rattle.paper.specs.Open.{everything}
+use Rattle.promises.specs.Terms.{all-unsound}
+use Rattle.promises.specs.Batches.{unsound-entered, batch-unsound}
 use Rattle.editor_edit.specs.declared.Editor.{Editor}
 use Rattle.editor_edit.specs.declared.Entered.{Entered}
 use Rattle.editor_edit.specs.States.{state, entered, refusing}
@@ -38,3 +41,28 @@ pub refused-unsound : (line names values store : List ℕ) (e : Editor) (r : Ent
     → entered r names values store ≡ enter line (state names values store e)
 unfolding refusal
 refused-unsound line names values store e r q u = ap (λ (z : Entered). entered z names values store) q ∙ sym (unsound-entered line (state names values store e) u)
+
+-- ---- every line refused
+
+-- an answer that leaves another state
+abbrev leaving : State → Outcome → Outcome
+leaving t o = record { taken = o .taken; refused = o .refused; first = o .first; after = t }
+
+left-unsound : (n : ℕ) (s t : State) → leaving t (all-unsound n s) ≡ all-unsound n t
+unfolding all-unsound no-lines
+left-unsound zero s t = refl
+left-unsound (suc n) s t = refl
+
+-- a record that says of a store without room that a byte is used
+abbrev pub wrong-record : Editor
+wrong-record = record { used = 1; lines = 0; greatest = 0; «name_count» = 0; «name_bytes» = 0 }
+
+wrong-unsound : sound-state (state [] [] [] wrong-record) ≡ false
+unfolding everything
+wrong-unsound = refl
+
+-- over it every line of a text is refused, and so the answer is, with any record in its place
+pub all-refused : (text n′ v′ s′ : List ℕ) (r : Batched) (e : Editor) → batched r n′ v′ s′ ≡ batch text (state [] [] [] wrong-record) → (n v s : List ℕ)
+    → batched (record { taken = r .taken; refused = r .refused; number = r .number; place = r .place; end = r .end; line = r .line; editor = e }) n v s ≡ all-unsound (length (text-lines text)) (state n v s e)
+all-refused text n′ v′ s′ r e h n v s =
+    ap (leaving (state n v s e)) (h ∙ batch-unsound text (state [] [] [] wrong-record) wrong-unsound) ∙ left-unsound (length (text-lines text)) (state [] [] [] wrong-record) (state n v s e)

@@ -8,7 +8,9 @@ ghost use mathlib.Core.Path.{_≡_};
 ghost use mathlib.Core.List.{List};
 ghost use Prim.Native.Nat.{ℕ, suc, _+_, _<_, min};
 ghost use Rattle.paper.specs.Calls.{sound-state, enter as enter-call};
-ghost use Rattle.paper.specs.Batch.{with-answer, batch as batch-call};
+ghost use lib.ListN.{length};
+ghost use Rattle.paper.specs.Batch.{text-lines, with-answer, batch as batch-call};
+ghost use Rattle.promises.specs.Terms.{all-unsound};
 ghost use Rattle.editor_edit.specs.States.{state, entered};
 ghost use Rattle.editor_batch.specs.Answers.{batched, nothing-entered};
 
@@ -126,4 +128,35 @@ pub fn batch(
         rest = &rest[next..];
     }
     b
+}
+
+// The answer where no record was lent that tables and store could be tested by: every line of a text is refused with 1, and the record is as it was.
+pub fn refuse_all(text: &[u8], e: Editor) -> Batched
+    ensures { λ r. ⌜ ((n v s : List ℕ) → batched r n v s ≡ all-unsound (length (text-lines (now (text .entry)))) (state n v s e)) ⌝ }
+{
+    let mut names = [0u8; 0];
+    let mut values = [0u8; 0];
+    let mut store = [0u8; 0];
+    let r = batch(
+        text,
+        &mut names,
+        &mut values,
+        &mut store,
+        Editor {
+            used: 1,
+            lines: 0,
+            greatest: 0,
+            name_count: 0,
+            name_bytes: 0,
+        },
+    );
+    Batched {
+        taken: r.taken,
+        refused: r.refused,
+        number: r.number,
+        place: r.place,
+        end: r.end,
+        line: r.line,
+        editor: e,
+    }
 }

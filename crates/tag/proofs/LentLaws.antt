@@ -11,12 +11,17 @@ use Rattle.paper.specs.Items.{no-span}
 use Rattle.paper.specs.Calls.{refusal, not-listed, list}
 use Rattle.paper.specs.Calls.{Listed as Written-out}
 use Rattle.paper.specs.Direct.{Typed, line-kept, typed}
+use Rattle.paper.specs.Batch.{text-lines, batch}
+use Rattle.paper.specs.Batch.{Batched as Outcome}
+use Rattle.promises.specs.Terms.{all-unsound}
+use Rattle.editor_batch.specs.declared.Batched.{Batched}
+use Rattle.editor_batch.specs.Answers.{batched}
 use Rattle.editor_edit.specs.declared.Editor.{Editor}
 use Rattle.editor_edit.specs.declared.Entered.{Entered}
 use Rattle.editor_list.specs.declared.Listed.{Listed}
 use Rattle.editor_edit.specs.States.{state, typed-outcome, refusing}
 use Rattle.editor_list.specs.Answers.{unlisted, listed}
-use Rattle.tag.specs.Lent.{editor-of, counts, entered-numbers, listed-numbers, enter-by-counts, list-by-counts, Leaves, Lists}
+use Rattle.tag.specs.Lent.{editor-of, counts, entered-numbers, listed-numbers, batched-numbers, enter-by-counts, list-by-counts, batch-by-counts, Leaves, LeavesAll, Lists}
 
 -- numbers put at the front, one by one
 pub two-put : (s s₁ s₂ : List ℕ) (a b : ℕ) → s₁ ≡ set s 0 a → s₂ ≡ set s₁ 1 b → s₂ ≡ sets s 0 (a ∷ b ∷ [])
@@ -32,6 +37,10 @@ four-put s s₁ s₂ s₃ s₄ a b d f e₁ e₂ e₃ e₄ = e₄ ∙ ap (λ (x 
 pub five-put : (s s₁ s₂ s₃ s₄ s₅ : List ℕ) (a b d f g : ℕ) → s₁ ≡ set s 0 a → s₂ ≡ set s₁ 1 b → s₃ ≡ set s₂ 2 d → s₄ ≡ set s₃ 3 f → s₅ ≡ set s₄ 4 g
     → s₅ ≡ sets s 0 (a ∷ b ∷ d ∷ f ∷ g ∷ [])
 five-put s s₁ s₂ s₃ s₄ s₅ a b d f g e₁ e₂ e₃ e₄ e₅ = e₅ ∙ ap (λ (x : List ℕ). set x 4 g) (four-put s s₁ s₂ s₃ s₄ a b d f e₁ e₂ e₃ e₄)
+
+pub six-put : (s s₁ s₂ s₃ s₄ s₅ s₆ : List ℕ) (a b d f g h : ℕ) → s₁ ≡ set s 0 a → s₂ ≡ set s₁ 1 b → s₃ ≡ set s₂ 2 d → s₄ ≡ set s₃ 3 f → s₅ ≡ set s₄ 4 g → s₆ ≡ set s₅ 5 h
+    → s₆ ≡ sets s 0 (a ∷ b ∷ d ∷ f ∷ g ∷ h ∷ [])
+six-put s s₁ s₂ s₃ s₄ s₅ s₆ a b d f g h e₁ e₂ e₃ e₄ e₅ e₆ = e₆ ∙ ap (λ (x : List ℕ). set x 5 h) (five-put s s₁ s₂ s₃ s₄ s₅ a b d f g e₁ e₂ e₃ e₄ e₅)
 
 -- a record's counts, read one by one
 pub read-so : (r : List ℕ) (b n u l g : ℕ) → b ≡ getD r 0 0 → n ≡ getD r 1 0 → u ≡ getD r 2 0 → l ≡ getD r 3 0 → g ≡ getD r 4 0
@@ -53,6 +62,22 @@ module _ (text names values store line r : List ℕ) (e : Editor) (so : e ≡ ed
       given
       ∙ ap (λ (x : Editor). typed text (state names values store x) line) so
       ∙ ap (λ (t : Bool). pick t (line-kept line (refusal 1 no-span (state names values store (editor-of r)))) (typed text (state names values store (editor-of r)) line)) (sym (le-ltb (length r) 5 h))
+
+module _ (text names values store r : List ℕ) (e : Editor) (so : e ≡ editor-of r) where
+  -- a record that lacks a count
+  pub batch-lacking : (x : Batched) → ((n v s : List ℕ) → batched x n v s ≡ all-unsound (length (text-lines text)) (state n v s e)) → length r < 5
+      → batched x names values store ≡ batch-by-counts text names values store r
+  batch-lacking x given h =
+      given names values store
+      ∙ ap (λ (y : Editor). all-unsound (length (text-lines text)) (state names values store y)) so
+      ∙ ap (λ (t : Bool). pick t (all-unsound (length (text-lines text)) (state names values store (editor-of r))) (batch text (state names values store (editor-of r)))) (sym (lt-ltb (length r) 5 h))
+
+  -- a record that has them all
+  pub batch-counted : (o : Outcome) → 5 ≤ length r → o ≡ batch text (state names values store e) → o ≡ batch-by-counts text names values store r
+  batch-counted o h given =
+      given
+      ∙ ap (λ (x : Editor). batch text (state names values store x)) so
+      ∙ ap (λ (t : Bool). pick t (all-unsound (length (text-lines text)) (state names values store (editor-of r))) (batch text (state names values store (editor-of r)))) (sym (le-ltb (length r) 5 h))
 
 module _ (line : ℕ) (names values store r output : List ℕ) where
   -- a record that lacks a count
@@ -81,6 +106,18 @@ leaves-so o x r a names values store line r′ a′ e p q = record {
   line-so = ap (λ (y : Typed). y .line) e;
   record-so = p ∙ ap (λ (y : Typed). sets r 0 (counts (y .entered .after))) e;
   answer-so = q ∙ ap (λ (y : Typed). sets a 0 (entered-numbers (y .entered))) e;
+}
+
+-- what entering many lines leaves
+pub leaves-all : (o : Outcome) (x : Batched) (r a names values store r′ a′ : List ℕ) → batched x names values store ≡ o
+    → r′ ≡ sets r 0 (counts ((batched x names values store) .after)) → a′ ≡ sets a 0 (batched-numbers (batched x names values store))
+    → LeavesAll o r a names values store r′ a′
+leaves-all o x r a names values store r′ a′ e p q = record {
+  names-so = ap (λ (y : Outcome). y .after .names) e;
+  values-so = ap (λ (y : Outcome). y .after .values) e;
+  store-so = ap (λ (y : Outcome). y .after .store) e;
+  record-so = p ∙ ap (λ (y : Outcome). sets r 0 (counts (y .after))) e;
+  answer-so = q ∙ ap (λ (y : Outcome). sets a 0 (batched-numbers y)) e;
 }
 
 -- what listing leaves

@@ -10,6 +10,8 @@ use Rattle.paper.specs.Items.{no-span}
 use Rattle.paper.specs.Calls.{State, refusal, not-listed, list}
 use Rattle.paper.specs.Calls.{Entered as Outcome, Listed as Written-out}
 use Rattle.paper.specs.Direct.{Typed, line-kept, typed}
+use Rattle.paper.specs.Batch.{text-lines, Batched, batch}
+use Rattle.promises.specs.Terms.{all-unsound}
 use Rattle.editor_edit.specs.declared.Editor.{Editor}
 use Rattle.editor_edit.specs.States.{state}
 
@@ -29,6 +31,10 @@ entered-numbers o = o .number ∷ o .place .start ∷ o .place .end ∷ o .added
 abbrev pub listed-numbers : Written-out → List ℕ
 listed-numbers o = o .number ∷ o .written ∷ []
 
+-- the numbers that entering many lines answers
+abbrev pub batched-numbers : Batched → List ℕ
+batched-numbers o = o .taken ∷ o .refused ∷ o .first .number ∷ o .first .place .start ∷ o .first .place .end ∷ o .first .line ∷ []
+
 -- a text entered: a record that lacks a count is refused with 1
 abbrev pub enter-by-counts : List ℕ → List ℕ → List ℕ → List ℕ → List ℕ → List ℕ → Typed
 enter-by-counts text names values store line r =
@@ -40,6 +46,12 @@ abbrev pub list-by-counts : ℕ → List ℕ → List ℕ → List ℕ → List 
 list-by-counts line names values store r output =
     pick (ltb (length r) 5) (not-listed 1 output) (list line (state names values store (editor-of r)) output)
 
+-- many lines entered: where the record lacks a count each is refused with 1
+abbrev pub batch-by-counts : List ℕ → List ℕ → List ℕ → List ℕ → List ℕ → Batched
+batch-by-counts text names values store r =
+    let s = state names values store (editor-of r) in
+    pick (ltb (length r) 5) (all-unsound (length (text-lines text)) s) (batch text s)
+
 -- Entering left names, values, store, line buffer, record and answer so: as the outcome says. The record's counts and the answer's numbers stand at the front,
 -- as many as there is room for; what stands behind them is as it was.
 pub record Leaves (o : Typed) (r a names values store line r′ a′ : List ℕ) : Type 0 where
@@ -49,6 +61,14 @@ pub record Leaves (o : Typed) (r a names values store line r′ a′ : List ℕ)
   pub line-so : line ≡ o .line
   pub record-so : r′ ≡ sets r 0 (counts (o .entered .after))
   pub answer-so : a′ ≡ sets a 0 (entered-numbers (o .entered))
+
+-- Entering many lines left names, values, store, record and answer so.
+pub record LeavesAll (o : Batched) (r a names values store r′ a′ : List ℕ) : Type 0 where
+  pub names-so : names ≡ o .after .names
+  pub values-so : values ≡ o .after .values
+  pub store-so : store ≡ o .after .store
+  pub record-so : r′ ≡ sets r 0 (counts (o .after))
+  pub answer-so : a′ ≡ sets a 0 (batched-numbers o)
 
 -- Listing left the output buffer and the answer so.
 pub record Lists (o : Written-out) (a output a′ : List ℕ) : Type 0 where

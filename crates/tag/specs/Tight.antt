@@ -4,13 +4,19 @@ use mathlib.Core.Path.{_≡_, sym, _∙_}
 use mathlib.Core.List.{List}
 use Rattle.paper.specs.Calls.{Listed as Written-out}
 use Rattle.paper.specs.Direct.{Typed}
-use Rattle.tag.specs.Lent.{Leaves, Lists}
+use Rattle.paper.specs.Batch.{Batched}
+use Rattle.tag.specs.Lent.{Leaves, LeavesAll, Lists}
 
 -- of a text entered
 pub one-left : (o : Typed) (r a n v s l e b n′ v′ s′ l′ e′ b′ : List ℕ) → Leaves o r a n v s l e b → Leaves o r a n′ v′ s′ l′ e′ b′
     → (n ≡ n′) × (v ≡ v′) × (s ≡ s′) × (l ≡ l′) × (e ≡ e′) × (b ≡ b′)
 one-left o r a n v s l e b n′ v′ s′ l′ e′ b′ h k =
     (h .names-so ∙ sym (k .names-so), h .values-so ∙ sym (k .values-so), h .store-so ∙ sym (k .store-so), h .line-so ∙ sym (k .line-so), h .record-so ∙ sym (k .record-so), h .answer-so ∙ sym (k .answer-so))
+
+-- of many lines entered
+pub one-left-all : (o : Batched) (r a n v s e b n′ v′ s′ e′ b′ : List ℕ) → LeavesAll o r a n v s e b → LeavesAll o r a n′ v′ s′ e′ b′ → (n ≡ n′) × (v ≡ v′) × (s ≡ s′) × (e ≡ e′) × (b ≡ b′)
+one-left-all o r a n v s e b n′ v′ s′ e′ b′ h k =
+    (h .names-so ∙ sym (k .names-so), h .values-so ∙ sym (k .values-so), h .store-so ∙ sym (k .store-so), h .record-so ∙ sym (k .record-so), h .answer-so ∙ sym (k .answer-so))
 
 -- of a line listed
 pub one-listed : (o : Written-out) (a out b out′ b′ : List ℕ) → Lists o a out b → Lists o a out′ b′ → (out ≡ out′) × (b ≡ b′)

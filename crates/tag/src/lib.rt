@@ -1,4 +1,5 @@
 // The calls for programs in C, over numbers and lent slices, as include/virgontey.h declares them.
+use editor_batch::Batched;
 use editor_edit::Editor;
 use editor_edit::Entered;
 use editor_edit::refused;
@@ -11,7 +12,8 @@ ghost use lib.Seq.{sets};
 ghost use Rattle.paper.specs.Direct.{show};
 ghost use Rattle.editor_edit.specs.States.{typed-outcome};
 ghost use Rattle.editor_list.specs.Answers.{listed};
-ghost use Rattle.tag.specs.Lent.{editor-of, enter-by-counts, list-by-counts, Leaves, Lists};
+ghost use Rattle.editor_batch.specs.Answers.{batched};
+ghost use Rattle.tag.specs.Lent.{editor-of, enter-by-counts, list-by-counts, batch-by-counts, Leaves, LeavesAll, Lists};
 
 // How many counts a record has.
 const COUNTS: usize = 5;
@@ -76,6 +78,18 @@ fn write_listed(answer: &mut [usize], r: Listed)
     put(answer, 1, r.written);
 }
 
+// Writes what entering many lines answered, as many numbers as there is room for.
+fn write_batched(answer: &mut [usize], r: Batched)
+    ensures { λ _. ⌜ now (answer .exit) ≡ sets (now (answer .entry)) 0 (r .taken ∷ r .refused ∷ r .number ∷ r .place ∷ r .end ∷ r .line ∷ []) ⌝ }
+{
+    put(answer, 0, r.taken);
+    put(answer, 1, r.refused);
+    put(answer, 2, r.number as usize);
+    put(answer, 3, r.place);
+    put(answer, 4, r.end);
+    put(answer, 5, r.line);
+}
+
 // Enters a text, or refuses it with 1 where the record lacks a count.
 fn enter_by_counts(
     text: &[u8],
@@ -109,6 +123,23 @@ fn list_by_counts(
         return not_listed(1);
     }
     editor::list(line, names, values, store, read_record(record), out)
+}
+
+// Enters the lines of a text, or refuses each with 1 where the record lacks a count.
+fn batch_by_counts(
+    text: &[u8],
+    names: &mut [u8],
+    values: &mut [u8],
+    store: &mut [u8],
+    record: &[usize],
+) -> Batched
+    ensures { λ r. ⌜ batched r (now (names .exit)) (now (values .exit)) (now (store .exit)) ≡ batch-by-counts (now (text .entry)) (now (names .entry)) (now (values .entry)) (now (store .entry)) (now («record» .entry)) ⌝ }
+{
+    let e = read_record(record);
+    if record.len() < COUNTS {
+        return editor_batch::refuse_all(text, e);
+    }
+    editor_batch::batch(text, names, values, store, e)
 }
 
 // Enters a text, and writes the answer and the record's counts.
@@ -161,4 +192,21 @@ pub extern "C" fn virgontey_show(
 {
     let r = editor::show(line, names, name_bytes, name_count, values, out);
     write_listed(answer, r);
+}
+
+// Enters the lines of a text, and writes the answer and the record's counts.
+#[no_mangle]
+pub extern "C" fn virgontey_batch(
+    text: &[u8],
+    names: &mut [u8],
+    values: &mut [u8],
+    store: &mut [u8],
+    record: &mut [usize],
+    answer: &mut [usize],
+)
+    ensures { λ _. ⌜ LeavesAll (batch-by-counts (now (text .entry)) (now (names .entry)) (now (values .entry)) (now (store .entry)) (now («record» .entry))) (now («record» .entry)) (now (answer .entry)) (now (names .exit)) (now (values .exit)) (now (store .exit)) (now («record» .exit)) (now (answer .exit)) ⌝ }
+{
+    let r = batch_by_counts(text, names, values, store, record);
+    write_record(record, r.editor);
+    write_batched(answer, r);
 }
