@@ -188,6 +188,62 @@ def token_numbers():
     return out
 
 
+# ---- tokens: the proofs of the classes of words
+
+FIT = {
+    "statement": [w.token for w in words("statements") if w.class_ != "unfit"],
+    "operator": sorted([0x16, 0x9B] + [w.token for w in words("operators") if w.class_ != "unfit"]),
+}
+
+
+def fit_tokens():
+    out = f"-- The tokens of other classes than unfit, the last first. ({MADE_BY})\nuse Prim.Native.Nat.{{ℕ}}\nuse mathlib.Core.List.{{List, [], _∷_}}\n"
+    for kind, tokens in FIT.items():
+        listed = [f"0x{t:02x}" for t in reversed(tokens)]
+        lines = "\n    ∷ ".join(" ∷ ".join(listed[i : i + 16]) for i in range(0, len(listed), 16))
+        out += f"\n-- {kind}s\nabbrev pub fit-{kind}s : List ℕ\nfit-{kind}s =\n    {lines} ∷ []\n"
+    return out
+
+
+def class_proof(kind, of, argument, definitions, unfolded):
+    """The proof of the class of a kind of words: an arm for each fit token, in their order, and the rest."""
+    arms = "".join(f"    (λ c. at-key {of} 0x{t:02x} (c .match .keys{i + 1}))\n" for i, t in enumerate(FIT[kind]))
+    return f"""-- Each arm of `{kind}_class` says the class of its token's word. ({MADE_BY})
+{definitions}
+use Rattle.tokens.proofs.Keys.{{at-key}}
+use Rattle.tokens.proofs.Classes.{{{kind}-else}}
+use Rattle.tokens.proofs.{kind}_class.Statement.{{statement}}
+use Rattle.tokens.proofs.{kind}_class.Tie as tie
+
+pub {kind}-class-spec : {{M : Type 1}} → statement M
+unfolding {unfolded}
+{kind}-class-spec =
+    tie.close
+    (tie.spec
+{arms}    (λ c. {kind}-else (c .before .args .token{argument}) (c .match .rest)))
+"""
+
+
+def class_proofs():
+    words_file = "use Rattle.paper.specs.Words."
+    return {
+        "statement": class_proof(
+            "statement",
+            "(λ (t : ℕ). (word-of statements t) .class)",
+            " .0",
+            f"use Prim.Native.Nat.{{ℕ}}\n{words_file}{{word, statements, word-of}}",
+            "word-of statements word",
+        ),
+        "operator": class_proof(
+            "operator",
+            "operator-class",
+            "",
+            f"use Rattle.paper.specs.Tokens.{{operator-class}}\n{words_file}{{word, read-operators, functions, placed-operators, operators, word-of}}",
+            "operator-class word-of operators read-operators functions placed-operators word",
+        ),
+    }
+
+
 # ---- grammar: the rows laid over one another, and the words of the acts
 
 LAYOUT = numbers(open("crates/grammar/specs/Tables.antt").read())
@@ -438,6 +494,8 @@ def main():
         "crates/promises/specs/WordReads.antt": word_reads(),
         "crates/tokens/src/class.rt": class_constants(),
         "crates/tokens/src/number.rt": token_numbers(),
+        "crates/tokens/proofs/FitTokens.antt": fit_tokens(),
+        **{f"crates/tokens/proofs/{kind}_class/Proof.antt": text for kind, text in class_proofs().items()},
         "crates/grammar/specs/Rows.antt": row_tables(),
         "crates/grammar/src/rows.rt": code(),
         **{f"crates/grammar/proofs/rows/{function}/Proof.antt": text for function, text in proofs().items()},

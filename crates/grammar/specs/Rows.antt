@@ -2,27 +2,28 @@
 use Prim.Native.Nat.{ℕ}
 use mathlib.Core.List.{List, [], _∷_}
 use Rattle.paper.specs.Bytes.{bytes}
-use Rattle.paper.specs.Frames.{want-statement, want-after-then, want-end, want-raw-text, want-raw-end, want-operand, want-more-terms, want-array-open, want-second, want-close, want-function-open, want-string, want-substring, want-string-comparison, want-number-assigned, want-string-assigned, want-let-target, want-then, want-for-variable, want-for-equals, want-to, want-step, want-next-variable, want-goto-gosub, want-more-lines, want-dim, want-dim-array-open, want-dim-string-open, want-more-dims, want-plain-variable, want-more-variables, want-print-list, want-print-comparison, want-print-separator, want-poke-comma, want-restore-number}
+use Rattle.paper.specs.Frames.{want-statement, want-after-then, want-end, want-raw-text, want-raw-end, want-operand, want-more-terms, want-array-open, want-second, want-close, want-function-open, want-string, want-substring, want-string-comparison, want-number-assigned, want-string-assigned, want-let-target, want-then, want-for-variable, want-for-equals, want-to, want-step, want-numeric-variable, want-goto-gosub, want-more-lines, want-dim, want-dim-array-open, want-dim-string-open, want-more-dims, want-plain-variable, want-more-variables, want-print-list, want-print-comparison, want-print-separator, want-comma, want-restore-number, want-channel, want-input-channel, want-input-separator, want-print, want-parameters}
 use Rattle.paper.specs.Grammar.{itself, for-strings, as-prefix, put, N}
 use Rattle.grammar.specs.Tables.{laid, word}
 
 -- the rows of the frames that leave what they do not take begin before this place, those of the others here or later
 abbrev pub refusing : ℕ
-refusing = 40
+refusing = 50
 
 -- where the row of each frame begins
 unfoldable pub firsts : List ℕ
 firsts =
-    53 ∷ 40 ∷ 41 ∷ 73 ∷ 59 ∷ 93 ∷ 14 ∷ 43 ∷ 44 ∷ 56 ∷ 94 ∷ 97
-    ∷ 6 ∷ 42 ∷ 90 ∷ 91 ∷ 46 ∷ 83 ∷ 64 ∷ 96 ∷ 86 ∷ 10 ∷ 64 ∷ 88
-    ∷ 24 ∷ 58 ∷ 103 ∷ 104 ∷ 29 ∷ 61 ∷ 34 ∷ 0 ∷ 23 ∷ 1 ∷ 105 ∷ 18 ∷ []
+    70 ∷ 50 ∷ 61 ∷ 99 ∷ 68 ∷ 118 ∷ 49 ∷ 63 ∷ 114 ∷ 64 ∷ 119 ∷ 51
+    ∷ 6 ∷ 115 ∷ 125 ∷ 126 ∷ 66 ∷ 123 ∷ 138 ∷ 131 ∷ 128 ∷ 8 ∷ 138 ∷ 130
+    ∷ 21 ∷ 127 ∷ 139 ∷ 142 ∷ 22 ∷ 134 ∷ 24 ∷ 18 ∷ 32 ∷ 1 ∷ 136 ∷ 36
+    ∷ 124 ∷ 20 ∷ 122 ∷ 0 ∷ 143 ∷ []
 
 -- for each place the class, and what the frame whose row it is does with its items
 unfoldable pub entries : List ℕ
 entries =
     laid
-    (bytes "~~~34567~~~;~==??;B~D34567JKL;@ABCHEB=D@A0=3JKL=89:567;><=@A189:6756<5NOPQRSTUVWXYZNOPQRSTUVWXYZ345674M6;;@@IGFB@D;;~~=JKL~J")
-    (bytes "...HQH]k...c.CCCCTY.X:K:[dogm^EEEEEEFWEII0@7nbeAL\\lL\\l260V;;0L\\lihBB00DO?_qMS7NpjPRDO?_qMS7NpjPR0>0J`00=U4G<00091835..0fZa.a")
+    (bytes "~~~34567~~~;~==??;B~D34567JKL;N=H?==B=D34567JKL;@AN~~3B4D689:0JKL@ABC1E567;><J89:OPQRSTUVWXYZ[\\]^_`abOPQRSTUVWXYZ[\\]^_`ab34567<=M;;@A67=B?D56@@5JKL@I=;GF;N~=")
+    (bytes "...HPH_r...h.CCCCUZ.YHPH_rvlthYCECX@ZAY:K:]ivltbII[..7F0E=L^s0ufjEEEE0EL^s260eL^sDO?czMT7NxpSQa`qRgowDO?czMT7NxpSQa`qRgow0>0Jd0W0V4;;nm0908BBG<0k\\e1003005E.y")
 
 -- the word of each act, in the order of their bytes
 unfoldable pub words : List ℕ
@@ -56,12 +57,13 @@ words =
     ∷ word itself (want-substring ∷ want-string-comparison ∷ [])
     ∷ word itself (want-string-comparison ∷ want-more-terms ∷ [])
     ∷ word itself (want-number-assigned ∷ want-end ∷ [])
-    ∷ word itself (want-next-variable ∷ want-end ∷ [])
+    ∷ word itself (want-numeric-variable ∷ want-end ∷ [])
     ∷ word itself (want-dim ∷ want-end ∷ [])
     ∷ word itself (want-plain-variable ∷ want-end ∷ [])
-    ∷ word itself (want-print-list ∷ want-end ∷ [])
     ∷ word itself (want-print-comparison ∷ want-print-separator ∷ [])
     ∷ word itself (want-restore-number ∷ want-end ∷ [])
+    ∷ word itself (want-channel ∷ want-end ∷ [])
+    ∷ word itself (want-print ∷ want-end ∷ [])
     ∷ word itself (N (want-end ∷ []))
     ∷ word (put 0x37) (N (want-second ∷ []))
     ∷ word itself (N (want-close ∷ []))
@@ -69,15 +71,19 @@ words =
     ∷ word itself (N (want-more-lines ∷ []))
     ∷ word itself (N (want-print-separator ∷ []))
     ∷ word as-prefix (N (want-print-separator ∷ []))
+    ∷ word itself (N (want-input-separator ∷ []))
     ∷ word itself (want-function-open ∷ want-string ∷ want-close ∷ [])
     ∷ word itself (want-substring ∷ want-string-comparison ∷ want-more-terms ∷ [])
     ∷ word itself (want-substring ∷ want-string-assigned ∷ want-end ∷ [])
     ∷ word itself (want-substring ∷ want-print-comparison ∷ want-print-separator ∷ [])
+    ∷ word itself (want-channel ∷ want-parameters ∷ want-end ∷ [])
+    ∷ word itself (want-input-channel ∷ want-plain-variable ∷ want-end ∷ [])
     ∷ word itself (N (want-close ∷ want-more-terms ∷ []))
     ∷ word itself (N (want-then ∷ want-after-then ∷ []))
     ∷ word itself (want-array-open ∷ N (want-second ∷ []))
     ∷ word itself (want-function-open ∷ N (want-close ∷ []))
     ∷ word itself (want-function-open ∷ want-string ∷ want-close ∷ want-more-terms ∷ [])
+    ∷ word itself (want-channel ∷ want-comma ∷ want-numeric-variable ∷ want-end ∷ [])
     ∷ word itself (N (want-close ∷ want-more-terms ∷ want-print-separator ∷ []))
     ∷ word itself (want-array-open ∷ N (want-second ∷ want-more-terms ∷ []))
     ∷ word itself (want-function-open ∷ N (want-close ∷ want-more-terms ∷ []))
@@ -85,12 +91,16 @@ words =
     ∷ word itself (want-function-open ∷ want-string ∷ want-close ∷ want-more-terms ∷ want-print-separator ∷ [])
     ∷ word itself (want-dim-array-open ∷ N (want-second ∷ want-more-dims ∷ []))
     ∷ word itself (want-dim-string-open ∷ N (want-close ∷ want-more-dims ∷ []))
-    ∷ word itself (N (want-poke-comma ∷ N (want-end ∷ [])))
+    ∷ word itself (want-channel ∷ want-comma ∷ N (want-end ∷ []))
+    ∷ word itself (N (want-comma ∷ N (want-end ∷ [])))
+    ∷ word itself (N (want-comma ∷ want-channel ∷ want-parameters ∷ want-end ∷ []))
     ∷ word itself (want-array-open ∷ N (want-second ∷ want-more-terms ∷ want-print-separator ∷ []))
     ∷ word itself (want-array-open ∷ N (want-second ∷ want-number-assigned ∷ want-end ∷ []))
     ∷ word itself (want-function-open ∷ N (want-close ∷ want-more-terms ∷ want-print-separator ∷ []))
     ∷ word itself (want-function-open ∷ N (want-close ∷ want-string-comparison ∷ want-more-terms ∷ []))
     ∷ word itself (want-function-open ∷ N (want-close ∷ want-print-comparison ∷ want-print-separator ∷ []))
+    ∷ word itself (want-channel ∷ want-comma ∷ want-numeric-variable ∷ want-comma ∷ want-numeric-variable ∷ want-end ∷ [])
     ∷ word itself (N (want-goto-gosub ∷ N (want-more-lines ∷ want-end ∷ [])))
+    ∷ word itself (N (want-comma ∷ N (want-comma ∷ want-string ∷ [])))
     ∷ word itself (want-for-variable ∷ want-for-equals ∷ N (want-to ∷ N (want-step ∷ want-end ∷ [])))
     ∷ []

@@ -3,8 +3,8 @@ use Prim.Native.Nat.{ℕ}
 
 -- classes of items
 abbrev pub class-count : ℕ
-class-count = 43
+class-count = 51
 
 -- frames
 abbrev pub frame-count : ℕ
-frame-count = 36
+frame-count = 41

@@ -1,10 +1,10 @@
--- The grammar of document 01 ("Items and grammar") as a table. A row: in the frame F an item of class C is taken, gives a token, and in F's place these
+-- The grammar of document 01 ("Items and grammar"), with document 02's §4, as a table. A row: in the frame F an item of class C is taken, gives a token, and in F's place these
 -- frames are wanted, the first one next. A frame with no row for an item refuses it, but one that may be empty leaves it to the frame below.
 use Prim.Native.Nat.{ℕ, _+_}
 use mathlib.Core.Bool.{Bool, true, false, not}
 use mathlib.Core.List.{List, [], _∷_, _++_}
-use Rattle.paper.specs.Classes.{line-end, raw-end, number, quoted, numeric-variable, string-variable, array, first-numeric, first-string, first-array, open-sign, close-sign, comma, colon, semicolon, equals, comparison, plus-minus, factor-sign, not-word, or-and, goto-gosub, to-word, step-word, then-word, string-function, function-of-string, function-of-number, raw-text, remark, read-input, let-word, if-word, for-word, next-word, jump, alone, dim-word, on-word, poke-word, print-word, restore-word}
-use Rattle.paper.specs.Frames.{want-statement, want-after-then, want-end, want-raw-text, want-raw-end, want-operand, want-more-terms, want-array-open, want-second, want-close, want-function-open, want-string, want-substring, want-string-comparison, want-number-assigned, want-string-assigned, want-let-target, want-then, want-for-variable, want-for-equals, want-to, want-step, want-next-variable, want-goto-gosub, want-more-lines, want-dim, want-dim-array-open, want-dim-string-open, want-more-dims, want-plain-variable, want-more-variables, want-print-list, want-print-comparison, want-print-separator, want-poke-comma, want-restore-number}
+use Rattle.paper.specs.Classes.{line-end, raw-end, number, quoted, numeric-variable, string-variable, array, first-numeric, first-string, first-array, open-sign, close-sign, comma, colon, semicolon, equals, comparison, plus-minus, factor-sign, not-word, or-and, goto-gosub, to-word, step-word, then-word, string-function, function-of-string, function-of-number, raw-text, channel-sign, remark, read-word, let-word, if-word, for-word, next-word, jump, alone, dim-word, on-word, poke-word, print-word, restore-word, input-word, open-word, xio-word, close-word, get-status, put-word, note-point}
+use Rattle.paper.specs.Frames.{want-statement, want-after-then, want-end, want-raw-text, want-raw-end, want-operand, want-more-terms, want-array-open, want-second, want-close, want-function-open, want-string, want-substring, want-string-comparison, want-number-assigned, want-string-assigned, want-let-target, want-then, want-for-variable, want-for-equals, want-to, want-step, want-numeric-variable, want-goto-gosub, want-more-lines, want-dim, want-dim-array-open, want-dim-string-open, want-more-dims, want-plain-variable, want-more-variables, want-print-list, want-print-comparison, want-print-separator, want-comma, want-restore-number, want-channel, want-input-channel, want-input-separator, want-print, want-parameters}
 use Rattle.paper.specs.Tokens.{Token, statement, assigned, operator, variable, constant, string, raw, out-of-range, unreadable, out-of-range?, class}
 use Rattle.paper.specs.Items.{Item}
 use Rattle.paper.specs.Machine.{Act, take, leave, refuse, Row, row, find-row}
@@ -64,16 +64,30 @@ a-statement f =
     ∷ row f first-string itself (want-substring ∷ want-string-assigned ∷ want-end ∷ [])
     ∷ row f if-word itself (N (want-then ∷ want-after-then ∷ []))
     ∷ row f for-word itself (want-for-variable ∷ want-for-equals ∷ N (want-to ∷ N (want-step ∷ want-end ∷ [])))
-    ∷ row f next-word itself (want-next-variable ∷ want-end ∷ [])
+    ∷ row f next-word itself (want-numeric-variable ∷ want-end ∷ [])
     ∷ row f on-word itself (N (want-goto-gosub ∷ N (want-more-lines ∷ want-end ∷ [])))
     ∷ row f dim-word itself (want-dim ∷ want-end ∷ [])
-    ∷ row f read-input itself (want-plain-variable ∷ want-end ∷ [])
-    ∷ row f print-word itself (want-print-list ∷ want-end ∷ [])
-    ∷ row f poke-word itself (N (want-poke-comma ∷ N (want-end ∷ [])))
+    ∷ row f read-word itself (want-plain-variable ∷ want-end ∷ [])
+    ∷ row f input-word itself (want-input-channel ∷ want-plain-variable ∷ want-end ∷ [])
+    ∷ row f print-word itself (want-print ∷ want-end ∷ [])
+    ∷ row f poke-word itself (N (want-comma ∷ N (want-end ∷ [])))
     ∷ row f jump itself (N (want-end ∷ []))
     ∷ row f restore-word itself (want-restore-number ∷ want-end ∷ [])
     ∷ row f alone itself (want-end ∷ [])
+    ∷ row f open-word itself (want-channel ∷ want-parameters ∷ want-end ∷ [])
+    ∷ row f xio-word itself (N (want-comma ∷ want-channel ∷ want-parameters ∷ want-end ∷ []))
+    ∷ row f close-word itself (want-channel ∷ want-end ∷ [])
+    ∷ row f get-status itself (want-channel ∷ want-comma ∷ want-numeric-variable ∷ want-end ∷ [])
+    ∷ row f put-word itself (want-channel ∷ want-comma ∷ N (want-end ∷ []))
+    ∷ row f note-point itself (want-channel ∷ want-comma ∷ want-numeric-variable ∷ want-comma ∷ want-numeric-variable ∷ want-end ∷ [])
     ∷ []
+
+-- What PRINT prints, in the frame f: values and separators with no two values side by side.
+unfoldable pub print-list : ℕ → List (Row Gives)
+print-list f =
+    row f comma itself (want-print-list ∷ [])
+    ∷ row f semicolon itself (want-print-list ∷ [])
+    ∷ term f (want-more-terms ∷ want-print-separator ∷ []) (want-print-comparison ∷ want-print-separator ∷ [])
 
 -- Statements, their ends, and raw text.
 unfoldable pub lines-of-statements : List (Row Gives)
@@ -122,7 +136,7 @@ parts-of-statements =
     ∷ row want-for-equals equals (put 0x2d) []
     ∷ row want-to to-word itself []
     ∷ row want-step step-word itself (N [])
-    ∷ row want-next-variable numeric-variable itself []
+    ∷ row want-numeric-variable numeric-variable itself []
     ∷ row want-goto-gosub goto-gosub itself []
     ∷ row want-more-lines comma itself (N (want-more-lines ∷ []))
     ∷ row want-dim array itself (want-dim-array-open ∷ N (want-second ∷ want-more-dims ∷ []))
@@ -133,14 +147,19 @@ parts-of-statements =
     ∷ row want-plain-variable numeric-variable itself (want-more-variables ∷ [])
     ∷ row want-plain-variable string-variable itself (want-more-variables ∷ [])
     ∷ row want-more-variables comma itself (want-plain-variable ∷ [])
-    ∷ row want-poke-comma comma itself []
-    ∷ row want-print-list comma itself (want-print-list ∷ [])
-    ∷ row want-print-list semicolon itself (want-print-list ∷ [])
+    ∷ row want-comma comma itself []
+    ∷ row want-channel channel-sign itself (N [])
+    ∷ row want-parameters comma itself (N (want-comma ∷ N (want-comma ∷ want-string ∷ [])))
+    ∷ row want-input-channel channel-sign itself (N (want-input-separator ∷ []))
+    ∷ row want-input-separator comma itself []
+    ∷ row want-input-separator semicolon itself []
+    ∷ row want-print channel-sign itself (N (want-print-separator ∷ []))
     ∷ row want-print-comparison comparison for-strings (want-string ∷ want-more-terms ∷ [])
     ∷ row want-print-comparison equals for-strings (want-string ∷ want-more-terms ∷ [])
     ∷ row want-print-separator comma itself (want-print-list ∷ [])
     ∷ row want-print-separator semicolon itself (want-print-list ∷ [])
-    ∷ (term want-print-list (want-more-terms ∷ want-print-separator ∷ []) (want-print-comparison ∷ want-print-separator ∷ [])
+    ∷ (print-list want-print
+    ++ print-list want-print-list
     ++ term want-restore-number (want-more-terms ∷ []) (want-string-comparison ∷ want-more-terms ∷ []))
 
 -- all rows
@@ -150,8 +169,8 @@ grammar = lines-of-statements ++ expressions ++ parts-of-statements
 -- the frames of which nothing may come
 unfoldable pub may-be-empty : List ℕ
 may-be-empty =
-    want-more-terms ∷ want-substring ∷ want-step ∷ want-more-lines ∷ want-more-dims ∷ want-more-variables ∷ want-print-list ∷ want-print-comparison
-    ∷ want-print-separator ∷ want-restore-number ∷ []
+    want-more-terms ∷ want-substring ∷ want-step ∷ want-more-lines ∷ want-more-dims ∷ want-more-variables ∷ want-print ∷ want-print-list
+    ∷ want-print-comparison ∷ want-print-separator ∷ want-restore-number ∷ want-input-channel ∷ []
 
 -- what a frame does with an item of a class
 unfoldable pub look : ℕ → ℕ → Act Gives

@@ -45,7 +45,7 @@ unfolding Machine′.row Machine′.no-row Machine′.at-row Machine′.find-row
 all-Machine = tt
 
 unfoldable pub all-Grammar : Unit {0}
-unfolding Grammar′.moved Grammar′.given Grammar′.N Grammar′.term Grammar′.a-statement Grammar′.lines-of-statements Grammar′.expressions Grammar′.parts-of-statements Grammar′.grammar Grammar′.may-be-empty Grammar′.look Grammar′.look-item Grammar′.if-in-range Grammar′.look-in-range Grammar′.start
+unfolding Grammar′.moved Grammar′.given Grammar′.N Grammar′.term Grammar′.a-statement Grammar′.print-list Grammar′.lines-of-statements Grammar′.expressions Grammar′.parts-of-statements Grammar′.grammar Grammar′.may-be-empty Grammar′.look Grammar′.look-item Grammar′.if-in-range Grammar′.look-in-range Grammar′.start
 all-Grammar = tt
 
 unfoldable pub all-Line : Unit {0}

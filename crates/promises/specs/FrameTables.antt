@@ -2,7 +2,7 @@
 use Prim.Native.Nat.{ℕ}
 use mathlib.Core.List.{List, [], _∷_}
 use lib.ListN.{getD}
-use Rattle.paper.specs.Classes.{line-end, raw-end, number, quoted, numeric-variable, string-variable, array, first-numeric, first-string, first-array, open-sign, close-sign, comma, colon, semicolon, equals, comparison, plus-minus, factor-sign, not-word, or-and, goto-gosub, to-word, step-word, then-word, string-function, function-of-string, function-of-number, raw-text, remark, read-input, let-word, if-word, for-word, next-word, jump, alone, dim-word, on-word, poke-word, print-word, restore-word}
+use Rattle.paper.specs.Classes.{line-end, raw-end, number, quoted, numeric-variable, string-variable, array, first-numeric, first-string, first-array, open-sign, close-sign, comma, colon, semicolon, equals, comparison, plus-minus, factor-sign, not-word, or-and, goto-gosub, to-word, step-word, then-word, string-function, function-of-string, function-of-number, raw-text, channel-sign, remark, read-word, let-word, if-word, for-word, next-word, jump, alone, dim-word, on-word, poke-word, print-word, restore-word, input-word, open-word, xio-word, close-word, get-status, put-word, note-point}
 use Rattle.promises.specs.Viable.{Info, none}
 
 -- an entry of the table
@@ -34,7 +34,7 @@ infos =
     ∷ info (equals ∷ []) (number ∷ [])
     ∷ info (to-word ∷ []) (number ∷ [])
     ∷ info ([]) (line-end ∷ [])
-    ∷ info (numeric-variable ∷ []) (line-end ∷ [])
+    ∷ info (numeric-variable ∷ []) (line-end ∷ comma ∷ [])
     ∷ info (goto-gosub ∷ []) (number ∷ [])
     ∷ info ([]) (line-end ∷ [])
     ∷ info (array ∷ open-sign ∷ number ∷ close-sign ∷ []) (line-end ∷ [])
@@ -46,15 +46,20 @@ infos =
     ∷ info ([]) (line-end ∷ [])
     ∷ info ([]) (line-end ∷ [])
     ∷ info ([]) (line-end ∷ [])
-    ∷ info (comma ∷ []) (number ∷ [])
+    ∷ info (comma ∷ []) (number ∷ quoted ∷ numeric-variable ∷ channel-sign ∷ [])
     ∷ info ([]) (line-end ∷ [])
+    ∷ info (channel-sign ∷ number ∷ []) (line-end ∷ comma ∷ [])
+    ∷ info ([]) (numeric-variable ∷ [])
+    ∷ info (comma ∷ []) (numeric-variable ∷ [])
+    ∷ info ([]) (line-end ∷ [])
+    ∷ info (comma ∷ number ∷ comma ∷ number ∷ comma ∷ quoted ∷ []) (line-end ∷ [])
     ∷ []
 
 -- the classes that it takes
 unfoldable pub firsts-table : List (List ℕ)
 firsts-table =
-    (first-numeric ∷ first-string ∷ first-array ∷ remark ∷ read-input ∷ let-word ∷ if-word ∷ for-word ∷ next-word ∷ jump ∷ alone ∷ dim-word ∷ on-word ∷ poke-word ∷ print-word ∷ restore-word ∷ [])
-    ∷ (number ∷ first-numeric ∷ first-string ∷ first-array ∷ remark ∷ read-input ∷ let-word ∷ if-word ∷ for-word ∷ next-word ∷ jump ∷ alone ∷ dim-word ∷ on-word ∷ poke-word ∷ print-word ∷ restore-word ∷ [])
+    (first-numeric ∷ first-string ∷ first-array ∷ remark ∷ read-word ∷ let-word ∷ if-word ∷ for-word ∷ next-word ∷ jump ∷ alone ∷ dim-word ∷ on-word ∷ poke-word ∷ print-word ∷ restore-word ∷ input-word ∷ open-word ∷ xio-word ∷ close-word ∷ get-status ∷ put-word ∷ note-point ∷ [])
+    ∷ (number ∷ first-numeric ∷ first-string ∷ first-array ∷ remark ∷ read-word ∷ let-word ∷ if-word ∷ for-word ∷ next-word ∷ jump ∷ alone ∷ dim-word ∷ on-word ∷ poke-word ∷ print-word ∷ restore-word ∷ input-word ∷ open-word ∷ xio-word ∷ close-word ∷ get-status ∷ put-word ∷ note-point ∷ [])
     ∷ (line-end ∷ colon ∷ [])
     ∷ (raw-text ∷ [])
     ∷ (raw-end ∷ [])
@@ -89,6 +94,11 @@ firsts-table =
     ∷ (comma ∷ semicolon ∷ [])
     ∷ (comma ∷ [])
     ∷ (number ∷ quoted ∷ numeric-variable ∷ string-variable ∷ array ∷ open-sign ∷ plus-minus ∷ not-word ∷ string-function ∷ function-of-string ∷ function-of-number ∷ [])
+    ∷ (channel-sign ∷ [])
+    ∷ (channel-sign ∷ [])
+    ∷ (comma ∷ semicolon ∷ [])
+    ∷ (number ∷ quoted ∷ numeric-variable ∷ string-variable ∷ array ∷ open-sign ∷ comma ∷ semicolon ∷ plus-minus ∷ not-word ∷ string-function ∷ function-of-string ∷ function-of-number ∷ channel-sign ∷ [])
+    ∷ (comma ∷ [])
     ∷ []
 
 -- the classes that may come once it is gone
@@ -111,12 +121,12 @@ follow-table =
     ∷ (line-end ∷ colon ∷ [])
     ∷ (line-end ∷ colon ∷ [])
     ∷ ([])
-    ∷ (number ∷ first-numeric ∷ first-string ∷ first-array ∷ remark ∷ read-input ∷ let-word ∷ if-word ∷ for-word ∷ next-word ∷ jump ∷ alone ∷ dim-word ∷ on-word ∷ poke-word ∷ print-word ∷ restore-word ∷ [])
+    ∷ (number ∷ first-numeric ∷ first-string ∷ first-array ∷ remark ∷ read-word ∷ let-word ∷ if-word ∷ for-word ∷ next-word ∷ jump ∷ alone ∷ dim-word ∷ on-word ∷ poke-word ∷ print-word ∷ restore-word ∷ input-word ∷ open-word ∷ xio-word ∷ close-word ∷ get-status ∷ put-word ∷ note-point ∷ [])
     ∷ (equals ∷ [])
     ∷ (number ∷ quoted ∷ numeric-variable ∷ string-variable ∷ array ∷ open-sign ∷ plus-minus ∷ not-word ∷ string-function ∷ function-of-string ∷ function-of-number ∷ [])
     ∷ (number ∷ quoted ∷ numeric-variable ∷ string-variable ∷ array ∷ open-sign ∷ plus-minus ∷ not-word ∷ string-function ∷ function-of-string ∷ function-of-number ∷ [])
     ∷ (line-end ∷ colon ∷ [])
-    ∷ (line-end ∷ colon ∷ [])
+    ∷ (line-end ∷ comma ∷ colon ∷ [])
     ∷ (number ∷ quoted ∷ numeric-variable ∷ string-variable ∷ array ∷ open-sign ∷ plus-minus ∷ not-word ∷ string-function ∷ function-of-string ∷ function-of-number ∷ [])
     ∷ (line-end ∷ colon ∷ [])
     ∷ (line-end ∷ colon ∷ [])
@@ -128,7 +138,12 @@ follow-table =
     ∷ (line-end ∷ colon ∷ [])
     ∷ (line-end ∷ comma ∷ colon ∷ semicolon ∷ [])
     ∷ (line-end ∷ colon ∷ [])
-    ∷ (number ∷ quoted ∷ numeric-variable ∷ string-variable ∷ array ∷ open-sign ∷ plus-minus ∷ not-word ∷ string-function ∷ function-of-string ∷ function-of-number ∷ [])
+    ∷ (number ∷ quoted ∷ numeric-variable ∷ string-variable ∷ array ∷ open-sign ∷ plus-minus ∷ not-word ∷ string-function ∷ function-of-string ∷ function-of-number ∷ channel-sign ∷ [])
+    ∷ (line-end ∷ colon ∷ [])
+    ∷ (line-end ∷ comma ∷ colon ∷ [])
+    ∷ (numeric-variable ∷ string-variable ∷ [])
+    ∷ (numeric-variable ∷ string-variable ∷ [])
+    ∷ (line-end ∷ colon ∷ [])
     ∷ (line-end ∷ colon ∷ [])
     ∷ []
 

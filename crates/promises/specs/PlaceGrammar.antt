@@ -6,7 +6,8 @@ use mathlib.Core.List.{List, [], _∷_, _++_, map}
 use lib.Dec.{T, eqb, eqb→eq}
 use lib.ListN.{getD}
 use Rattle.paper.specs.Bytes.{pick, every}
-use Rattle.paper.specs.Classes.{raw-end, number, quoted, numeric-variable, array, open-sign, close-sign, comma, equals, goto-gosub, to-word, then-word, raw-text, print-word, comparison}
+use Rattle.paper.specs.Classes.{raw-end, number, quoted, numeric-variable, array, raw-text}
+use Rattle.paper.specs.Words.{Word, statements, read-operators}
 use Rattle.paper.specs.Tokens.{Token, statement, operator, variable, constant, string, raw, class}
 use Rattle.paper.specs.Constants.{zero-bytes}
 use Rattle.paper.specs.Items.{Item, item}
@@ -20,6 +21,11 @@ use Rattle.promises.specs.FrameTables.{info, infos}
 use Rattle.promises.specs.ViableGrammar.{viable}
 use Rattle.promises.specs.Place.{open-at, end-of, sources, Lawful, Told, told, no-lawful, by-class, end-class}
 
+-- what the first word of a class gives; the last one if the table has none
+unfoldable pub first-with : (ℕ → Token) → ℕ → List Word → Token → Token
+first-with gives c [] last = last
+first-with gives c (w ∷ ws) last = let r = first-with gives c ws last in pick (eqb (w .class) c) (gives (w .token)) r
+
 -- an item of each class that a completion needs
 unfoldable pub sample : ℕ → Token
 sample c =
@@ -28,22 +34,13 @@ sample c =
     (pick (eqb c raw-text) (raw [])
     (pick (eqb c numeric-variable) (variable (65 ∷ []))
     (pick (eqb c array) (variable (65 ∷ 40 ∷ []))
-    (pick (eqb c print-word) (statement 0x20)
-    (pick (eqb c comparison) (operator 0x20)
-    (pick (eqb c raw-end) (operator 0x9b)
-    (pick (eqb c open-sign) (operator 0x2b)
-    (pick (eqb c close-sign) (operator 0x2c)
-    (pick (eqb c comma) (operator 0x12)
-    (pick (eqb c equals) (operator 0x22)
-    (pick (eqb c goto-gosub) (operator 0x17)
-    (pick (eqb c to-word) (operator 0x19)
-    (pick (eqb c then-word) (operator 0x1b) (operator 0x16)))))))))))))))
+    (pick (eqb c raw-end) (operator 0x9b) (first-with statement c statements (first-with operator c read-operators (operator 0x16))))))))
 
 unfoldable sampled : ℕ → Bool
 sampled c = eqb (class (sample c)) c
 
 samples-test : T (every (λ (i : Info). every sampled (i .word)) infos)
-unfolding info infos sampled sample all-Bytes all-Words all-Tokens
+unfolding info infos sampled first-with sample all-Bytes all-Words all-Tokens
 samples-test = tt
 
 -- a test of every entry of a list, and of what stands past its end, passes at each place

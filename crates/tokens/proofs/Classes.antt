@@ -13,12 +13,9 @@ use Rattle.paper.specs.Tokens.{operator-class, read-as, found-or}
 use Rattle.tokens.specs.Words.{past-statements, past-operators}
 use Rattle.tokens.specs.Spellings.{below, read-past}
 use Rattle.tokens.proofs.Keys.{Rest, otherwise}
+use Rattle.tokens.proofs.FitTokens.{fit-statements, fit-operators}
 
 -- ---- statement words
-
--- the statements of other classes than unfit, the last first
-abbrev pub fit-statements : List ℕ
-fit-statements = 0x28 ∷ 0x27 ∷ 0x26 ∷ 0x24 ∷ 0x23 ∷ 0x22 ∷ 0x21 ∷ 0x20 ∷ 0x1f ∷ 0x1e ∷ 0x15 ∷ 0x14 ∷ 0x13 ∷ 0x12 ∷ 0x0d ∷ 0x0c ∷ 0x0a ∷ 0x09 ∷ 0x08 ∷ 0x07 ∷ 0x06 ∷ 0x02 ∷ 0x01 ∷ 0x00 ∷ []
 
 unfit-test : T (below (λ t. among t fit-statements || eqb unfit ((word-of statements t) .class)) 0x36)
 unfolding below among word-of statements word
@@ -31,10 +28,6 @@ statement-else =
     (λ t h. sym (ap (λ (w : Word). w .class) (past-statements t h)))
 
 -- ---- operators and functions
-
--- the operators and functions of other classes than unfit, the last first
-abbrev pub fit-operators : List ℕ
-fit-operators = 0x9b ∷ 0x50 ∷ 0x4f ∷ 0x4e ∷ 0x4d ∷ 0x4c ∷ 0x4b ∷ 0x4a ∷ 0x49 ∷ 0x48 ∷ 0x47 ∷ 0x46 ∷ 0x45 ∷ 0x44 ∷ 0x42 ∷ 0x41 ∷ 0x40 ∷ 0x3e ∷ 0x3d ∷ 0x2c ∷ 0x2b ∷ 0x2a ∷ 0x29 ∷ 0x28 ∷ 0x27 ∷ 0x26 ∷ 0x25 ∷ 0x24 ∷ 0x23 ∷ 0x22 ∷ 0x21 ∷ 0x20 ∷ 0x1f ∷ 0x1e ∷ 0x1d ∷ 0x1b ∷ 0x1a ∷ 0x19 ∷ 0x18 ∷ 0x17 ∷ 0x16 ∷ 0x15 ∷ 0x14 ∷ 0x12 ∷ []
 
 unfit-operators : T (below (λ t. among t fit-operators || eqb unfit (operator-class t)) 0x9c)
 unfolding below among operator-class word-of operators read-operators functions placed-operators word

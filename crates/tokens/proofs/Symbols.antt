@@ -7,7 +7,7 @@ use mathlib.Core.List.{List, [], _∷_}
 use lib.Dec.{eqb}
 use borrow.Author.Tests.{ne-eqb}
 use Rattle.paper.specs.Bytes.{pick, bytes, same, letter?}
-use Rattle.paper.specs.Classes.{to-word, comparison, or-and, comma, colon, semicolon, unfit, equals, factor-sign, plus-minus, open-sign, close-sign}
+use Rattle.paper.specs.Classes.{to-word, comparison, or-and, comma, colon, semicolon, channel-sign, equals, factor-sign, plus-minus, open-sign, close-sign}
 use Rattle.paper.specs.Words.{Word, word, Found, found, nowhere, find-word, operators, read-operators, functions}
 use Rattle.tokens.specs.declared.Found.{Found as Answer}
 use Rattle.tokens.specs.declared.Found.the-variants.{Token, Nothing}
@@ -85,7 +85,7 @@ sign-at {b} k e = sym (ap sign-answer e)
 -- the words of one byte
 signs : List Word
 signs =
-    word 0x12 "," comma ∷ word 0x14 ":" colon ∷ word 0x15 ";" semicolon ∷ word 0x1c "#" unfit ∷ word 0x20 "<" comparison ∷ word 0x21 ">" comparison ∷ word 0x22 "=" equals
+    word 0x12 "," comma ∷ word 0x14 ":" colon ∷ word 0x15 ";" semicolon ∷ word 0x1c "#" channel-sign ∷ word 0x20 "<" comparison ∷ word 0x21 ">" comparison ∷ word 0x22 "=" equals
     ∷ word 0x23 "^" factor-sign ∷ word 0x24 "*" factor-sign ∷ word 0x25 "+" plus-minus ∷ word 0x26 "-" plus-minus ∷ word 0x27 "/" factor-sign ∷ word 0x2b "(" open-sign ∷ word 0x2c ")" close-sign ∷ []
 
 signs-all : of-length 1 read-words ≡ signs

@@ -6,7 +6,7 @@ pub const LINE_END: u8 = 0;
 // The line's end after REM or DATA.
 pub const RAW_END: u8 = 1;
 
-// What fits nowhere: a byte that starts no item, `#`, a refused word.
+// What fits nowhere: a byte that starts no item, a refused word.
 pub const UNFIT: u8 = 2;
 
 // A constant's text.
@@ -88,41 +88,65 @@ pub const FUNCTION_OF_NUMBER: u8 = 28;
 // The text after REM or DATA.
 pub const RAW_TEXT: u8 = 29;
 
-// The statement words, from here on: REM, DATA.
-pub const REMARK: u8 = 30;
+// `#`, of document 02's §4, as the last seven.
+pub const CHANNEL_SIGN: u8 = 30;
 
-// READ, INPUT.
-pub const READ_INPUT: u8 = 31;
+// The statement words, from here on: REM, DATA.
+pub const REMARK: u8 = 31;
+
+// READ.
+pub const READ_WORD: u8 = 32;
 
 // LET.
-pub const LET_WORD: u8 = 32;
+pub const LET_WORD: u8 = 33;
 
 // IF.
-pub const IF_WORD: u8 = 33;
+pub const IF_WORD: u8 = 34;
 
 // FOR.
-pub const FOR_WORD: u8 = 34;
+pub const FOR_WORD: u8 = 35;
 
 // NEXT.
-pub const NEXT_WORD: u8 = 35;
+pub const NEXT_WORD: u8 = 36;
 
 // GOTO, GOSUB, TRAP.
-pub const JUMP: u8 = 36;
+pub const JUMP: u8 = 37;
 
 // CLR DEG END POP RAD RETURN STOP.
-pub const ALONE: u8 = 37;
+pub const ALONE: u8 = 38;
 
 // DIM.
-pub const DIM_WORD: u8 = 38;
+pub const DIM_WORD: u8 = 39;
 
 // ON.
-pub const ON_WORD: u8 = 39;
+pub const ON_WORD: u8 = 40;
 
 // POKE.
-pub const POKE_WORD: u8 = 40;
+pub const POKE_WORD: u8 = 41;
 
 // PRINT, ?.
-pub const PRINT_WORD: u8 = 41;
+pub const PRINT_WORD: u8 = 42;
 
 // RESTORE.
-pub const RESTORE_WORD: u8 = 42;
+pub const RESTORE_WORD: u8 = 43;
+
+// INPUT.
+pub const INPUT_WORD: u8 = 44;
+
+// OPEN.
+pub const OPEN_WORD: u8 = 45;
+
+// XIO.
+pub const XIO_WORD: u8 = 46;
+
+// CLOSE.
+pub const CLOSE_WORD: u8 = 47;
+
+// GET, STATUS.
+pub const GET_STATUS: u8 = 48;
+
+// PUT.
+pub const PUT_WORD: u8 = 49;
+
+// NOTE, POINT.
+pub const NOTE_POINT: u8 = 50;

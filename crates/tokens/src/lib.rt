@@ -160,7 +160,7 @@ impl OperatorToken {
 
     pub const THEN: OperatorToken = OperatorToken(0x1B);
 
-    pub const NUMBER_SIGN: OperatorToken = OperatorToken(0x1C);
+    pub const CHANNEL_SIGN: OperatorToken = OperatorToken(0x1C);
 
     pub const LESS_OR_EQUAL: OperatorToken = OperatorToken(0x1D);
 
@@ -340,7 +340,7 @@ pub fn statement_class(token: StatementToken) -> u8
     match t {
         statement::REM => class::REMARK,
         statement::DATA => class::REMARK,
-        statement::INPUT => class::READ_INPUT,
+        statement::INPUT => class::INPUT_WORD,
         statement::LET => class::LET_WORD,
         statement::IF => class::IF_WORD,
         statement::FOR => class::FOR_WORD,
@@ -348,20 +348,28 @@ pub fn statement_class(token: StatementToken) -> u8
         statement::GOTO => class::JUMP,
         statement::GOSUB => class::JUMP,
         statement::TRAP => class::JUMP,
+        statement::CLOSE => class::CLOSE_WORD,
         statement::CLR => class::ALONE,
         statement::DEG => class::ALONE,
         statement::DIM => class::DIM_WORD,
         statement::END => class::ALONE,
+        statement::OPEN => class::OPEN_WORD,
+        statement::STATUS => class::GET_STATUS,
+        statement::NOTE => class::NOTE_POINT,
+        statement::POINT => class::NOTE_POINT,
+        statement::XIO => class::XIO_WORD,
         statement::ON => class::ON_WORD,
         statement::POKE => class::POKE_WORD,
         statement::PRINT => class::PRINT_WORD,
         statement::RAD => class::ALONE,
-        statement::READ => class::READ_INPUT,
+        statement::READ => class::READ_WORD,
         statement::RESTORE => class::RESTORE_WORD,
         statement::RETURN => class::ALONE,
         statement::STOP => class::ALONE,
         statement::POP => class::ALONE,
         statement::QUESTION => class::PRINT_WORD,
+        statement::GET => class::GET_STATUS,
+        statement::PUT => class::PUT_WORD,
         _ => class::UNFIT,
     }
 }
@@ -380,6 +388,7 @@ pub fn operator_class(token: u8) -> u8
         operator::TO => class::TO_WORD,
         operator::STEP => class::STEP_WORD,
         operator::THEN => class::THEN_WORD,
+        operator::CHANNEL_SIGN => class::CHANNEL_SIGN,
         operator::LESS_OR_EQUAL => class::COMPARISON,
         operator::UNEQUAL => class::COMPARISON,
         operator::GREATER_OR_EQUAL => class::COMPARISON,
@@ -565,7 +574,7 @@ fn sign(b: u8) -> Found
         b',' => Found::Token(OperatorToken::COMMA.0),
         b':' => Found::Token(OperatorToken::COLON.0),
         b';' => Found::Token(OperatorToken::SEMICOLON.0),
-        b'#' => Found::Token(OperatorToken::NUMBER_SIGN.0),
+        b'#' => Found::Token(OperatorToken::CHANNEL_SIGN.0),
         b'<' => Found::Token(OperatorToken::LESS.0),
         b'>' => Found::Token(OperatorToken::GREATER.0),
         b'=' => Found::Token(OperatorToken::EQUAL.0),

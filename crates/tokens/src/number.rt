@@ -131,6 +131,8 @@ pub(crate) mod operator {
 
     pub(crate) const THEN: u8 = OperatorToken::THEN.0;
 
+    pub(crate) const CHANNEL_SIGN: u8 = OperatorToken::CHANNEL_SIGN.0;
+
     pub(crate) const LESS_OR_EQUAL: u8 = OperatorToken::LESS_OR_EQUAL.0;
 
     pub(crate) const UNEQUAL: u8 = OperatorToken::UNEQUAL.0;

@@ -385,7 +385,7 @@ pub(crate) fn first_reserved(first: u8, size: usize) -> u8
             b',' => OperatorToken::COMMA.0,
             b':' => OperatorToken::COLON.0,
             b';' => OperatorToken::SEMICOLON.0,
-            b'#' => OperatorToken::NUMBER_SIGN.0,
+            b'#' => OperatorToken::CHANNEL_SIGN.0,
             b'<' => OperatorToken::LESS.0,
             b'>' => OperatorToken::GREATER.0,
             b'=' => OperatorToken::EQUAL.0,
