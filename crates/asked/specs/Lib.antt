@@ -3,3 +3,4 @@ pub mod Ends
 pub mod Pairs
 pub mod Typed
 pub mod Batches
+pub mod Devices

@@ -1,12 +1,13 @@
--- Nothing of the grammar stands untried: every row is used by the reading of some case; without any one of the frames that a row wants some case
--- is read otherwise; and if any one frame more might be empty some case is read otherwise, but for the few frames listed below.
+-- Nothing of document 01's grammar stands untried: every row is used by the reading of some case; without any one of the frames that a row wants
+-- some case is read otherwise; and if any one frame more might be empty some case is read otherwise, but for the few frames listed below.
 use Prim.Native.Nat.{ℕ, zero, suc, _+_, _*_}
 use mathlib.Core.Path.{_≡_, refl}
 use mathlib.Core.Bool.{Bool, false, not, _&&_, _||_}
 use mathlib.Core.List.{List, [], _∷_, _++_}
 use lib.ListN.{length}
 use Rattle.paper.specs.Bytes.{pick, bytes, same, among}
-use Rattle.paper.specs.Frames.{want-statement, want-after-then, want-end, want-raw-text, want-raw-end, want-array-open, want-let-target, want-dim-array-open, want-restore-number}
+use Rattle.paper.specs.Classes.{channel-sign, input-word, open-word, xio-word, close-word, get-status, put-word, note-point}
+use Rattle.paper.specs.Frames.{want-statement, want-after-then, want-end, want-raw-text, want-raw-end, want-array-open, want-let-target, want-dim-array-open, want-channel, want-input-channel, want-input-separator, want-parameters}
 use Rattle.paper.specs.Tokens.{class}
 use Rattle.paper.specs.Items.{Item, items}
 use Rattle.paper.specs.Machine.{Row, row, find-row, Taken, Run, left, done, bad, read}
@@ -138,10 +139,10 @@ unfoldable pub empty-shows : ℕ → List Text → Bool
 empty-shows f [] = false
 empty-shows f (t ∷ ts) = read-otherwise grammar (f ∷ may-be-empty) t || empty-shows f ts
 
--- the frames up to n, the greatest first, that may not be empty, and without which no text is read otherwise
-unfoldable pub not-missed : ℕ → List Text → List ℕ
-not-missed zero ts = []
-not-missed (suc n) ts = let more = not-missed n ts in pick (among n may-be-empty || empty-shows n ts) more (n ∷ more)
+-- of n frames from k on, the greatest first, those that may not be empty, and without which no text is read otherwise
+unfoldable pub not-missed : ℕ → ℕ → List Text → List ℕ
+not-missed k zero ts = []
+not-missed k (suc n) ts = let more = not-missed k n ts in pick (among (k + n) may-be-empty || empty-shows (k + n) ts) more ((k + n) ∷ more)
 
 -- Frames of which a text never shows that something must come. An array's name is one only before `(`, and text always follows REM and DATA, so
 -- that three frames find in every text what they want (`Following` tries them with other items too). Below the other five nothing is wanted, so
@@ -155,10 +156,27 @@ pub record Untried : Type 0 where
   pub wanted : List (List ℕ)
   pub frames : List ℕ
 
--- what whole texts and incomplete ones leave untried
-unfoldable pub untried : List Text → List Text → Untried
-untried whole cut = record { rows = unused grammar whole; wanted = all-not-needed grammar whole; frames = not-missed (suc want-restore-number) cut }
+-- what whole texts and incomplete ones leave untried of some rows and of n frames from k on
+unfoldable pub untried : List (Row Gives) → ℕ → ℕ → List Text → List Text → Untried
+untried rows k n whole cut = record { rows = unused rows whole; wanted = all-not-needed rows whole; frames = not-missed k n cut }
 
-pub nothing-untried : untried (read-texts (texts-of-walks walks)) (read-texts (texts-of-cases incomplete)) ≡ record { rows = []; wanted = []; frames = never-missed }
-unfolding everything classes and-text texts-of-cases texts-of-walks key traced keys-of give-number gave-numbers verdict keys-of-run read-text read-texts read-otherwise used? unused other-row-shows not-needed all-not-needed empty-shows not-missed never-missed untried stores refuses incomplete all-walks
+-- a row of a device statement (document 02, §4), of `#`, or of INPUT, which `#` may follow
+unfoldable pub of-device? : Row Gives → Bool
+of-device? r =
+    among (r .frame) (want-channel ∷ want-input-channel ∷ want-input-separator ∷ want-parameters ∷ [])
+    || among (r .class) (channel-sign ∷ input-word ∷ open-word ∷ xio-word ∷ close-word ∷ get-status ∷ put-word ∷ note-point ∷ [])
+
+-- the rows that pass a test
+unfoldable pub rows-that : (Row Gives → Bool) → List (Row Gives) → List (Row Gives)
+rows-that q [] = []
+rows-that q (r ∷ rs) = let more = rows-that q rs in pick (q r) (r ∷ more) more
+
+-- to unfold it is to unfold all that tells what is untried
+unfoldable pub all-Coverage : Unit {0}
+unfolding classes and-text texts-of-cases texts-of-walks key traced keys-of give-number gave-numbers verdict keys-of-run read-text read-texts read-otherwise used? unused other-row-shows not-needed all-not-needed empty-shows not-missed untried of-device? rows-that
+all-Coverage = tt
+
+-- of document 01's rows and frames nothing is untried
+pub nothing-untried : untried (rows-that (λ r. not (of-device? r)) grammar) 0 want-channel (read-texts (texts-of-walks walks)) (read-texts (texts-of-cases incomplete)) ≡ record { rows = []; wanted = []; frames = never-missed }
+unfolding everything all-Coverage never-missed stores refuses incomplete all-walks
 nothing-untried = refl

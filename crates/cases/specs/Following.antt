@@ -9,7 +9,7 @@ use mathlib.Core.List.{List, [], _∷_, _++_}
 use lib.Dec.{eqb}
 use lib.ListN.{length}
 use Rattle.paper.specs.Bytes.{pick, bytes, every, among}
-use Rattle.paper.specs.Classes.{line-end, raw-end, unfit, number, quoted, numeric-variable, string-variable, array, first-numeric, first-string, first-array, open-sign, close-sign, comma, colon, semicolon, equals, comparison, plus-minus, factor-sign, not-word, or-and, goto-gosub, to-word, step-word, then-word, string-function, function-of-string, function-of-number, raw-text, remark, read-input, let-word, if-word, for-word, next-word, jump, alone, dim-word, on-word, poke-word, print-word, restore-word}
+use Rattle.paper.specs.Classes.{line-end, raw-end, unfit, number, quoted, numeric-variable, string-variable, array, first-numeric, first-string, first-array, open-sign, close-sign, comma, colon, semicolon, equals, comparison, plus-minus, factor-sign, not-word, or-and, goto-gosub, to-word, step-word, then-word, string-function, function-of-string, function-of-number, raw-text, channel-sign, remark, read-word, let-word, if-word, for-word, next-word, jump, alone, dim-word, on-word, poke-word, print-word, restore-word, input-word, open-word, xio-word, close-word, get-status, put-word, note-point}
 use Rattle.paper.specs.Tokens.{class}
 use Rattle.paper.specs.Items.{Item, items}
 use Rattle.paper.specs.Machine.{Step, took, over, refused, step}
@@ -72,7 +72,7 @@ inner-comma = given-as comma 0x3c
 
 -- what begins a statement
 unfoldable pub beginning : List ℕ
-beginning = first-numeric ∷ first-string ∷ first-array ∷ remark ∷ read-input ∷ let-word ∷ if-word ∷ for-word ∷ next-word ∷ jump ∷ alone ∷ dim-word ∷ on-word ∷ poke-word ∷ print-word ∷ restore-word ∷ []
+beginning = first-numeric ∷ first-string ∷ first-array ∷ remark ∷ read-word ∷ let-word ∷ if-word ∷ for-word ∷ next-word ∷ jump ∷ alone ∷ dim-word ∷ on-word ∷ poke-word ∷ print-word ∷ restore-word ∷ input-word ∷ open-word ∷ xio-word ∷ close-word ∷ get-status ∷ put-word ∷ note-point ∷ []
 
 -- what begins a term
 unfoldable pub term : List ℕ
@@ -94,9 +94,13 @@ ending = colon ∷ line-end ∷ []
 unfoldable pub parting : List ℕ
 parting = comma ∷ semicolon ∷ ending
 
+-- what may come right after PRINT
+unfoldable pub printing : List ℕ
+printing = channel-sign ∷ term ++ parting
+
 -- all classes
 unfoldable pub all-classes : List ℕ
-all-classes = line-end ∷ raw-end ∷ unfit ∷ number ∷ quoted ∷ numeric-variable ∷ string-variable ∷ array ∷ open-sign ∷ close-sign ∷ comma ∷ colon ∷ semicolon ∷ equals ∷ comparison ∷ plus-minus ∷ factor-sign ∷ not-word ∷ or-and ∷ goto-gosub ∷ to-word ∷ step-word ∷ then-word ∷ string-function ∷ function-of-string ∷ function-of-number ∷ raw-text ∷ beginning
+all-classes = line-end ∷ raw-end ∷ unfit ∷ number ∷ quoted ∷ numeric-variable ∷ string-variable ∷ array ∷ open-sign ∷ close-sign ∷ comma ∷ colon ∷ semicolon ∷ equals ∷ comparison ∷ plus-minus ∷ factor-sign ∷ not-word ∷ or-and ∷ goto-gosub ∷ to-word ∷ step-word ∷ then-word ∷ string-function ∷ function-of-string ∷ function-of-number ∷ raw-text ∷ channel-sign ∷ beginning
 
 -- whole statements, of every kind
 unfoldable pub of-statements : List Walk
@@ -120,12 +124,12 @@ of-statements =
     ∷ along "10 ON 1+2 GOTO 3+4,5+6,7" (beginning ∷ term ∷ (goto-gosub ∷ joining) ∷ term ∷ (goto-gosub ∷ joining) ∷ term ∷ (comma ∷ joining ++ ending) ∷ term ∷ (comma ∷ joining ++ ending) ∷ term ∷ (comma ∷ joining ++ ending) ∷ term ∷ (comma ∷ joining ++ ending) ∷ term ∷ (comma ∷ joining ++ ending) ∷ [])
     ∷ along "10 DIM A(1+2,3),B$(4+5),C(6)" (beginning ∷ (array ∷ string-variable ∷ []) ∷ (dim-array-open ∷ []) ∷ term ∷ (inner-comma ∷ close-sign ∷ joining) ∷ term ∷ (inner-comma ∷ close-sign ∷ joining) ∷ term ∷ (close-sign ∷ joining) ∷ (comma ∷ ending) ∷ (array ∷ string-variable ∷ []) ∷ (dim-string-open ∷ []) ∷ term ∷ (close-sign ∷ joining) ∷ term ∷ (close-sign ∷ joining) ∷ (comma ∷ ending) ∷ (array ∷ string-variable ∷ []) ∷ (dim-array-open ∷ []) ∷ term ∷ (inner-comma ∷ close-sign ∷ joining) ∷ (comma ∷ ending) ∷ [])
     ∷ along "10 READ A,B$,C" (beginning ∷ (numeric-variable ∷ string-variable ∷ []) ∷ (comma ∷ ending) ∷ (numeric-variable ∷ string-variable ∷ []) ∷ (comma ∷ ending) ∷ (numeric-variable ∷ string-variable ∷ []) ∷ (comma ∷ ending) ∷ [])
-    ∷ along "10 PRINT" (beginning ∷ (term ++ parting) ∷ [])
+    ∷ along "10 PRINT" (beginning ∷ printing ∷ [])
     ∷ along "10 POKE 1+2,3+4" (beginning ∷ term ∷ (comma ∷ joining) ∷ term ∷ (comma ∷ joining) ∷ term ∷ (joining ++ ending) ∷ term ∷ (joining ++ ending) ∷ [])
     ∷ along "10 GOTO 1" (beginning ∷ term ∷ (joining ++ ending) ∷ [])
     ∷ along "10 RESTORE" (beginning ∷ (term ++ ending) ∷ [])
     ∷ along "10 END" (beginning ∷ ending ∷ [])
-    ∷ along "10 FOR I=1 TO 2:ON 3 GOTO 4:DIM A(5):READ A:PRINT:PRINT \"X\":PRINT 6:RESTORE:END" (beginning ∷ (numeric-variable ∷ []) ∷ (number-assigned ∷ []) ∷ term ∷ (to-word ∷ joining) ∷ term ∷ (step-word ∷ joining ++ ending) ∷ beginning ∷ term ∷ (goto-gosub ∷ joining) ∷ term ∷ (comma ∷ joining ++ ending) ∷ beginning ∷ (array ∷ string-variable ∷ []) ∷ (dim-array-open ∷ []) ∷ term ∷ (inner-comma ∷ close-sign ∷ joining) ∷ (comma ∷ ending) ∷ beginning ∷ (numeric-variable ∷ string-variable ∷ []) ∷ (comma ∷ ending) ∷ beginning ∷ (term ++ parting) ∷ beginning ∷ (term ++ parting) ∷ (comparing ++ parting) ∷ beginning ∷ (term ++ parting) ∷ (joining ++ parting) ∷ beginning ∷ (term ++ ending) ∷ beginning ∷ ending ∷ [])
+    ∷ along "10 FOR I=1 TO 2:ON 3 GOTO 4:DIM A(5):READ A:PRINT:PRINT \"X\":PRINT 6:RESTORE:END" (beginning ∷ (numeric-variable ∷ []) ∷ (number-assigned ∷ []) ∷ term ∷ (to-word ∷ joining) ∷ term ∷ (step-word ∷ joining ++ ending) ∷ beginning ∷ term ∷ (goto-gosub ∷ joining) ∷ term ∷ (comma ∷ joining ++ ending) ∷ beginning ∷ (array ∷ string-variable ∷ []) ∷ (dim-array-open ∷ []) ∷ term ∷ (inner-comma ∷ close-sign ∷ joining) ∷ (comma ∷ ending) ∷ beginning ∷ (numeric-variable ∷ string-variable ∷ []) ∷ (comma ∷ ending) ∷ beginning ∷ printing ∷ beginning ∷ printing ∷ (comparing ++ parting) ∷ beginning ∷ printing ∷ (joining ++ parting) ∷ beginning ∷ (term ++ ending) ∷ beginning ∷ ending ∷ [])
     ∷ []
 
 -- statements after THEN
@@ -143,8 +147,8 @@ after-then =
     ∷ along "10 IF 1 THEN ON 2+3 GOTO 4+5,6" (beginning ∷ term ∷ (then-word ∷ joining) ∷ (number ∷ beginning) ∷ term ∷ (goto-gosub ∷ joining) ∷ term ∷ (goto-gosub ∷ joining) ∷ term ∷ (comma ∷ joining ++ ending) ∷ term ∷ (comma ∷ joining ++ ending) ∷ term ∷ (comma ∷ joining ++ ending) ∷ [])
     ∷ along "10 IF 1 THEN DIM A(2),B$(3)" (beginning ∷ term ∷ (then-word ∷ joining) ∷ (number ∷ beginning) ∷ (array ∷ string-variable ∷ []) ∷ (dim-array-open ∷ []) ∷ term ∷ (inner-comma ∷ close-sign ∷ joining) ∷ (comma ∷ ending) ∷ (array ∷ string-variable ∷ []) ∷ (dim-string-open ∷ []) ∷ term ∷ (close-sign ∷ joining) ∷ (comma ∷ ending) ∷ [])
     ∷ along "10 IF 1 THEN READ A,B$" (beginning ∷ term ∷ (then-word ∷ joining) ∷ (number ∷ beginning) ∷ (numeric-variable ∷ string-variable ∷ []) ∷ (comma ∷ ending) ∷ (numeric-variable ∷ string-variable ∷ []) ∷ (comma ∷ ending) ∷ [])
-    ∷ along "10 IF 1 THEN PRINT ,2" (beginning ∷ term ∷ (then-word ∷ joining) ∷ (number ∷ beginning) ∷ (term ++ parting) ∷ (term ++ parting) ∷ (joining ++ parting) ∷ [])
-    ∷ along "10 IF 1 THEN PRINT 2" (beginning ∷ term ∷ (then-word ∷ joining) ∷ (number ∷ beginning) ∷ (term ++ parting) ∷ (joining ++ parting) ∷ [])
+    ∷ along "10 IF 1 THEN PRINT ,2" (beginning ∷ term ∷ (then-word ∷ joining) ∷ (number ∷ beginning) ∷ printing ∷ (term ++ parting) ∷ (joining ++ parting) ∷ [])
+    ∷ along "10 IF 1 THEN PRINT 2" (beginning ∷ term ∷ (then-word ∷ joining) ∷ (number ∷ beginning) ∷ printing ∷ (joining ++ parting) ∷ [])
     ∷ along "10 IF 1 THEN POKE 2+3,4+5" (beginning ∷ term ∷ (then-word ∷ joining) ∷ (number ∷ beginning) ∷ term ∷ (comma ∷ joining) ∷ term ∷ (comma ∷ joining) ∷ term ∷ (joining ++ ending) ∷ term ∷ (joining ++ ending) ∷ [])
     ∷ along "10 IF 1 THEN GOTO 2+3" (beginning ∷ term ∷ (then-word ∷ joining) ∷ (number ∷ beginning) ∷ term ∷ (joining ++ ending) ∷ term ∷ (joining ++ ending) ∷ [])
     ∷ along "10 IF 1 THEN RESTORE 2" (beginning ∷ term ∷ (then-word ∷ joining) ∷ (number ∷ beginning) ∷ (term ++ ending) ∷ (joining ++ ending) ∷ [])
@@ -173,22 +177,28 @@ of-terms =
 -- the values of PRINT
 unfoldable pub of-print : List Walk
 of-print =
-    along "10 PRINT ,;-1+2;3+4,5" (beginning ∷ (term ++ parting) ∷ (term ++ parting) ∷ (term ++ parting) ∷ term ∷ (joining ++ parting) ∷ term ∷ (joining ++ parting) ∷ (term ++ parting) ∷ (joining ++ parting) ∷ term ∷ (joining ++ parting) ∷ (term ++ parting) ∷ (joining ++ parting) ∷ [])
-    ∷ along "10 PRINT ;1,NOT 2+3,A+4,5" (beginning ∷ (term ++ parting) ∷ (term ++ parting) ∷ (joining ++ parting) ∷ (term ++ parting) ∷ term ∷ (joining ++ parting) ∷ term ∷ (joining ++ parting) ∷ (term ++ parting) ∷ (joining ++ parting) ∷ term ∷ (joining ++ parting) ∷ (term ++ parting) ∷ (joining ++ parting) ∷ [])
-    ∷ along "10 PRINT A(1,2)+3,4" (beginning ∷ (term ++ parting) ∷ (array-open ∷ []) ∷ term ∷ (inner-comma ∷ close-sign ∷ joining) ∷ term ∷ (close-sign ∷ joining) ∷ (joining ++ parting) ∷ term ∷ (joining ++ parting) ∷ (term ++ parting) ∷ (joining ++ parting) ∷ [])
-    ∷ along "10 PRINT A(1+2),3" (beginning ∷ (term ++ parting) ∷ (array-open ∷ []) ∷ term ∷ (inner-comma ∷ close-sign ∷ joining) ∷ term ∷ (inner-comma ∷ close-sign ∷ joining) ∷ (joining ++ parting) ∷ (term ++ parting) ∷ (joining ++ parting) ∷ [])
-    ∷ along "10 PRINT (1+2)+3,4" (beginning ∷ (term ++ parting) ∷ term ∷ (close-sign ∷ joining) ∷ term ∷ (close-sign ∷ joining) ∷ (joining ++ parting) ∷ term ∷ (joining ++ parting) ∷ (term ++ parting) ∷ (joining ++ parting) ∷ [])
-    ∷ along "10 PRINT LEN(\"X\")+1,2" (beginning ∷ (term ++ parting) ∷ (function-open ∷ []) ∷ stringy ∷ (close-sign ∷ []) ∷ (joining ++ parting) ∷ term ∷ (joining ++ parting) ∷ (term ++ parting) ∷ (joining ++ parting) ∷ [])
-    ∷ along "10 PRINT SIN(1+2)+3,4" (beginning ∷ (term ++ parting) ∷ (function-open ∷ []) ∷ term ∷ (close-sign ∷ joining) ∷ term ∷ (close-sign ∷ joining) ∷ (joining ++ parting) ∷ term ∷ (joining ++ parting) ∷ (term ++ parting) ∷ (joining ++ parting) ∷ [])
-    ∷ along "10 PRINT \"X\"<\"Y\"+1,2" (beginning ∷ (term ++ parting) ∷ (comparing ++ parting) ∷ stringy ∷ (joining ++ parting) ∷ term ∷ (joining ++ parting) ∷ (term ++ parting) ∷ (joining ++ parting) ∷ [])
-    ∷ along "10 PRINT \"X\",1" (beginning ∷ (term ++ parting) ∷ (comparing ++ parting) ∷ (term ++ parting) ∷ (joining ++ parting) ∷ [])
-    ∷ along "10 PRINT A$(1)=B$(2)+3,4" (beginning ∷ (term ++ parting) ∷ (substring-open ∷ comparing ++ parting) ∷ term ∷ (inner-comma ∷ close-sign ∷ joining) ∷ (comparing ++ parting) ∷ stringy ∷ (substring-open ∷ joining ++ parting) ∷ term ∷ (inner-comma ∷ close-sign ∷ joining) ∷ (joining ++ parting) ∷ term ∷ (joining ++ parting) ∷ (term ++ parting) ∷ (joining ++ parting) ∷ [])
-    ∷ along "10 PRINT -1,A,(2),LEN(\"X\"),SIN(3),4" (beginning ∷ (term ++ parting) ∷ term ∷ (joining ++ parting) ∷ (term ++ parting) ∷ (joining ++ parting) ∷ (term ++ parting) ∷ term ∷ (close-sign ∷ joining) ∷ (joining ++ parting) ∷ (term ++ parting) ∷ (function-open ∷ []) ∷ stringy ∷ (close-sign ∷ []) ∷ (joining ++ parting) ∷ (term ++ parting) ∷ (function-open ∷ []) ∷ term ∷ (close-sign ∷ joining) ∷ (joining ++ parting) ∷ (term ++ parting) ∷ (joining ++ parting) ∷ [])
-    ∷ along "10 PRINT ,,;,1,,2;,3" (beginning ∷ (term ++ parting) ∷ (term ++ parting) ∷ (term ++ parting) ∷ (term ++ parting) ∷ (term ++ parting) ∷ (joining ++ parting) ∷ (term ++ parting) ∷ (term ++ parting) ∷ (joining ++ parting) ∷ (term ++ parting) ∷ (term ++ parting) ∷ (joining ++ parting) ∷ [])
-    ∷ along "10 PRINT \"X\"<\"Y\",1" (beginning ∷ (term ++ parting) ∷ (comparing ++ parting) ∷ stringy ∷ (joining ++ parting) ∷ (term ++ parting) ∷ (joining ++ parting) ∷ [])
-    ∷ along "10 PRINT A$<\"X\";\"Y\";1" (beginning ∷ (term ++ parting) ∷ (substring-open ∷ comparing ++ parting) ∷ stringy ∷ (joining ++ parting) ∷ (term ++ parting) ∷ (comparing ++ parting) ∷ (term ++ parting) ∷ (joining ++ parting) ∷ [])
-    ∷ along "10 PRINT A$,1" (beginning ∷ (term ++ parting) ∷ (substring-open ∷ comparing ++ parting) ∷ (term ++ parting) ∷ (joining ++ parting) ∷ [])
-    ∷ along "10 PRINT CHR$(1+2)=\"X\",3;CHR$(4),5" (beginning ∷ (term ++ parting) ∷ (function-open ∷ []) ∷ term ∷ (close-sign ∷ joining) ∷ term ∷ (close-sign ∷ joining) ∷ (comparing ++ parting) ∷ stringy ∷ (joining ++ parting) ∷ (term ++ parting) ∷ (joining ++ parting) ∷ (term ++ parting) ∷ (function-open ∷ []) ∷ term ∷ (close-sign ∷ joining) ∷ (comparing ++ parting) ∷ (term ++ parting) ∷ (joining ++ parting) ∷ [])
+    along "10 PRINT ,;-1+2;3+4,5" (beginning ∷ printing ∷ (term ++ parting) ∷ (term ++ parting) ∷ term ∷ (joining ++ parting) ∷ term ∷ (joining ++ parting) ∷ (term ++ parting) ∷ (joining ++ parting) ∷ term ∷ (joining ++ parting) ∷ (term ++ parting) ∷ (joining ++ parting) ∷ [])
+    ∷ along "10 PRINT ;1,NOT 2+3,A+4,5" (beginning ∷ printing ∷ (term ++ parting) ∷ (joining ++ parting) ∷ (term ++ parting) ∷ term ∷ (joining ++ parting) ∷ term ∷ (joining ++ parting) ∷ (term ++ parting) ∷ (joining ++ parting) ∷ term ∷ (joining ++ parting) ∷ (term ++ parting) ∷ (joining ++ parting) ∷ [])
+    ∷ along "10 PRINT A(1,2)+3,4" (beginning ∷ printing ∷ (array-open ∷ []) ∷ term ∷ (inner-comma ∷ close-sign ∷ joining) ∷ term ∷ (close-sign ∷ joining) ∷ (joining ++ parting) ∷ term ∷ (joining ++ parting) ∷ (term ++ parting) ∷ (joining ++ parting) ∷ [])
+    ∷ along "10 PRINT A(1+2),3" (beginning ∷ printing ∷ (array-open ∷ []) ∷ term ∷ (inner-comma ∷ close-sign ∷ joining) ∷ term ∷ (inner-comma ∷ close-sign ∷ joining) ∷ (joining ++ parting) ∷ (term ++ parting) ∷ (joining ++ parting) ∷ [])
+    ∷ along "10 PRINT (1+2)+3,4" (beginning ∷ printing ∷ term ∷ (close-sign ∷ joining) ∷ term ∷ (close-sign ∷ joining) ∷ (joining ++ parting) ∷ term ∷ (joining ++ parting) ∷ (term ++ parting) ∷ (joining ++ parting) ∷ [])
+    ∷ along "10 PRINT LEN(\"X\")+1,2" (beginning ∷ printing ∷ (function-open ∷ []) ∷ stringy ∷ (close-sign ∷ []) ∷ (joining ++ parting) ∷ term ∷ (joining ++ parting) ∷ (term ++ parting) ∷ (joining ++ parting) ∷ [])
+    ∷ along "10 PRINT SIN(1+2)+3,4" (beginning ∷ printing ∷ (function-open ∷ []) ∷ term ∷ (close-sign ∷ joining) ∷ term ∷ (close-sign ∷ joining) ∷ (joining ++ parting) ∷ term ∷ (joining ++ parting) ∷ (term ++ parting) ∷ (joining ++ parting) ∷ [])
+    ∷ along "10 PRINT \"X\"<\"Y\"+1,2" (beginning ∷ printing ∷ (comparing ++ parting) ∷ stringy ∷ (joining ++ parting) ∷ term ∷ (joining ++ parting) ∷ (term ++ parting) ∷ (joining ++ parting) ∷ [])
+    ∷ along "10 PRINT \"X\",1" (beginning ∷ printing ∷ (comparing ++ parting) ∷ (term ++ parting) ∷ (joining ++ parting) ∷ [])
+    ∷ along "10 PRINT A$(1)=B$(2)+3,4" (beginning ∷ printing ∷ (substring-open ∷ comparing ++ parting) ∷ term ∷ (inner-comma ∷ close-sign ∷ joining) ∷ (comparing ++ parting) ∷ stringy ∷ (substring-open ∷ joining ++ parting) ∷ term ∷ (inner-comma ∷ close-sign ∷ joining) ∷ (joining ++ parting) ∷ term ∷ (joining ++ parting) ∷ (term ++ parting) ∷ (joining ++ parting) ∷ [])
+    ∷ along "10 PRINT -1,A,(2),LEN(\"X\"),SIN(3),4" (beginning ∷ printing ∷ term ∷ (joining ++ parting) ∷ (term ++ parting) ∷ (joining ++ parting) ∷ (term ++ parting) ∷ term ∷ (close-sign ∷ joining) ∷ (joining ++ parting) ∷ (term ++ parting) ∷ (function-open ∷ []) ∷ stringy ∷ (close-sign ∷ []) ∷ (joining ++ parting) ∷ (term ++ parting) ∷ (function-open ∷ []) ∷ term ∷ (close-sign ∷ joining) ∷ (joining ++ parting) ∷ (term ++ parting) ∷ (joining ++ parting) ∷ [])
+    ∷ along "10 PRINT ,,;,1,,2;,3" (beginning ∷ printing ∷ (term ++ parting) ∷ (term ++ parting) ∷ (term ++ parting) ∷ (term ++ parting) ∷ (joining ++ parting) ∷ (term ++ parting) ∷ (term ++ parting) ∷ (joining ++ parting) ∷ (term ++ parting) ∷ (term ++ parting) ∷ (joining ++ parting) ∷ [])
+    ∷ along "10 PRINT \"X\"<\"Y\",1" (beginning ∷ printing ∷ (comparing ++ parting) ∷ stringy ∷ (joining ++ parting) ∷ (term ++ parting) ∷ (joining ++ parting) ∷ [])
+    ∷ along "10 PRINT A$<\"X\";\"Y\";1" (beginning ∷ printing ∷ (substring-open ∷ comparing ++ parting) ∷ stringy ∷ (joining ++ parting) ∷ (term ++ parting) ∷ (comparing ++ parting) ∷ (term ++ parting) ∷ (joining ++ parting) ∷ [])
+    ∷ along "10 PRINT A$,1" (beginning ∷ printing ∷ (substring-open ∷ comparing ++ parting) ∷ (term ++ parting) ∷ (joining ++ parting) ∷ [])
+    ∷ along "10 PRINT CHR$(1+2)=\"X\",3;CHR$(4),5" (beginning ∷ printing ∷ (function-open ∷ []) ∷ term ∷ (close-sign ∷ joining) ∷ term ∷ (close-sign ∷ joining) ∷ (comparing ++ parting) ∷ stringy ∷ (joining ++ parting) ∷ (term ++ parting) ∷ (joining ++ parting) ∷ (term ++ parting) ∷ (function-open ∷ []) ∷ term ∷ (close-sign ∷ joining) ∷ (comparing ++ parting) ∷ (term ++ parting) ∷ (joining ++ parting) ∷ [])
+    ∷ along "10 PRINT 1+2,A(3+4,5)+6,7" (beginning ∷ printing ∷ (joining ++ parting) ∷ term ∷ (joining ++ parting) ∷ (term ++ parting) ∷ (array-open ∷ []) ∷ term ∷ (inner-comma ∷ close-sign ∷ joining) ∷ term ∷ (inner-comma ∷ close-sign ∷ joining) ∷ term ∷ (close-sign ∷ joining) ∷ (joining ++ parting) ∷ term ∷ (joining ++ parting) ∷ (term ++ parting) ∷ (joining ++ parting) ∷ [])
+    ∷ along "10 PRINT -1+2,(3+4)+5,6" (beginning ∷ printing ∷ term ∷ (joining ++ parting) ∷ term ∷ (joining ++ parting) ∷ (term ++ parting) ∷ term ∷ (close-sign ∷ joining) ∷ term ∷ (close-sign ∷ joining) ∷ (joining ++ parting) ∷ term ∷ (joining ++ parting) ∷ (term ++ parting) ∷ (joining ++ parting) ∷ [])
+    ∷ along "10 PRINT NOT 1+2,LEN(\"X\")+3,4" (beginning ∷ printing ∷ term ∷ (joining ++ parting) ∷ term ∷ (joining ++ parting) ∷ (term ++ parting) ∷ (function-open ∷ []) ∷ stringy ∷ (close-sign ∷ []) ∷ (joining ++ parting) ∷ term ∷ (joining ++ parting) ∷ (term ++ parting) ∷ (joining ++ parting) ∷ [])
+    ∷ along "10 PRINT A+1,SIN(2+3)+4,5" (beginning ∷ printing ∷ (joining ++ parting) ∷ term ∷ (joining ++ parting) ∷ (term ++ parting) ∷ (function-open ∷ []) ∷ term ∷ (close-sign ∷ joining) ∷ term ∷ (close-sign ∷ joining) ∷ (joining ++ parting) ∷ term ∷ (joining ++ parting) ∷ (term ++ parting) ∷ (joining ++ parting) ∷ [])
+    ∷ along "10 PRINT ,\"X\"<\"Y\",A$(1)=B$,2" (beginning ∷ printing ∷ (term ++ parting) ∷ (comparing ++ parting) ∷ stringy ∷ (joining ++ parting) ∷ (term ++ parting) ∷ (substring-open ∷ comparing ++ parting) ∷ term ∷ (inner-comma ∷ close-sign ∷ joining) ∷ (comparing ++ parting) ∷ stringy ∷ (substring-open ∷ joining ++ parting) ∷ (term ++ parting) ∷ (joining ++ parting) ∷ [])
+    ∷ along "10 PRINT ;CHR$(1+2)=\"X\",3" (beginning ∷ printing ∷ (term ++ parting) ∷ (function-open ∷ []) ∷ term ∷ (close-sign ∷ joining) ∷ term ∷ (close-sign ∷ joining) ∷ (comparing ++ parting) ∷ stringy ∷ (joining ++ parting) ∷ (term ++ parting) ∷ (joining ++ parting) ∷ [])
     ∷ []
 
 -- the number of RESTORE
@@ -262,10 +272,15 @@ walks = of-statements ++ after-then ++ of-terms ++ of-print ++ of-restore
 
 -- to unfold it is to unfold the tables
 unfoldable pub all-walks : Unit {0}
-unfolding along given-as prefix comparing number-assigned string-assigned substring-open array-open dim-array-open function-open dim-string-open inner-comma beginning term joining stringy ending parting of-statements after-then of-terms of-print of-restore walks
+unfolding along given-as prefix comparing number-assigned string-assigned substring-open array-open dim-array-open function-open dim-string-open inner-comma beginning term joining stringy ending parting printing of-statements after-then of-terms of-print of-restore walks
 all-walks = tt
+
+-- to unfold it is to unfold the test of a text
+unfoldable pub all-Following : Unit {0}
+unfolding all-classes as-given and-taken all-taken alike stack-after as-expected of-head unexpected
+all-Following = tt
 
 -- at each place of each of these texts just what document 01 allows may come
 pub what-may-follow : unexpected walks ≡ []
-unfolding everything all-walks all-classes as-given and-taken all-taken alike stack-after as-expected of-head unexpected
+unfolding everything all-walks all-Following
 what-may-follow = refl

@@ -1,4 +1,4 @@
--- What kind of item each word and symbol of document 01 is, in statement position: the class of every item of a text but the colons.
+-- What kind of item each word and symbol of document 01, with document 02's §4, is, in statement position: the class of every item of a text but the colons.
 use Prim.Native.Nat.{ℕ}
 use Prim.Native.String.{String}
 use mathlib.Core.Path.{_≡_, refl}
@@ -6,7 +6,7 @@ use mathlib.Core.Bool.{Bool, true, _&&_, _||_}
 use mathlib.Core.List.{List, [], _∷_}
 use lib.Dec.{eqb}
 use Rattle.paper.specs.Bytes.{pick, bytes}
-use Rattle.paper.specs.Classes.{unfit, number, quoted, first-numeric, first-string, open-sign, close-sign, comma, colon, semicolon, equals, comparison, plus-minus, factor-sign, not-word, or-and, to-word, step-word, then-word, string-function, function-of-string, function-of-number, read-input, let-word, if-word, for-word, next-word, jump, alone, dim-word, on-word, poke-word, print-word, restore-word}
+use Rattle.paper.specs.Classes.{unfit, number, quoted, first-numeric, first-string, open-sign, close-sign, comma, colon, semicolon, equals, comparison, plus-minus, factor-sign, not-word, or-and, to-word, step-word, then-word, string-function, function-of-string, function-of-number, channel-sign, read-word, let-word, if-word, for-word, next-word, jump, alone, dim-word, on-word, poke-word, print-word, restore-word, input-word, open-word, xio-word, close-word, get-status, put-word, note-point}
 use Rattle.paper.specs.Tokens.{class}
 use Rattle.paper.specs.Items.{Item, items}
 use Rattle.paper.specs.Open.{everything}
@@ -20,10 +20,10 @@ pub record Kind : Type 0 where
 unfoldable pub kind : String → ℕ → Kind
 kind ws c = record { words = ws; class-of = c }
 
--- the words and symbols of document 01, but REM and DATA, which take the text after them
+-- the words and symbols, but REM and DATA, which take the text after them
 unfoldable pub kinds : List Kind
 kinds =
-    kind "READ:INPUT" read-input
+    kind "READ" read-word
     ∷ kind "LET" let-word
     ∷ kind "IF" if-word
     ∷ kind "FOR" for-word
@@ -35,9 +35,17 @@ kinds =
     ∷ kind "POKE" poke-word
     ∷ kind "PRINT:?" print-word
     ∷ kind "RESTORE" restore-word
-    ∷ kind "COLOR:LIST:ENTER:BYE:CONT:COM:CLOSE:NEW:OPEN:LOAD:SAVE:STATUS:NOTE:POINT:XIO:RUN:GET:PUT:GRAPHICS:PLOT:POSITION:DOS:DRAWTO:SETCOLOR:LOCATE:SOUND:LPRINT:CSAVE:CLOAD" unfit
+    ∷ kind "INPUT" input-word
+    ∷ kind "OPEN" open-word
+    ∷ kind "XIO" xio-word
+    ∷ kind "CLOSE" close-word
+    ∷ kind "GET:STATUS" get-status
+    ∷ kind "PUT" put-word
+    ∷ kind "NOTE:POINT" note-point
+    ∷ kind "COLOR:LIST:ENTER:BYE:CONT:COM:NEW:LOAD:SAVE:RUN:GRAPHICS:PLOT:POSITION:DOS:DRAWTO:SETCOLOR:LOCATE:SOUND:LPRINT:CSAVE:CLOAD" unfit
     ∷ kind "USR:ADR:PADDLE:STICK:PTRIG:STRIG" unfit
-    ∷ kind "#:!:%:&:':.:@:[:]:_:a:z:{" unfit
+    ∷ kind "#" channel-sign
+    ∷ kind "!:%:&:':.:@:[:]:_:a:z:{" unfit
     ∷ kind "TO" to-word
     ∷ kind "STEP" step-word
     ∷ kind "THEN" then-word

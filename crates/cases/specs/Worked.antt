@@ -56,18 +56,10 @@ worked =
     ∷ refuses "10 ENTER A" 4 3
     ∷ refuses "10 BYE A" 4 3
     ∷ refuses "10 CONT A" 4 3
-    ∷ refuses "10 CLOSE A" 4 3
     ∷ refuses "10 NEW A" 4 3
-    ∷ refuses "10 OPEN A" 4 3
     ∷ refuses "10 LOAD A" 4 3
     ∷ refuses "10 SAVE A" 4 3
-    ∷ refuses "10 STATUS A" 4 3
-    ∷ refuses "10 NOTE A" 4 3
-    ∷ refuses "10 POINT A" 4 3
-    ∷ refuses "10 XIO A" 4 3
     ∷ refuses "10 RUN A" 4 3
-    ∷ refuses "10 GET A" 4 3
-    ∷ refuses "10 PUT A" 4 3
     ∷ refuses "10 GRAPHICS A" 4 3
     ∷ refuses "10 PLOT A" 4 3
     ∷ refuses "10 POSITION A" 4 3
@@ -137,7 +129,6 @@ worked =
     ∷ refuses "10 IF A THEN10" 4 8
     ∷ refuses "10 A=\"X" 4 7
     ∷ stores "10 A$=\"X" "0A 00 0B 0B 36 80 2E 0F 01 58 16" "41 A4" "10 A$=\"X\""
-    ∷ refuses "10 PRINT #1" 4 9
     ∷ refuses "10 A=?" 4 5
     ∷ refuses "10 A=1..2" 4 7
     ∷ refuses "10 A=B< =C" 4 8

@@ -7,7 +7,7 @@ use mathlib.Core.List.{List, [], _∷_}
 use lib.Dec.{eqb, leb, ltb}
 use borrow.Author.Tests.{eqb-true, ltb-true, leb-true, le-leb, eq-eqb}
 use Rattle.paper.specs.Bytes.{pick, every}
-use Rattle.paper.specs.Classes.{unfit, close-sign}
+use Rattle.paper.specs.Classes.{unfit, open-sign, close-sign, channel-sign, raw-text, remark}
 use Rattle.paper.specs.Words.{Word, word, word-of, statements, operators}
 use Rattle.paper.specs.Tokens.{Token, statement, assigned, operator, variable, constant, string, raw, out-of-range, unreadable, out-of-range?, by-kind, operator-class, class}
 use Rattle.paper.specs.Open.{all-Bytes, all-Words, all-Tokens}
@@ -50,13 +50,13 @@ kind-between (x ∷ []) l h n s a n1 n2 s1 s2 a1 a2 = go (eqb x 36) (eqb x 40)
     go false false = (n1, n2)
 kind-between (x ∷ y ∷ ys) l h n s a n1 n2 s1 s2 a1 a2 = kind-between (y ∷ ys) l h n s a n1 n2 s1 s2 a1 a2
 
--- the classes of statement words: none that fits, or 30 and above
+-- the classes of statement words: none that fits, or from `remark` on
 unfoldable pub statement-class? : ℕ → Bool
-statement-class? c = eqb c 2 || leb 30 c
+statement-class? c = eqb c 2 || leb remark c
 
--- the classes of operators and functions: the line's ends, none that fits, or 11 to 28
+-- the classes of operators and functions: the line's ends, none that fits, or from `open-sign` to `channel-sign`
 unfoldable pub symbol-class? : ℕ → Bool
-symbol-class? c = leb c 2 || (leb 11 c && leb c 28)
+symbol-class? c = leb c 2 || (leb open-sign c && leb c channel-sign)
 
 pub statement-classes : (t : ℕ) → statement-class? (class (statement t)) ≡ true
 unfolding all-Bytes all-Words all-Tokens statement-class?
@@ -72,40 +72,40 @@ pub operator-classes : (t : ℕ) → symbol-class? (class (operator t)) ≡ true
 unfolding all-Bytes all-Words all-Tokens symbol-class?
 operator-classes t = operator-go (eqb t 0x16) (eqb t 0x9b) ((word-of operators t) .class) (word-all (λ w. symbol-class? (w .class)) operators t refl refl)
 
-pub no-statement : (c : ℕ) → statement-class? c ≡ true → 3 ≤ c → c ≤ 29 → ⊥
+pub no-statement : (c : ℕ) → statement-class? c ≡ true → 3 ≤ c → c < remark → ⊥
 unfolding statement-class?
-no-statement c e l h = go (eqb c 2) (leb 30 c) refl refl e
+no-statement c e l h = go (eqb c 2) (leb remark c) refl refl e
   where
-    go : (a b : Bool) → eqb c 2 ≡ a → leb 30 c ≡ b → (a || b) ≡ true → ⊥
+    go : (a b : Bool) → eqb c 2 ≡ a → leb remark c ≡ b → (a || b) ≡ true → ⊥
     go true b p q z = omega (arith, eqb-true c 2 p)
-    go false true p q z = omega (arith, leb-true 30 c q)
+    go false true p q z = omega (arith, leb-true remark c q)
     go false false p q z = no-bool z
 
 low-statement : (c : ℕ) → statement-class? c ≡ true → c ≤ 1 → ⊥
 unfolding statement-class?
-low-statement c e h = go (eqb c 2) (leb 30 c) refl refl e
+low-statement c e h = go (eqb c 2) (leb remark c) refl refl e
   where
-    go : (a b : Bool) → eqb c 2 ≡ a → leb 30 c ≡ b → (a || b) ≡ true → ⊥
+    go : (a b : Bool) → eqb c 2 ≡ a → leb remark c ≡ b → (a || b) ≡ true → ⊥
     go true b p q z = omega (arith, eqb-true c 2 p)
-    go false true p q z = omega (arith, leb-true 30 c q)
+    go false true p q z = omega (arith, leb-true remark c q)
     go false false p q z = no-bool z
 
 pub no-symbol : (c : ℕ) → symbol-class? c ≡ true → 3 ≤ c → c ≤ 10 → ⊥
 unfolding symbol-class?
-no-symbol c e l h = go (leb c 2) (leb 11 c) refl refl e
+no-symbol c e l h = go (leb c 2) (leb open-sign c) refl refl e
   where
-    go : (a b : Bool) → leb c 2 ≡ a → leb 11 c ≡ b → (a || (b && leb c 28)) ≡ true → ⊥
+    go : (a b : Bool) → leb c 2 ≡ a → leb open-sign c ≡ b → (a || (b && leb c channel-sign)) ≡ true → ⊥
     go true b p q z = omega (arith, leb-true c 2 p)
-    go false true p q z = omega (arith, leb-true 11 c q)
+    go false true p q z = omega (arith, leb-true open-sign c q)
     go false false p q z = no-bool z
 
-high-symbol : (c : ℕ) → symbol-class? c ≡ true → 29 ≤ c → ⊥
+high-symbol : (c : ℕ) → symbol-class? c ≡ true → channel-sign < c → ⊥
 unfolding symbol-class?
-high-symbol c e l = go (leb c 2) (leb 11 c) (leb c 28) refl refl refl e
+high-symbol c e l = go (leb c 2) (leb open-sign c) (leb c channel-sign) refl refl refl e
   where
-    go : (a b d : Bool) → leb c 2 ≡ a → leb 11 c ≡ b → leb c 28 ≡ d → (a || (b && d)) ≡ true → ⊥
+    go : (a b d : Bool) → leb c 2 ≡ a → leb open-sign c ≡ b → leb c channel-sign ≡ d → (a || (b && d)) ≡ true → ⊥
     go true b d p q r z = omega (arith, leb-true c 2 p)
-    go false true true p q r z = omega (arith, leb-true c 28 r)
+    go false true true p q r z = omega (arith, leb-true c channel-sign r)
     go false true false p q r z = no-bool z
     go false false d p q r z = no-bool z
 
@@ -125,7 +125,7 @@ class-string : (b : List ℕ) → class (string b) ≡ 4
 unfolding class
 class-string b = refl
 
-class-raw : (b : List ℕ) → class (raw b) ≡ 29
+class-raw : (b : List ℕ) → class (raw b) ≡ raw-text
 unfolding class
 class-raw b = refl
 
@@ -139,8 +139,8 @@ class-unreadable = refl
 
 -- ---- a token by its class
 
--- 11 to 28: an operator or function
-pub operator-by-class : (t : Token) → 11 ≤ class t → class t ≤ 28 → t ≡ operator (own-of t)
+-- from `open-sign` to `channel-sign`: an operator or function
+pub operator-by-class : (t : Token) → open-sign ≤ class t → class t ≤ channel-sign → t ≡ operator (own-of t)
 unfolding own-of
 operator-by-class (statement t) l h = absurd (no-statement (class (statement t)) (statement-classes t) (omega arith) (omega arith))
 operator-by-class (assigned n) l h = absurd (omega (arith, first-between n .1))
@@ -165,8 +165,8 @@ end-by-class (raw b) h = absurd (omega (arith, h, class-raw b))
 end-by-class out-of-range h = absurd (omega (arith, h, class-far))
 end-by-class unreadable h = absurd (omega (arith, h, class-unreadable))
 
--- 30 and above: a statement word
-pub statement-by-class : (t : Token) → 30 ≤ class t → t ≡ statement (own-of t)
+-- from `remark` on: a statement word
+pub statement-by-class : (t : Token) → remark ≤ class t → t ≡ statement (own-of t)
 unfolding own-of
 statement-by-class (statement t) l = refl
 statement-by-class (assigned n) l = absurd (omega (arith, first-between n .1))

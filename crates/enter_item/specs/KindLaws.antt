@@ -8,6 +8,7 @@ use lib.Dec.{ltb}
 use lib.ListN.{length, take, drop, length-append}
 use lib.Seq.{length-take-le}
 use Rattle.paper.specs.Bytes.{pick, every}
+use Rattle.paper.specs.Classes.{remark}
 use Rattle.paper.specs.Tokens.{constant, string, out-of-range, operator-class, class}
 use Rattle.paper.specs.Constants.{value, in-range, six, constant-of}
 use Rattle.paper.specs.Words.{word-of, statements}
@@ -132,7 +133,7 @@ no-operator : (t : ℕ) → 3 ≤ operator-class t → operator-class t ≤ 10 �
 unfolding class
 no-operator t l h = no-symbol (operator-class t) (operator-classes t) l h
 
-no-word : (t : ℕ) → 3 ≤ (word-of statements t) .class → (word-of statements t) .class ≤ 29 → ⊥
+no-word : (t : ℕ) → 3 ≤ (word-of statements t) .class → (word-of statements t) .class < remark → ⊥
 unfolding class
 no-word t l h = no-statement ((word-of statements t) .class) (statement-classes t) l h
 

@@ -10,6 +10,7 @@ use borrow.Author.Tests.{ne-eqb}
 use lib.ListN.{length, take, drop, set, length-append, length-drop}
 use lib.Seq.{sets, drop-drop, length-take-le, length-sets, take-length}
 use Rattle.paper.specs.Bytes.{pick, every}
+use Rattle.paper.specs.Classes.{line-end, colon, then-word, remark}
 use Rattle.paper.specs.Tokens.{Token, assigned, variable, constant, string, out-of-range, out-of-range?, class}
 use Rattle.paper.specs.Constants.{value, powers, six, six-at, five, zero-bytes}
 use Rattle.paper.specs.Names.{names-in, name-bytes, known?, marked, add-name, add-names}
@@ -141,7 +142,7 @@ unfolding begins?
 variable-plain t n e = ap begins? e
 
 calm-name : (c : ℕ) → 5 ≤ c → c ≤ 7 → calm? c ≡ true
-calm-name c l h = rw (ne-eqb c 0 (λ e. omega arith), ne-eqb c 14 (λ e. omega arith), ne-eqb c 25 (λ e. omega arith), ne-eqb c 30 (λ e. omega arith))
+calm-name c l h = rw (ne-eqb c line-end (λ e. omega arith), ne-eqb c colon (λ e. omega arith), ne-eqb c then-word (λ e. omega arith), ne-eqb c remark (λ e. omega arith))
 
 -- a variable's token: a byte that holds its number with 80
 pub variable-put : {number at b : ℕ} {old new : List ℕ} → b ≡ (128 + number % 256) % 256 → new ≡ set old at b → VariableWritten number old at new 1

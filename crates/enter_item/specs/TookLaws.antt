@@ -10,7 +10,7 @@ use borrow.Author.Tests.{leb-true, ne-eqb, lt-ltb}
 use lib.ListN.{length, set}
 use lib.Seq.{sets}
 use Rattle.paper.specs.Bytes.{pick}
-use Rattle.paper.specs.Classes.{line-end, remark, colon, then-word, number}
+use Rattle.paper.specs.Classes.{line-end, number, open-sign, colon, then-word, channel-sign, remark}
 use Rattle.paper.specs.Tokens.{Token, operator, class}
 use Rattle.paper.specs.Names.{name-bytes, add-names}
 use Rattle.paper.specs.Items.{Item, opens}
@@ -34,7 +34,7 @@ calm? c = pick (eqb c line-end) false (pick (eqb c colon) false (pick (eqb c the
 
 -- a class of operators and functions within a statement
 abbrev pub sign? : ℕ → Bool
-sign? c = pick (leb 11 c) (pick (leb c 28) (pick (eqb c colon) false (pick (eqb c then-word) false true)) false) false
+sign? c = pick (leb open-sign c) (pick (leb c channel-sign) (pick (eqb c colon) false (pick (eqb c then-word) false true)) false) false
 
 calm-opens : (c : ℕ) → calm? c ≡ true → opens c ≡ false
 unfolding opens
@@ -117,24 +117,24 @@ took-operator {t = t} g c k ask s h u n st =
     passed-operator g ask s (next-calm s cm) (s .moves (calm-end (class t) cm)) u n st
 
 pub record Sign (c : ℕ) : Type 0 where
-  pub low : 11 ≤ c
-  pub high : c ≤ 28
+  pub low : open-sign ≤ c
+  pub high : c ≤ channel-sign
   pub calm : calm? c ≡ true
   pub range : eqb c number ≡ false
 
 -- what the test says
 pub sign : (c : ℕ) → sign? c ≡ true → Sign c
-sign c h = go (leb 11 c) (leb c 28) (eqb c colon) (eqb c then-word) refl refl refl refl h
+sign c h = go (leb open-sign c) (leb c channel-sign) (eqb c colon) (eqb c then-word) refl refl refl refl h
   where
-    go : (a b d e : Bool) → leb 11 c ≡ a → leb c 28 ≡ b → eqb c colon ≡ d → eqb c then-word ≡ e → pick a (pick b (pick d false (pick e false true)) false) false ≡ true → Sign c
+    go : (a b d e : Bool) → leb open-sign c ≡ a → leb c channel-sign ≡ b → eqb c colon ≡ d → eqb c then-word ≡ e → pick a (pick b (pick d false (pick e false true)) false) false ≡ true → Sign c
     go true true false false p q r s z =
-        let l = leb-true 11 c p in
-        let u = leb-true c 28 q in
+        let l = leb-true open-sign c p in
+        let u = leb-true c channel-sign q in
         record {
           low = l;
           high = u;
-          calm = rw (ne-eqb c 0 (λ x. omega arith), r, s, ne-eqb c 30 (λ x. omega arith));
-          range = ne-eqb c 3 (λ x. omega arith);
+          calm = rw (ne-eqb c line-end (λ x. omega arith), r, s, ne-eqb c remark (λ x. omega arith));
+          range = ne-eqb c number (λ x. omega arith);
         }
     go true true false true p q r s z = no-bool z
     go true true true e p q r s z = no-bool z

@@ -172,7 +172,7 @@ unfolding begins?
 word-begins t x e = ap begins? e
 
 -- a statement's word
-pub began-word : {s names : List ℕ} {o : ℕ} {q : Spot} {m : Mem} {it : Found} {b : ℕ} {l new : List ℕ} → Asks (env s o names) q m → Sees s (q .at) true it → 30 ≤ class (token-at s true it) → b ≡ own-of (token-at s true it)
+pub began-word : {s names : List ℕ} {o : ℕ} {q : Spot} {m : Mem} {it : Found} {b : ℕ} {l new : List ℕ} → Asks (env s o names) q m → Sees s (q .at) true it → remark ≤ class (token-at s true it) → b ≡ own-of (token-at s true it)
     → l ≡ set (m .line) (q .written) 0 → new ≡ set l (q .written + 1) b
     → Began (env s o names) q m (token-at s true it) (it .end) (spot (it .end) (q .written + 2) (q .named)) (mem new (m .fresh))
 began-word {s} {names} {o} {q} {m} {it} {b} {l} {new} g v h e p₁ p₂ =
@@ -235,7 +235,7 @@ begun {old} {new} {c} {g} {d} z h e =
 pub begun-row : {c : ℕ} {ws : List ℕ} (i : Item) → (look want-statement c ≡ takes-item itself ws) × Begins c itself ws → class (i .token) ≡ c → look-in-range want-statement i ≡ takes-item itself ws
 begun-row {c} {ws} i b h = row-take want-statement c itself ws i h (b .0) (ne-eqb c 3 (λ y. omega (arith, b .1 .starts (omega (arith, y)) .0, y)))
 
-pub begun-moves : {E : Env} {at : ℕ} {t : Token} {a e c : ℕ} → Next E true at t a e → class t ≡ c → (c < 30 → (8 ≤ c) × (c ≤ 10)) → at < e
+pub begun-moves : {E : Env} {at : ℕ} {t : Token} {a e c : ℕ} → Next E true at t a e → class t ≡ c → (c < remark → (8 ≤ c) × (c ≤ 10)) → at < e
 begun-moves s h k = omega (arith, s .after, s .moves (λ z. omega (arith, k (omega (arith, h, z)) .0, h, z)))
 
 -- an item that begins no statement
@@ -259,7 +259,7 @@ unfolding opens
 calm-opens E c e p q = rw (p, q)
 
 -- after the first item of a statement comes its rest
-pub after-first : {E : Env} {at : ℕ} {t : Token} {a e : ℕ} (c : ℕ) → Next E true at t a e → class t ≡ c → (c < 30 → (8 ≤ c) × (c ≤ 10)) → items-at E true at ≡ item-of E t a e ∷ rest-items E c e
+pub after-first : {E : Env} {at : ℕ} {t : Token} {a e : ℕ} (c : ℕ) → Next E true at t a e → class t ≡ c → (c < remark → (8 ≤ c) × (c ≤ 10)) → items-at E true at ≡ item-of E t a e ∷ rest-items E c e
 unfolding rest-items
 after-first {E} {at} {t} {a} {e} c s h k =
     s .here

@@ -5,7 +5,7 @@ use mathlib.Core.Path.{_≡_, refl, subst, sym, ap, _∙_}
 use mathlib.Core.Bool.{Bool, true, false}
 use mathlib.Core.List.{List, [], _∷_, _++_}
 use lib.ListN.{set}
-use Rattle.paper.specs.Classes.{line-end}
+use Rattle.paper.specs.Classes.{line-end, open-sign, channel-sign}
 use Rattle.paper.specs.Tokens.{Token, operator, class}
 use Rattle.paper.specs.Items.{Item, opens}
 use Rattle.paper.specs.Machine.{took, refused, Taken, Run, left, bad, and-taken, step, go-on, read}
@@ -170,7 +170,7 @@ unfolding all-taken tokens-of
 reads-none {E} {q} {m} g = reads-more (record { ts = []; ran = refl; wrote = wrote-none E q m; asks = g; ahead = omega arith; plain = still-none })
 
 -- a colon or THEN, after which statement position comes
-pub took-opener : {E : Env} {q q′ : Spot} {m : Mem} {t : Token} {a e b : ℕ} {new : List ℕ} (c : ℕ) → opens c ≡ true → 11 ≤ c → c ≤ 28 → Asks E q m → Next E false (q .at) t a e → class t ≡ c → b ≡ own-of t
+pub took-opener : {E : Env} {q q′ : Spot} {m : Mem} {t : Token} {a e b : ℕ} {new : List ℕ} (c : ℕ) → opens c ≡ true → open-sign ≤ c → c ≤ channel-sign → Asks E q m → Next E false (q .at) t a e → class t ≡ c → b ≡ own-of t
     → new ≡ set (m .line) (q .written) b → q′ ≡ spot e (q .written + 1) (q .named) → Took E false q m itself (item-of E t a e) true q′ (mem new (m .fresh))
 unfolding given
 took-opener {E} {q} {q′} {m} {t} {a} {e} {b} {new} c o l u g s h w n st =

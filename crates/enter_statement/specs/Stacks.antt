@@ -60,7 +60,7 @@ within? c e ws = not (eqb c colon) && (not (eqb c line-end) && (not (eqb c then-
 
 -- a class that begins a statement: a variable's in statement position, or a statement word's
 unfoldable starts? : ℕ → Bool
-starts? c = pick (ltb c 30) (leb 8 c && leb c 10) true
+starts? c = pick (ltb c remark) (leb 8 c && leb c 10) true
 
 -- a statement's first item, and what follows it: raw text after REM and DATA, a good stack after all others
 unfoldable begins? : ℕ → Gives → List ℕ → Bool
@@ -215,7 +215,7 @@ fine-sign c e t h = is-true (sign? c) (rw (le-leb 3 c (omega arith), lt-leb c 7 
 
 pub record Begins (c : ℕ) (e : Gives) (ws : List ℕ) : Type 0 where
   pub own : e ≡ itself
-  pub starts : c < 30 → (8 ≤ c) × (c ≤ 10)
+  pub starts : c < remark → (8 ≤ c) × (c ≤ 10)
   pub raw : c ≡ remark → ws ≡ want-raw-text ∷ want-raw-end ∷ []
   pub good : (c ≡ remark → ⊥) → T (good? ws)
 
@@ -228,7 +228,7 @@ begins-so c e ws t =
     record {
       own = own e (and-left (own? e) (starts? c && rest) t);
       starts = λ h.
-          let n : T (leb 8 c && leb c 10) = rw (lt-ltb c 30 h) at (and-left (starts? c) rest k) in
+          let n : T (leb 8 c && leb c 10) = rw (lt-ltb c remark h) at (and-left (starts? c) rest k) in
           (leb-true 8 c (is-true (leb 8 c) (and-left (leb 8 c) (leb c 10) n)), leb-true c 10 (is-true (leb c 10) (and-right (leb 8 c) (leb c 10) n)));
       raw = λ h. same-eq ws (want-raw-text ∷ want-raw-end ∷ []) (is-true (same ws (want-raw-text ∷ want-raw-end ∷ [])) (rw (eq-eqb c remark h) at r));
       good = λ h. rw (ne-eqb c remark h) at r;

@@ -8,22 +8,22 @@ use Rattle.grammar.specs.Tables.{laid, word}
 
 -- the rows of the frames that leave what they do not take begin before this place, those of the others here or later
 abbrev pub refusing : ℕ
-refusing = 50
+refusing = 58
 
 -- where the row of each frame begins
 unfoldable pub firsts : List ℕ
 firsts =
-    70 ∷ 50 ∷ 61 ∷ 99 ∷ 68 ∷ 118 ∷ 49 ∷ 63 ∷ 114 ∷ 64 ∷ 119 ∷ 51
-    ∷ 6 ∷ 115 ∷ 125 ∷ 126 ∷ 66 ∷ 123 ∷ 138 ∷ 131 ∷ 128 ∷ 8 ∷ 138 ∷ 130
-    ∷ 21 ∷ 127 ∷ 139 ∷ 142 ∷ 22 ∷ 134 ∷ 24 ∷ 18 ∷ 32 ∷ 1 ∷ 136 ∷ 36
-    ∷ 124 ∷ 20 ∷ 122 ∷ 0 ∷ 143 ∷ []
+    78 ∷ 58 ∷ 64 ∷ 105 ∷ 76 ∷ 126 ∷ 41 ∷ 72 ∷ 67 ∷ 127 ∷ 131 ∷ 130
+    ∷ 6 ∷ 65 ∷ 129 ∷ 132 ∷ 69 ∷ 116 ∷ 138 ∷ 133 ∷ 124 ∷ 11 ∷ 138 ∷ 128
+    ∷ 10 ∷ 63 ∷ 140 ∷ 144 ∷ 12 ∷ 79 ∷ 23 ∷ 27 ∷ 5 ∷ 1 ∷ 145 ∷ 45
+    ∷ 134 ∷ 8 ∷ 125 ∷ 0 ∷ 146 ∷ []
 
 -- for each place the class, and what the frame whose row it is does with its items
 unfoldable pub entries : List ℕ
 entries =
     laid
-    (bytes "~~~34567~~~;~==??;B~D34567JKL;N=H?==B=D34567JKL;@AN~~3B4D689:0JKL@ABC1E567;><J89:OPQRSTUVWXYZ[\\]^_`abOPQRSTUVWXYZ[\\]^_`ab34567<=M;;@A67=B?D56@@5JKL@I=;GF;N~=")
-    (bytes "...HPH_r...h.CCCCUZ.YHPH_rvlthYCECX@ZAY:K:]ivltbII[..7F0E=L^s0ufjEEEE0EL^s260eL^sDO?czMT7NxpSQa`qRgowDO?czMT7NxpSQa`qRgow0>0Jd0W0V4;;nm0908BBG<0k\\e1003005E.y")
+    (bytes "~~~34567~~~;~==??;B~D@A=~=JKLM34567H=M;~=~?~~B~D34567JKL;@ABC3EB0D89:67JKL5671><=@A;5689:OPQRSTUVWXYZ[\\]^_`abOPQRSTUVWXYZ[\\]^_`ab345674N6;=<?I;5B@DG@@F;JKL;J~==~~~M")
+    (bytes "...HPH_r...h.CCCCUZ.YIIX.@vltYHPH_rEA[h.C.C..Z.Y:K:]ivltbEEEE7EF0EL^snmufjL^s060W;;2BBL^sDO?czMT7NxpSQa`qRgowDO?czMT7NxpSQa`qRgow0>0Jd00=V0000409G80<103k\\e5e.0y...E")
 
 -- the word of each act, in the order of their bytes
 unfoldable pub words : List ℕ

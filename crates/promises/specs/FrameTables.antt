@@ -2,7 +2,7 @@
 use Prim.Native.Nat.{ℕ}
 use mathlib.Core.List.{List, [], _∷_}
 use lib.ListN.{getD}
-use Rattle.paper.specs.Classes.{line-end, raw-end, number, quoted, numeric-variable, string-variable, array, first-numeric, first-string, first-array, open-sign, close-sign, comma, colon, semicolon, equals, comparison, plus-minus, factor-sign, not-word, or-and, goto-gosub, to-word, step-word, then-word, string-function, function-of-string, function-of-number, raw-text, channel-sign, remark, read-word, let-word, if-word, for-word, next-word, jump, alone, dim-word, on-word, poke-word, print-word, restore-word, input-word, open-word, xio-word, close-word, get-status, put-word, note-point}
+use Rattle.paper.specs.Classes.{line-end, raw-end, number, quoted, numeric-variable, string-variable, array, first-numeric, first-string, first-array, open-sign, close-sign, comma, colon, semicolon, equals, comparison, plus-minus, factor-sign, not-word, or-and, goto-gosub, to-word, step-word, then-word, string-function, function-of-string, function-of-number, channel-sign, raw-text, remark, read-word, let-word, if-word, for-word, next-word, jump, alone, dim-word, on-word, poke-word, print-word, restore-word, input-word, open-word, xio-word, close-word, get-status, put-word, note-point}
 use Rattle.promises.specs.Viable.{Info, none}
 
 -- an entry of the table

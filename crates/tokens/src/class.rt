@@ -31,7 +31,7 @@ pub const FIRST_STRING: u8 = 9;
 
 pub const FIRST_ARRAY: u8 = 10;
 
-// `(`, whatever it opens.
+// `(`, whatever it opens: operators and functions, from here on.
 pub const OPEN_SIGN: u8 = 11;
 
 // `)`.
@@ -85,11 +85,11 @@ pub const FUNCTION_OF_STRING: u8 = 27;
 // ATN to INT.
 pub const FUNCTION_OF_NUMBER: u8 = 28;
 
-// The text after REM or DATA.
-pub const RAW_TEXT: u8 = 29;
+// `#`, the last of the symbols and words that are operators or functions.
+pub const CHANNEL_SIGN: u8 = 29;
 
-// `#`, of document 02's §4, as the last seven.
-pub const CHANNEL_SIGN: u8 = 30;
+// The text after REM or DATA.
+pub const RAW_TEXT: u8 = 30;
 
 // The statement words, from here on: REM, DATA.
 pub const REMARK: u8 = 31;
