@@ -205,7 +205,7 @@ pub fn delete_text(random: &mut Random) -> Vec<u8> {
 pub fn spoil(random: &mut Random, text: &mut Vec<u8>) {
     for _ in 0..random.between(1, 3) {
         let place = random.below(text.len() + 1);
-        match random.below(8) {
+        match random.below(10) {
             0 if place < text.len() => {
                 text.remove(place);
             }
@@ -226,8 +226,27 @@ pub fn spoil(random: &mut Random, text: &mut Vec<u8>) {
                 let end = (place + random.below(8)).min(text.len());
                 text.drain(place..end);
             }
+            7 | 8 => spoil_separator(random, text),
             _ => text.insert(place, random.byte()),
         }
+    }
+}
+
+/// Leaves a `,`, `;` or `#` off, doubles it, or puts another in its place.
+fn spoil_separator(random: &mut Random, text: &mut Vec<u8>) {
+    let places: Vec<usize> = (0..text.len())
+        .filter(|place| b",;#".contains(&text[*place]))
+        .collect();
+    if places.is_empty() {
+        return;
+    }
+    let place = random.pick(&places);
+    match random.below(3) {
+        0 => {
+            text.remove(place);
+        }
+        1 => text.insert(place, text[place]),
+        _ => text[place] = random.pick(b",;#"),
     }
 }
 
@@ -386,7 +405,7 @@ impl Maker<'_> {
 
     /// Adds a statement; true if it must be the last.
     fn statement(&mut self) -> bool {
-        match self.random.below(24) {
+        match self.random.below(30) {
             0 => {
                 let word = self.random.pick(&["REM", "DATA"]);
                 self.word(word);
@@ -450,6 +469,11 @@ impl Maker<'_> {
             14 => {
                 let word = self.random.pick(&["READ", "INPUT"]);
                 self.word(word);
+                if word == "INPUT" && self.random.chance(50) {
+                    self.channel();
+                    let word = self.random.pick(&[",", ";"]);
+                    self.word(word);
+                }
                 loop {
                     let sort = if self.random.chance(50) {
                         Sort::Number
@@ -481,6 +505,7 @@ impl Maker<'_> {
                     self.number(0);
                 }
             }
+            23..=28 => self.device(),
             _ => {
                 let word = self
                     .random
@@ -545,10 +570,60 @@ impl Maker<'_> {
         }
     }
 
+    /// `#` and N.
+    fn channel(&mut self) {
+        self.word("#");
+        self.number(1);
+    }
+
+    /// A comma and an N.
+    fn comma_number(&mut self) {
+        self.word(",");
+        self.number(1);
+    }
+
+    /// A comma and a numeric variable.
+    fn comma_variable(&mut self) {
+        self.word(",");
+        self.name(Sort::Number, false);
+    }
+
+    /// A device statement.
+    fn device(&mut self) {
+        const DEVICES: [&str; 8] = [
+            "OPEN", "CLOSE", "GET", "PUT", "XIO", "STATUS", "NOTE", "POINT",
+        ];
+        let word = self.random.pick(&DEVICES);
+        self.word(word);
+        if word == "XIO" {
+            self.number(1);
+            self.word(",");
+        }
+        self.channel();
+        match word {
+            "OPEN" | "XIO" => {
+                self.comma_number();
+                self.comma_number();
+                self.word(",");
+                self.string(1);
+            }
+            "PUT" => self.comma_number(),
+            "GET" | "STATUS" => self.comma_variable(),
+            "NOTE" | "POINT" => {
+                self.comma_variable();
+                self.comma_variable();
+            }
+            _ => {}
+        }
+    }
+
     fn print(&mut self) {
         let word = self.random.pick(&["PRINT", "?"]);
         self.word(word);
-        let mut after_value = false;
+        let mut after_value = self.random.chance(30);
+        if after_value {
+            self.channel();
+        }
         while !self.random.chance(25) && !self.long() {
             if after_value || self.random.chance(20) {
                 let word = self.random.pick(&[",", ";"]);

@@ -124,12 +124,42 @@ impl Walk<'_> {
                 Some(())
             }
             statement::DIM => self.dim_list(),
-            statement::READ | statement::INPUT => self.variable_list(),
+            statement::READ => self.variable_list(),
+            statement::INPUT => {
+                if self.peek()? == operator::HASH {
+                    self.channel()?;
+                    if !self.accept(operator::SEMICOLON) {
+                        self.expect(operator::COMMA)?;
+                    }
+                }
+                self.variable_list()
+            }
             statement::PRINT | statement::QUESTION => self.print(),
             statement::POKE => {
                 self.number()?;
                 self.expect(operator::COMMA)?;
                 self.number()
+            }
+            statement::OPEN => self.open(),
+            statement::XIO => {
+                self.number()?;
+                self.expect(operator::COMMA)?;
+                self.open()
+            }
+            statement::CLOSE => self.channel(),
+            statement::GET | statement::STATUS => {
+                self.channel()?;
+                self.comma_and_variable()
+            }
+            statement::PUT => {
+                self.channel()?;
+                self.expect(operator::COMMA)?;
+                self.number()
+            }
+            statement::NOTE | statement::POINT => {
+                self.channel()?;
+                self.comma_and_variable()?;
+                self.comma_and_variable()
             }
             statement::GOTO | statement::GOSUB | statement::TRAP => self.number(),
             statement::RESTORE if self.at_statement_end() => Some(()),
@@ -196,6 +226,29 @@ impl Walk<'_> {
         }
     }
 
+    /// A channel: `#` and N.
+    fn channel(&mut self) -> Option<()> {
+        self.expect(operator::HASH)?;
+        self.number()
+    }
+
+    /// OPEN: channel, N, N, S.
+    fn open(&mut self) -> Option<()> {
+        self.channel()?;
+        for _ in 0..2 {
+            self.expect(operator::COMMA)?;
+            self.number()?;
+        }
+        self.expect(operator::COMMA)?;
+        self.string()
+    }
+
+    /// A comma and a plain numeric variable.
+    fn comma_and_variable(&mut self) -> Option<()> {
+        self.expect(operator::COMMA)?;
+        self.plain_variable(Variable::Number)
+    }
+
     /// The plain variables of READ and INPUT.
     fn variable_list(&mut self) -> Option<()> {
         loop {
@@ -207,17 +260,26 @@ impl Walk<'_> {
         }
     }
 
-    /// PRINT's values and separators.
+    /// PRINT's channel, values and separators.
     fn print(&mut self) -> Option<()> {
+        if self.peek()? == operator::HASH {
+            self.channel()?;
+            self.require(self.print_parted())?;
+        }
         while !self.at_statement_end() {
             if self.accept(operator::COMMA) || self.accept(operator::SEMICOLON) {
                 continue;
             }
             self.print_value()?;
-            let parted = matches!(self.peek(), Some(operator::COMMA | operator::SEMICOLON));
-            self.require(parted || self.at_statement_end())?;
+            self.require(self.print_parted())?;
         }
         Some(())
+    }
+
+    /// Says whether a separator of PRINT is in view, or its end.
+    fn print_parted(&self) -> bool {
+        matches!(self.peek(), Some(operator::COMMA | operator::SEMICOLON))
+            || self.at_statement_end()
     }
 
     /// One value of PRINT.
@@ -493,6 +555,7 @@ fn spell_operator(token: u8, sink: &mut impl Sink) {
         | operator::OPEN_FUNCTION
         | operator::OPEN_DIM_STRING => b"(",
         operator::CLOSE => b")",
+        operator::HASH => b"#",
         _ => b"",
     };
     sink.put(symbol);

@@ -388,11 +388,18 @@ impl Reader<'_> {
             statement::NEXT => Self::number_variable,
             statement::ON => Self::on_list,
             statement::DIM => Self::dim_list,
-            statement::READ | statement::INPUT => Self::variable_list,
+            statement::READ => Self::variable_list,
+            statement::INPUT => Self::input,
             statement::PRINT => Self::print,
             statement::POKE => Self::two_numbers,
             statement::GOTO | statement::GOSUB | statement::TRAP => Self::number,
             statement::RESTORE => Self::number_or_nothing,
+            statement::OPEN => Self::open,
+            statement::CLOSE => Self::channel,
+            statement::GET | statement::STATUS => Self::channel_and_variable,
+            statement::PUT => Self::channel_and_number,
+            statement::XIO => Self::device_command,
+            statement::NOTE | statement::POINT => Self::channel_and_two_variables,
             statement::CLR
             | statement::DEG
             | statement::END
@@ -522,7 +529,7 @@ impl Reader<'_> {
         }
     }
 
-    /// READ, INPUT: plain variables with commas.
+    /// READ, and INPUT after its channel: plain variables with commas.
     fn variable_list(&mut self) -> Read {
         loop {
             match self.variable() {
@@ -537,8 +544,27 @@ impl Reader<'_> {
         }
     }
 
-    /// PRINT: values, `,` and `;`, no two values side by side.
+    /// INPUT: perhaps a channel and one `,` or `;`, then a list.
+    fn input(&mut self) -> Read {
+        if self.sees(operator::HASH) {
+            self.channel()?;
+            if self.sees(operator::SEMICOLON) {
+                self.take(operator::SEMICOLON);
+            } else {
+                self.comma()?;
+            }
+        }
+        self.variable_list()
+    }
+
+    /// PRINT: perhaps a channel, which a `,` or `;` parts from the rest; then values, `,` and `;`, no two values side by side.
     fn print(&mut self) -> Read {
+        if self.sees(operator::HASH) {
+            self.channel()?;
+            if !self.print_parted() {
+                return self.refuse();
+            }
+        }
         loop {
             if self.sees(operator::COMMA) {
                 self.take(operator::COMMA);
@@ -548,14 +574,16 @@ impl Reader<'_> {
                 return Ok(());
             } else {
                 self.print_value()?;
-                let parted = self.sees(operator::COMMA)
-                    || self.sees(operator::SEMICOLON)
-                    || self.at_statement_end();
-                if !parted {
+                if !self.print_parted() {
                     return self.refuse();
                 }
             }
         }
+    }
+
+    /// Says whether a separator of PRINT is in view, or its end.
+    fn print_parted(&self) -> bool {
+        self.sees(operator::COMMA) || self.sees(operator::SEMICOLON) || self.at_statement_end()
     }
 
     /// One value of PRINT: N, or S alone.
@@ -574,8 +602,58 @@ impl Reader<'_> {
     /// POKE: N, N.
     fn two_numbers(&mut self) -> Read {
         self.number()?;
-        self.expect(operator::COMMA, operator::COMMA)?;
+        self.comma()?;
         self.number()
+    }
+
+    /// A comma between the parts of a statement.
+    fn comma(&mut self) -> Read {
+        self.expect(operator::COMMA, operator::COMMA)
+    }
+
+    /// CLOSE, and the channel of others: `#` and N.
+    fn channel(&mut self) -> Read {
+        self.expect(operator::HASH, operator::HASH)?;
+        self.number()
+    }
+
+    /// OPEN: channel, N, N, S.
+    fn open(&mut self) -> Read {
+        self.channel()?;
+        for _ in 0..2 {
+            self.comma()?;
+            self.number()?;
+        }
+        self.comma()?;
+        self.string()
+    }
+
+    /// XIO: N, and then what OPEN takes.
+    fn device_command(&mut self) -> Read {
+        self.number()?;
+        self.comma()?;
+        self.open()
+    }
+
+    /// GET, STATUS: channel, variable.
+    fn channel_and_variable(&mut self) -> Read {
+        self.channel()?;
+        self.comma()?;
+        self.number_variable()
+    }
+
+    /// PUT: channel, N.
+    fn channel_and_number(&mut self) -> Read {
+        self.channel()?;
+        self.comma()?;
+        self.number()
+    }
+
+    /// NOTE, POINT: channel, variable, variable.
+    fn channel_and_two_variables(&mut self) -> Read {
+        self.channel_and_variable()?;
+        self.comma()?;
+        self.number_variable()
     }
 
     /// RESTORE: N, or nothing.

@@ -89,10 +89,16 @@ pub mod statement {
     pub const GOTO: u8 = 0x0A;
     pub const GOSUB: u8 = 0x0C;
     pub const TRAP: u8 = 0x0D;
+    pub const CLOSE: u8 = 0x11;
     pub const CLR: u8 = 0x12;
     pub const DEG: u8 = 0x13;
     pub const DIM: u8 = 0x14;
     pub const END: u8 = 0x15;
+    pub const OPEN: u8 = 0x17;
+    pub const STATUS: u8 = 0x1A;
+    pub const NOTE: u8 = 0x1B;
+    pub const POINT: u8 = 0x1C;
+    pub const XIO: u8 = 0x1D;
     pub const ON: u8 = 0x1E;
     pub const POKE: u8 = 0x1F;
     pub const PRINT: u8 = 0x20;
@@ -103,6 +109,8 @@ pub mod statement {
     pub const STOP: u8 = 0x26;
     pub const POP: u8 = 0x27;
     pub const QUESTION: u8 = 0x28;
+    pub const GET: u8 = 0x29;
+    pub const PUT: u8 = 0x2A;
     /// LET without the word.
     pub const SILENT_LET: u8 = 0x36;
 }

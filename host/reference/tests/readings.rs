@@ -66,7 +66,6 @@ fn words() {
     refuses(b"10 TO=5", 4, 3);
     refuses(b"10 SIN=5", 4, 3);
     refuses(b"10 PRINT ?", 4, 9);
-    refuses(b"10 PRINT #1", 4, 9);
 }
 
 #[test]

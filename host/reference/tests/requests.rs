@@ -22,6 +22,62 @@ fn quotes_left_open() {
     refuses(b"10 NEXT \"\x9B", 4, 8);
 }
 
+#[test]
+fn device_statements() {
+    gives(
+        "10 OPEN #1,4,0,\"D:X\"",
+        "0A 00 24 24 17 1C 0E 40 01 00 00 00 00 12 0E 40 04 00 00 00 00 12 0E 00 00 00 00 00 00 12 0F 03 44 3A 58 16",
+    );
+    gives("10 CLOSE #1", "0A 00 0E 0E 11 1C 0E 40 01 00 00 00 00 16");
+    gives(
+        "10 GET #1,A",
+        "0A 00 10 10 29 1C 0E 40 01 00 00 00 00 12 80 16",
+    );
+    gives("10 STATUS #A,B", "0A 00 0A 0A 1A 1C 80 12 81 16");
+    gives("10 PUT #-A,B", "0A 00 0B 0B 2A 1C 36 80 12 81 16");
+    gives("10 NOTE #A,B,C", "0A 00 0C 0C 1B 1C 80 12 81 12 82 16");
+    gives("10 POINT #A,B,C", "0A 00 0C 0C 1C 1C 80 12 81 12 82 16");
+    gives(
+        "10 XIO A,#B,C,D,E$",
+        "0A 00 10 10 1D 80 12 1C 81 12 82 12 83 12 84 16",
+    );
+    gives("10 INPUT #A;B,C$", "0A 00 0C 0C 02 1C 80 15 81 12 82 16");
+    gives("10 INPUT #A,B", "0A 00 0A 0A 02 1C 80 12 81 16");
+    gives("10 PRINT #A", "0A 00 08 08 20 1C 80 16");
+    gives("10 PRINT #A,;B", "0A 00 0B 0B 20 1C 80 12 15 81 16");
+    gives("10 ?#A;", "0A 00 09 09 28 1C 80 15 16");
+    gives("10 LET GET=A", "0A 00 09 09 06 80 2D 81 16");
+    lists("10 XIO 18,#6,12,0,\"S:", "10 XIO 18,#6,12,0,\"S:\"");
+    lists("10 CLOSE # NOT A", "10 CLOSE # NOT A");
+    lists("10 GET#A(1,2),B", "10 GET #A(1,2),B");
+    for (text, place) in [
+        ("10 OPEN #1,4,\"X\"", 16),
+        ("10 OPEN #1,4,0", 14),
+        ("10 OPEN=1", 7),
+        ("10 XIO #1,1,0,0,\"X\"", 7),
+        ("10 CLOSE", 8),
+        ("10 CLOSE 1", 9),
+        ("10 CLOSE #A$", 12),
+        ("10 GET #1,A(1)", 10),
+        ("10 GET #1,A$", 10),
+        ("10 STATUS #1,2", 13),
+        ("10 STATUS #1;A", 12),
+        ("10 NOTE #1,A,2", 13),
+        ("10 POINT #1,A,", 14),
+        ("10 INPUT #1", 11),
+        ("10 INPUT #1 A", 12),
+        ("10 INPUT #1;;A", 12),
+        ("10 INPUT A;B", 10),
+        ("10 PRINT #1 A", 12),
+        ("10 PRINT #1;#2", 12),
+        ("10 PRINT A;#1", 11),
+        ("10 READ #1,A", 8),
+        ("10 LPRINT #1", 3),
+    ] {
+        refuses(text.as_bytes(), 4, place);
+    }
+}
+
 /// Enters a text, which is answered so; then the record has this count of lines and greatest number.
 #[track_caller]
 fn keeps(desk: &mut Desk, text: &str, number: usize, lines: usize, greatest: usize) {
