@@ -28,7 +28,6 @@ HOMES = {"lib.Dec": ["leb", "ltb"], "mathlib.Core.Bool": ["_&&_", "_||_", "true"
 # why an edit that nothing refuses is no wrong definition
 REASONS = {
     r"WellFormed.items-of-": "the places and sizes of a stored line's items are never looked at",
-    r"Words.word-operator\?-a-number-one-more-2": "1C, `#`, stands in no well-formed line, so that it is never listed",
     r"Line.variable-name-a-number-one-more-2": "what a variable has past the end: its byte always stands there",
     r"Calls.outcome-": "items that run out before the frames, or frames before the items: neither occurs",
 }

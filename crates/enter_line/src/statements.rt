@@ -18,6 +18,7 @@ ghost use mathlib.Core.Bool.{true};
 ghost use mathlib.Core.List.{[], _∷_};
 ghost use Prim.Native.Nat.{_+_, _-_, _≤_, _<_};
 ghost use lib.ListN.{length, drop};
+ghost use Rattle.paper.specs.Classes.{remark};
 ghost use Rattle.paper.specs.Tokens.{class};
 ghost use Rattle.paper.specs.Items.{raw-at};
 ghost use Rattle.paper.specs.Frames.{want-raw-text, want-raw-end};
@@ -101,7 +102,7 @@ fn begin(
     names: &[u8],
     fresh: &mut [u8; NAMES_ROOM],
 ) -> Spot
-    requires { ⌜ (Asks (env (now text) 0 (now names)) q (mem (now line) (now fresh))) × (Sees (now text) (q .at) true it) × (found ≡ class (token-at (now text) true it)) × (own ≡ own-of (token-at (now text) true it)) × (found < 30 → (8 ≤ found) × (found ≤ 10)) ⌝ }
+    requires { ⌜ (Asks (env (now text) 0 (now names)) q (mem (now line) (now fresh))) × (Sees (now text) (q .at) true it) × (found ≡ class (token-at (now text) true it)) × (own ≡ own-of (token-at (now text) true it)) × (found < remark → (8 ≤ found) × (found ≤ 10)) ⌝ }
     ensures { λ r. ⌜ Began (env (now (text .entry)) 0 (now (names .entry))) q (mem (now (line .entry)) (now (fresh .entry))) (token-at (now (text .entry)) true it) (it .end) r (mem (now (line .exit)) (now (fresh .exit))) ⌝ }
 {
     let end = it.end;
