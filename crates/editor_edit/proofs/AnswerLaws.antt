@@ -18,14 +18,15 @@ use Rattle.paper.specs.Calls.{State, names-of, lines-of, sound-state, refusal, 
 use Rattle.paper.specs.Direct.{line-kept}
 use Rattle.laws.specs.Names.{closed?, Sound}
 use Rattle.names_numbered.specs.Answers.{lacks, Room}
-use Rattle.store.specs.Answers.{counts-of, place-of, stored-answer, stored-bytes, removed-answer, removed-bytes}
-use Rattle.store.specs.Places.{stored-done, stored-no-room, removed-done, removed-not-there}
+use Rattle.store.specs.Answers.{place-of}
+use Rattle.store_edit.specs.Answers.{counts-of, stored-answer, stored-bytes, removed-answer, removed-bytes}
+use Rattle.store_edit.specs.Answered.{stored-done, stored-no-room, removed-done, removed-not-there}
 use Rattle.store.specs.declared.Counts.{Counts}
 use Rattle.store.specs.declared.Place.{Place}
-use Rattle.store.specs.declared.Stored.{Stored}
-use Rattle.store.specs.declared.Stored.the-variants.{Done, NoRoom}
-use Rattle.store.specs.declared.Removed.{Removed}
-use Rattle.store.specs.declared.Removed.the-variants.{Done as Gone, NotThere}
+use Rattle.store_edit.specs.declared.Stored.{Stored}
+use Rattle.store_edit.specs.declared.Stored.the-variants.{Done, NoRoom}
+use Rattle.store_edit.specs.declared.Removed.{Removed}
+use Rattle.store_edit.specs.declared.Removed.the-variants.{Done as Gone, NotThere}
 use Rattle.editor_edit.specs.declared.Editor.{Editor}
 use Rattle.editor_edit.specs.declared.Entered.{Entered}
 use Rattle.editor_edit.specs.States.{state, counts-in, entered, refusing, accepting, short-of, Lies}

@@ -21,7 +21,7 @@ use Rattle.paper.specs.Direct.{Typed, line-kept, accept-direct}
 use Rattle.laws.specs.Names.{closed?, adds-front, Sound}
 use Rattle.names_numbered.specs.Answers.{lacks, Room}
 use Rattle.names_numbered.specs.Uses.{length-bytes, lacks-is, room-left}
-use Rattle.store.specs.Answers.{too-long}
+use Rattle.store_edit.specs.Answers.{too-long}
 use Rattle.editor_edit.specs.States.{short-of}
 use Rattle.editor_edit.specs.Lines.{Written}
 use Rattle.editor_edit.specs.Sound.{table-sound, values-fit}

@@ -3,8 +3,8 @@ use buffers::copy;
 use buffers::front;
 use store::Counts;
 use store::Place;
-use store::Removed;
-use store::Stored;
+use store_edit::Removed;
+use store_edit::Stored;
 ghost use mathlib.Core.Path.{_≡_};
 ghost use mathlib.Core.List.{_++_};
 ghost use Prim.Native.Nat.{_*_, _≤_};
@@ -91,7 +91,7 @@ pub fn take_out(place: Place, names: &[u8], values: &[u8], store: &mut [u8], e: 
     requires { ⌜ (T (sound-state (state (now names) (now values) (now store) e))) × (Lies place (place .number) (state (now names) (now values) (now store) e)) ⌝ }
     ensures { λ r. ⌜ entered r (now (names .entry)) (now (values .entry)) (now (store .exit)) ≡ delete (state (now (names .entry)) (now (values .entry)) (now (store .entry)) e) (place .number) ⌝ }
 {
-    match store::take_out(store, store_counts(e), place) {
+    match store_edit::take_out(store, store_counts(e), place) {
         Removed::Done(left) => Entered {
             number: 0,
             place: 0,
@@ -178,7 +178,7 @@ pub fn accept(
     if short != 0 {
         return refused(short, e);
     }
-    match store::put_in(store, store_counts(e), place, front(line, size)) {
+    match store_edit::put_in(store, store_counts(e), place, front(line, size)) {
         Stored::NoRoom => refused(8, e),
         Stored::Done(after) => accepted(fresh, names, values, after, e),
     }

@@ -1,4 +1,2 @@
-pub mod Edits
-pub mod Moves
 pub mod Search
 pub mod Walk

@@ -19,9 +19,9 @@ use Rattle.store.specs.declared.Place.{Place}
 use Rattle.store.specs.declared.Found.the-variants.{Unsound, At}
 use Rattle.store.specs.Walks.{least-after, start, past-lines, walked-on, all-passed}
 use Rattle.store.specs.Answers.{sound-counts, place-of, found-answer}
-use Rattle.store.specs.Places.{counted}
+use Rattle.store.specs.Places.{counted, sound-rising}
 use Rattle.store.specs.Pairs.{greatest-next}
-use Rattle.store.proofs.Walk.{first-number, First, first-go, walking, from-start, passed-below, sound-rising, last-greatest, walk-resumed, walk-decides, counts-over}
+use Rattle.store.proofs.Walk.{first-number, First, first-go, walking, from-start, passed-below, last-greatest, walk-resumed, walk-decides, counts-over}
 
 -- ---- the first of some whole lines
 

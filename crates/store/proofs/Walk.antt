@@ -19,6 +19,7 @@ use Rattle.store.specs.declared.Walked.{Walked}
 use Rattle.store.specs.declared.Counts.{Counts}
 use Rattle.store.specs.Walks.{passes?, passing-size, passed, least-after, start, past-lines, walked-on, Within, all-passed}
 use Rattle.store.specs.Answers.{sound-counts}
+use Rattle.store.specs.Places.{sound-rising}
 use Rattle.store.specs.Pairs.{greatest-next}
 
 -- ---- the first line of some bytes
@@ -432,11 +433,6 @@ all-below [] t = refl
 all-below (l ∷ ls) t =
     let w = lawful l (is-true (whole-line? l) (and-left (whole-line? l) _ t)) in
     rw (lt-ltb (line-number l) 32768 (omega arith), all-below ls (and-right (whole-line? l) _ t))
-
--- sound lines rise
-pub sound-rising : (ls : List (List ℕ)) → T (sound-lines ls) → T (rising ls)
-unfolding sound-lines
-sound-rising ls t = and-right (every whole-line? ls) (rising ls) t
 
 all-lines : (ls : List (List ℕ)) → T (sound-lines ls) → passed 0 32768 ls ≡ ls
 unfolding sound-lines

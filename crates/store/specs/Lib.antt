@@ -1,4 +1,3 @@
-pub mod Moves
 pub mod Walks
 pub mod Answers
 pub mod Places

@@ -8,15 +8,13 @@ use lib.Dec.{T, leb, eqb, leb→le, eqb→eq}
 use lib.ListN.{length, take, drop, take-append-drop}
 use lib.Seq.{take-append-seam, drop-append-seam}
 use Rattle.paper.specs.Bytes.{pick, every, joined}
-use Rattle.paper.specs.Store.{lines-in, whole-line?, greatest-number, sound-store, lines-below, lines-not-below, first-is?, stored?, first-line, line-at, lines-above, take-out}
+use Rattle.paper.specs.Store.{lines-in, whole-line?, rising, sound-lines, greatest-number, sound-store, lines-below, lines-not-below, first-is?, stored?, first-line, line-at, lines-above}
 use Rattle.laws.specs.Tests.{and-left, and-right, as-T}
 use Rattle.laws.specs.Lines.{every-second, both-sides, used-of, parts-of, sizes-of, old-line}
 use Rattle.store.specs.declared.Counts.{Counts}
 use Rattle.store.specs.declared.Place.{Place}
 use Rattle.store.specs.declared.Found.the-variants.{Unsound, At}
-use Rattle.store.specs.declared.Stored.the-variants.{Done, NoRoom}
-use Rattle.store.specs.declared.Removed.the-variants.{Done as Gone, NotThere}
-use Rattle.store.specs.Answers.{counts-of, sound-counts, place-of, found-answer, too-long, stored-answer, removed-answer}
+use Rattle.store.specs.Answers.{sound-counts, place-of, found-answer}
 
 -- ---- a sound store and its counts
 
@@ -38,6 +36,11 @@ counted store c t =
     }
 
 -- ---- the place of a number
+
+-- sound lines rise
+pub sound-rising : (ls : List (List ℕ)) → T (sound-lines ls) → T (rising ls)
+unfolding sound-lines
+sound-rising ls t = and-right (every whole-line? ls) (rising ls) t
 
 -- no whole line is empty
 whole-long : (l : List ℕ) → T (whole-line? l) → 6 ≤ length l
@@ -116,41 +119,3 @@ none-go false q e = refl
 pub found-unsound : (store : List ℕ) (c : Counts) (n : ℕ) → found-answer store c n ≡ Unsound → sound-counts store c ≡ false
 unfolding found-answer
 found-unsound store c n e = none-go (sound-counts store c) (place-of n (lines-in (take (c .used) store))) e
-
--- ---- answers, as facts about the lines that the store would hold
-
-done-go : (b : Bool) (m n : Counts) → pick b NoRoom (Done m) ≡ Done n → (b ≡ false) × (n ≡ m)
-done-go true m n e = let z : _≡_ {A = ℕ} 0 1 = cc in absurd (omega arith)
-done-go false m n e = (refl, (cc))
-
--- a line was put in
-pub stored-done : (store : List ℕ) (ls : List (List ℕ)) (c : Counts) → stored-answer store ls ≡ Done c → (too-long store ls ≡ false) × (c ≡ counts-of ls)
-unfolding stored-answer
-stored-done store ls c e = done-go (too-long store ls) (counts-of ls) c e
-
-no-room-go : (b : Bool) (m : Counts) → pick b NoRoom (Done m) ≡ NoRoom → b ≡ true
-no-room-go true m e = refl
-no-room-go false m e = let z : _≡_ {A = ℕ} 0 1 = cc in absurd (omega arith)
-
--- it found no room
-pub stored-no-room : (store : List ℕ) (ls : List (List ℕ)) → stored-answer store ls ≡ NoRoom → too-long store ls ≡ true
-unfolding stored-answer
-stored-no-room store ls e = no-room-go (too-long store ls) (counts-of ls) e
-
-gone-go : (b : Bool) (m n : Counts) → pick b (Gone m) NotThere ≡ Gone n → (b ≡ true) × (n ≡ m)
-gone-go true m n e = (refl, (cc))
-gone-go false m n e = let z : _≡_ {A = ℕ} 0 1 = cc in absurd (omega arith)
-
--- a line was taken out
-pub removed-done : (n : ℕ) (ls : List (List ℕ)) (c : Counts) → removed-answer n ls ≡ Gone c → (stored? n ls ≡ true) × (c ≡ counts-of (take-out n ls))
-unfolding removed-answer
-removed-done n ls c e = gone-go (stored? n ls) (counts-of (take-out n ls)) c e
-
-not-there-go : (b : Bool) (m : Counts) → pick b (Gone m) NotThere ≡ NotThere → b ≡ false
-not-there-go true m e = let z : _≡_ {A = ℕ} 0 1 = cc in absurd (omega arith)
-not-there-go false m e = refl
-
--- there was none
-pub removed-not-there : (n : ℕ) (ls : List (List ℕ)) → removed-answer n ls ≡ NotThere → stored? n ls ≡ false
-unfolding removed-answer
-removed-not-there n ls e = not-there-go (stored? n ls) (counts-of (take-out n ls)) e

@@ -11,7 +11,7 @@ use lib.Dec.{eqb}
 use lib.Seq.{paste, paste-zero, paste-suc, drop-paste, length-paste, length-take-le, take-suc, drop-cons, set-at, append-snoc, getD-drop, getD-take, drop-drop}
 use borrow.Author.Tests.{eqb-true}
 use Rattle.paper.specs.Bytes.{pick}
-use Rattle.store.specs.Moves.{bytes-moved}
+use Rattle.store_gap.specs.Moves.{bytes-moved}
 
 -- ---- what a copy leaves as it was
 

@@ -1,12 +1,12 @@
--- `store::gap::move_up` meets its contract. The invariant: all but the first `i` bytes are moved, and counted.
+-- `store_gap::move_up` meets its contract. The invariant: all but the first `i` bytes are moved, and counted.
 use mathlib.Core.Path.{_≡_}
 use Prim.Native.Nat.{_+_, _-_, _≤_}
 use native.Mathlib.Omega.{arith}
 use lib.ListN.{drop}
 use lib.Seq.{paste}
-use Rattle.store.proofs.Moves.{turn-up, up-start, up-end, moved-length}
-use Rattle.store.proofs.gap.move_up.Statement.{statement}
-use Rattle.store.proofs.gap.move_up.Tie as tie
+use Rattle.store_gap.specs.MoveLaws.{turn-up, up-start, up-end, moved-length}
+use Rattle.store_gap.proofs.move_up.Statement.{statement}
+use Rattle.store_gap.proofs.move_up.Tie as tie
 
 abbrev Inv-loop : tie.InvT-loop
 Inv-loop s₀ at from n opened₀ i₀ s opened i = (i ≤ n) × (s ≡ paste s₀ (at + i) (drop (from + i) s₀) (n - i)) × (opened + i ≡ n)

@@ -13,14 +13,14 @@ use Rattle.paper.specs.Line.{line-number}
 use Rattle.paper.specs.Store.{lines-in, whole-line?, rising, greatest-number, sound-store, room, lines-below, lines-above, stored?, put-line, take-out, overwritten}
 use Rattle.laws.specs.Tests.{and-left, and-right}
 use Rattle.laws.specs.Lines.{bytes-back, joined-append, old-line, room-lent, used-of, parts-of, sizes-of}
 use Rattle.store.specs.declared.Counts.{Counts}
 use Rattle.store.specs.declared.Place.{Place}
-use Rattle.store.specs.declared.Stored.the-variants.{Done, NoRoom}
-use Rattle.store.specs.declared.Removed.the-variants.{Done as Gone, NotThere}
-use Rattle.store.specs.Answers.{counts-of, sound-counts, place-of, too-long, stored-answer, stored-bytes, removed-answer, removed-bytes}
-use Rattle.store.specs.Places.{counted, there, missing}
+use Rattle.store_edit.specs.declared.Stored.the-variants.{Done, NoRoom}
+use Rattle.store_edit.specs.declared.Removed.the-variants.{Done as Gone, NotThere}
+use Rattle.store.specs.Answers.{sound-counts, place-of}
+use Rattle.store_edit.specs.Answers.{counts-of, too-long, stored-answer, stored-bytes, removed-answer, removed-bytes}
+use Rattle.store.specs.Places.{counted, sound-rising, there, missing}
 use Rattle.store.specs.Pairs.{count-more, count-same, greatest-put, count-less, greatest-before, greatest-stays}
-use Rattle.store.proofs.Walk.{sound-rising}
 
 -- ---- used bytes in three parts, the middle one replaced
 

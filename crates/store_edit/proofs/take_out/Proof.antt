@@ -1,11 +1,11 @@
 use native.Mathlib.Omega.{arith}
 use Rattle.laws.specs.Lines.{used-of}
 use Rattle.store.specs.Places.{counted, place-within}
-use Rattle.store.proofs.Moves.{tail-placed}
-use Rattle.store.proofs.Edits.{out-refused, out-done, some-lines, out-last, out-other}
+use Rattle.store_gap.specs.MoveLaws.{tail-placed}
+use Rattle.store_edit.proofs.Edits.{out-refused, out-done, some-lines, out-last, out-other}
 use borrow.Author.Needs.{needs}
-use Rattle.store.proofs.take_out.Statement.{statement}
-use Rattle.store.proofs.take_out.Tie as tie
+use Rattle.store_edit.proofs.take_out.Statement.{statement}
+use Rattle.store_edit.proofs.take_out.Tie as tie
 
 pub take-out-spec : {M : Type 1} → statement M
 take-out-spec =

@@ -1,6 +1,6 @@
 use borrow.Author.Tests.{lt-ltb, le-ltb}
-use Rattle.store.proofs.greater.Statement.{statement}
-use Rattle.store.proofs.greater.Tie as tie
+use Rattle.store_edit.proofs.greater.Statement.{statement}
+use Rattle.store_edit.proofs.greater.Tie as tie
 
 pub greater-spec : {M : Type 1} → statement M
 greater-spec =

@@ -1,12 +1,12 @@
--- `store::gap::move_down` meets its contract. The invariant: the first `i` bytes are moved, and counted.
+-- `store_gap::move_down` meets its contract. The invariant: the first `i` bytes are moved, and counted.
 use mathlib.Core.Path.{_≡_, refl, sym, ap, _∙_}
 use Prim.Native.Nat.{_-_, _≤_}
 use native.Mathlib.Omega.{arith}
 use lib.ListN.{drop}
 use lib.Seq.{paste, paste-zero}
-use Rattle.store.proofs.Moves.{turn-down, moved-length}
-use Rattle.store.proofs.gap.move_down.Statement.{statement}
-use Rattle.store.proofs.gap.move_down.Tie as tie
+use Rattle.store_gap.specs.MoveLaws.{turn-down, moved-length}
+use Rattle.store_gap.proofs.move_down.Statement.{statement}
+use Rattle.store_gap.proofs.move_down.Tie as tie
 
 abbrev Inv-loop : tie.InvT-loop
 Inv-loop s₀ at from n closed₀ i₀ s closed i = (i ≤ n) × (s ≡ paste s₀ at (drop from s₀) i) × (closed ≡ i)

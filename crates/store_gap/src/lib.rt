@@ -3,7 +3,7 @@ ghost use mathlib.Core.Path.{_≡_};
 ghost use Prim.Native.Nat.{_+_, _-_, _≤_};
 ghost use lib.ListN.{length, drop};
 ghost use lib.Seq.{paste};
-ghost use Rattle.store.specs.Moves.{bytes-moved};
+ghost use Rattle.store_gap.specs.Moves.{bytes-moved};
 
 // Moves `n` bytes at `from` down to `at`, the first of them first.
 fn move_down(s: &mut [u8], at: usize, from: usize, n: usize) -> usize
@@ -45,7 +45,7 @@ fn to_move(at: usize, old: usize, new: usize, used: usize) -> usize
 }
 
 // Makes room for `new` bytes at `at` in the place of `old` ones: the bytes after these, up to `used`, move once, and not at all when the two counts are equal.
-pub(crate) fn resize(s: &mut [u8], at: usize, old: usize, new: usize, used: usize) -> usize
+pub fn resize(s: &mut [u8], at: usize, old: usize, new: usize, used: usize) -> usize
     requires { ⌜ (at + old ≤ used) × (used ≤ length (now s)) × (used - old + new ≤ length (now s)) ⌝ }
     ensures { λ r. ⌜ (r ≡ bytes-moved at old new used) × (now (s .exit) ≡ paste (now (s .entry)) (at + new) (drop (at + old) (now (s .entry))) r) ⌝ }
 {

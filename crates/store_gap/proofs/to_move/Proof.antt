@@ -1,10 +1,10 @@
 use Prim.Native.Nat.{_+_, _-_}
 use native.Mathlib.Omega.{arith}
 use mathlib.Core.Path.{_≡_, sym}
-use Rattle.store.specs.Moves.{moves-none, moves-tail}
+use Rattle.store_gap.specs.Moves.{moves-none, moves-tail}
 use borrow.Author.Needs.{needs}
-use Rattle.store.proofs.gap.to_move.Statement.{statement}
-use Rattle.store.proofs.gap.to_move.Tie as tie
+use Rattle.store_gap.proofs.to_move.Statement.{statement}
+use Rattle.store_gap.proofs.to_move.Tie as tie
 
 pub to-move-spec : {M : Type 1} → statement M
 to-move-spec =

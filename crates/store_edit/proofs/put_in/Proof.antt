@@ -2,12 +2,12 @@ use native.Mathlib.Omega.{arith}
 use lib.ListN.{length}
 use Rattle.paper.specs.Line.{line-number}
 use Rattle.laws.specs.Lines.{used-of, room-lent}
 use Rattle.store.specs.Places.{counted, place-within}
-use Rattle.store.proofs.Moves.{tail-placed}
-use Rattle.store.proofs.Edits.{few-lines, put-refused, put-done, put-more, put-same}
+use Rattle.store_gap.specs.MoveLaws.{tail-placed}
+use Rattle.store_edit.proofs.Edits.{few-lines, put-refused, put-done, put-more, put-same}
 use borrow.Author.Needs.{needs}
-use Rattle.store.proofs.put_in.Statement.{statement}
-use Rattle.store.proofs.put_in.Tie as tie
+use Rattle.store_edit.proofs.put_in.Statement.{statement}
+use Rattle.store_edit.proofs.put_in.Tie as tie
 
 pub put-in-spec : {M : Type 1} → statement M
 put-in-spec =
