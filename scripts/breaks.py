@@ -17,10 +17,9 @@ import sys
 import grammar
 
 COPY, KEPT = "target/breaks", "target/breaks.txt"
-CRATES = {"paper": "", "laws": "paper", "promises": "paper laws", "cases": "paper", "asked": "paper cases"}
-# what of cases is tried first on an edit of a file, as it is likely to refuse it; what is quick, and tried with asked; the rest is only tried on what nothing else refuses
+CRATES = {"paper": "", "laws": "paper", "promises": "paper laws", "cases": "paper", "limits": "paper cases", "recorded": "paper cases", "asked": "paper cases limits"}
+# what of cases is tried first on an edit of a file, as it is likely to refuse it
 FIRST = {"Grammar": [["Following"]], "Words": [["Kinds"], ["Worked"]]}
-QUICK = ["Answers", "Worked", "Limits", "Kinds", "Following"]
 # the files of paper that hold theorems; an error in another one is no refusal but an edit that cannot be read
 THEOREMS = ["Cases", "MachineLaws"]
 # where names that an edit may need come from
@@ -266,12 +265,14 @@ def checked(crate):
 
 def refusal(file):
     """The crate and lemma that refuse the edit in the copy."""
-    for modules in FIRST.get(file, []) + [["promises"], QUICK, []]:
-        if modules == ["promises"]:
-            answer = checked("promises")
-        else:
-            cases(modules)
-            answer = checked("asked" if modules == QUICK else "cases")
+    for modules in FIRST.get(file, []):
+        cases(modules)
+        answer = checked("cases")
+        if answer:
+            return answer
+    cases([])
+    for crate in ("promises", "asked", "recorded"):
+        answer = checked(crate)
         if answer:
             return answer
     return "nothing -"

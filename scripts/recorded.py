@@ -1,4 +1,4 @@
-"""Writes crates/cases/specs/Recorded.antt: recorded calls, chosen from those of crates/calls, which `typed`, `list` and `show` of paper must meet.
+"""Writes crates/recorded/specs/Recorded.antt: recorded calls, chosen from those of crates/calls, which `typed`, `list` and `show` of paper must meet.
 
   python3 scripts/recorded.py      (from the repository's root)
 
@@ -160,7 +160,7 @@ def row(call):
     return f"{what} (hex {quoted(asked[-1])}) {answer[0]} {answer[1]} (hex {quoted(answer[2])})"
 
 
-FILE = "crates/cases/specs/Recorded.antt"
+FILE = "crates/recorded/specs/Recorded.antt"
 GROUP = 20
 HEAD = """-- Recorded calls, on which two implementations by different hands agree, as a table that `typed`, `list` and `show` meet. (Made by scripts/recorded.py.)
 use Prim.Native.Nat.{ℕ}

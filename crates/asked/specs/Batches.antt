@@ -12,7 +12,7 @@ use Rattle.paper.specs.Calls.{State}
 use Rattle.paper.specs.Batch.{batch}
 use Rattle.paper.specs.Open.{everything}
 use Rattle.cases.specs.Answers.{agreeing, same-state}
-use Rattle.cases.specs.Limits.{roomy, padded}
+use Rattle.limits.specs.Limits.{roomy, padded}
 
 -- A text sent over a state; the lines taken and refused; of the first refusal number, place, end and line; and the state afterwards.
 pub record Sent : Type 0 where

@@ -9,7 +9,7 @@ use Rattle.paper.specs.Hex.{hex}
 use Rattle.paper.specs.Calls.{State}
 use Rattle.paper.specs.Open.{everything}
 use Rattle.cases.specs.Answers.{Call, enters, lists, same-state, meets, failing}
-use Rattle.cases.specs.Limits.{refuses-at, refuses, lists-not, padded}
+use Rattle.limits.specs.Limits.{refuses-at, refuses, lists-not, padded}
 
 -- no names, and no room for any; a store of which some bytes are used; a count of lines and a greatest number
 unfoldable pub keeping : String → ℕ → ℕ → ℕ → State

@@ -9,7 +9,7 @@ use Rattle.paper.specs.Hex.{hex}
 use Rattle.paper.specs.Calls.{State}
 use Rattle.paper.specs.Open.{everything}
 use Rattle.cases.specs.Answers.{Call, enters, lists, agreeing, same-state, meets, failing}
-use Rattle.cases.specs.Limits.{refuses-at, refuses, over, storing, roomy}
+use Rattle.limits.specs.Limits.{refuses-at, refuses, over, storing, roomy}
 
 -- a text without names that just fills the store with this line
 unfoldable pub fills : ℕ → String → String → Call

@@ -9,7 +9,7 @@ use Rattle.paper.specs.Hex.{hex}
 use Rattle.paper.specs.Calls.{State}
 use Rattle.paper.specs.Open.{everything}
 use Rattle.cases.specs.Answers.{Call, types, shows, agreeing, same-state, meets, failing}
-use Rattle.cases.specs.Limits.{lists-not, over, storing, roomy, ten-end, padded, ones, one-tokens, unsound}
+use Rattle.limits.specs.Limits.{lists-not, over, storing, roomy, ten-end, padded, ones, one-tokens, unsound}
 
 -- ---- calls
 
