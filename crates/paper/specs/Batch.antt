@@ -1,11 +1,12 @@
 -- A whole listing at once (document 02, §3): a text of many lines parted by 9B, entered line by line.
 use Prim.Native.Nat.{ℕ, suc, _+_}
+use mathlib.Core.Bool.{Bool}
 use mathlib.Core.List.{List, [], _∷_}
 use lib.Dec.{eqb}
 use Rattle.paper.specs.Bytes.{pick}
 use Rattle.paper.specs.Names.{in-front}
 use Rattle.paper.specs.Items.{Span, no-span}
-use Rattle.paper.specs.Calls.{State, Entered, enter}
+use Rattle.paper.specs.Calls.{State, Entered, enter-with}
 
 -- the lines of a text: each 9B ends one, and bytes after the last 9B, if any, are one too
 unfoldable pub text-lines : List ℕ → List (List ℕ)
@@ -13,10 +14,10 @@ text-lines [] = []
 text-lines (b ∷ s) = let more = text-lines s in pick (eqb b 0x9b) ([] ∷ more) (in-front b more)
 
 -- The answers to lines that are entered one after another by single calls, each over the state that the call before it left, whether that took its line
--- or refused it. (A line without a number is refused with 3: `enter` has no line buffer.)
-unfoldable pub answers-to : List (List ℕ) → State → List Entered
-answers-to [] s = []
-answers-to (l ∷ ls) s = let e = enter l s in e ∷ answers-to ls (e .after)
+-- or refused it. (A line without a number is refused with 3: `enter-with` has no line buffer.) The switch says whether wrong lines are kept (§9).
+unfoldable pub answers-to : Bool → List (List ℕ) → State → List Entered
+answers-to keep [] s = []
+answers-to keep (l ∷ ls) s = let e = enter-with keep l s in e ∷ answers-to keep ls (e .after)
 
 -- a refusal among lines: its number, its place in the line, and the line, counted from 1; all 0 for none
 pub record RefusedLine : Type 0 where
@@ -53,5 +54,5 @@ with-answers b [] = b
 with-answers b (e ∷ es) = with-answers (with-answer b e) es
 
 -- a text of many lines entered
-unfoldable pub batch : List ℕ → State → Batched
-batch text s = with-answers (no-lines s) (answers-to (text-lines text) s)
+unfoldable pub batch : Bool → List ℕ → State → Batched
+batch keep text s = with-answers (no-lines s) (answers-to keep (text-lines text) s)

@@ -13,8 +13,8 @@ use Rattle.paper.specs.Items.{Item, Span, span-of, no-span, items}
 use Rattle.paper.specs.Machine.{Run, left, done, bad, read}
 use Rattle.paper.specs.Grammar.{Gives, look-in-range, start}
 use Rattle.paper.specs.Line.{line-bytes, lawful-number?}
-use Rattle.paper.specs.WellFormed.{tokens-of, well-formed?}
-use Rattle.paper.specs.Listing.{listing}
+use Rattle.paper.specs.WellFormed.{tokens-of}
+use Rattle.paper.specs.Errors.{marked-at, error-line, keepable?, listable?, line-listing}
 use Rattle.paper.specs.Store.{lines-in, greatest-number, sound-store, room, stored?, line-at, put-line, take-out, overwritten}
 
 -- the lent buffers and counts; the last two are how many lines are stored, and their greatest number (document 02, §6)
@@ -184,6 +184,29 @@ enter-sound text s = let entered = at-head s (head-of text) in pick (ltb 120 (le
 unfoldable pub enter : List ℕ → State → Entered
 enter text s = let entered = enter-sound text s in pick (sound-state s) entered (refusal 1 no-span s)
 
+-- ---- a wrong line kept (document 02, §9)
+
+-- 8, or the error line is stored: it adds no name, and the answer is still 4 with the place
+unfoldable pub keep-line : State → List ℕ → Span → Entered
+keep-line s line place =
+    let lines = put-line line (lines-of s) in
+    let kept : Entered = record { number = 4; place = place; added = 0; after = stored s (names-of s) lines } in
+    pick (ltb (room (s .store)) (length (joined lines))) (refusal 8 no-span s) kept
+
+-- a numbered line refused with 4 that can be kept is kept: the text after the number's digits, with the byte at the place flipped
+unfoldable pub kept : List ℕ → State → Head → Entered → Entered
+kept text s (numbered n p rest) e =
+    let place = e .place .start in
+    let line-kept = keep-line s (error-line n (drop p (marked-at place text))) (e .place) in
+    pick (eqb (e .number) 4 && keepable? place text) line-kept e
+kept text s too-great e = e
+kept text s only-blanks e = e
+kept text s unnumbered e = e
+
+-- a text entered; the switch says whether wrong lines are kept
+unfoldable pub enter-with : Bool → List ℕ → State → Entered
+enter-with keep text s = let e = enter text s in pick keep (kept text s (head-of text) e) e
+
 -- ---- listing: refusals 1, 9, 10, 11
 
 pub record Listed : Type 0 where
@@ -195,17 +218,17 @@ pub record Listed : Type 0 where
 unfoldable pub not-listed : ℕ → List ℕ → Listed
 not-listed number output = record { number = number; written = 0; output = output }
 
--- 10 for a line that is not well-formed, 11 for a text longer than the output, or the text stands at its front
+-- 10 for a line that cannot be listed, 11 for a text longer than the output, or the text stands at its front
 unfoldable pub listed-if : Bool → List ℕ → List ℕ → Listed
-listed-if formed text output =
+listed-if listable text output =
     let listed : Listed = record { number = 0; written = length text; output = overwritten text output } in
-    pick (not formed) (not-listed 10 output) (pick (ltb (length output) (length text)) (not-listed 11 output) listed)
+    pick (not listable) (not-listed 10 output) (pick (ltb (length output) (length text)) (not-listed 11 output) listed)
 
 -- over sound tables and store: 9, 10, 11, or the listing
 unfoldable pub list-sound : ℕ → State → List ℕ → Listed
 list-sound n s output =
     let l = line-at n (lines-of s) in
-    let listed = listed-if (well-formed? (names-of s) l) (listing (names-of s) l) output in
+    let listed = listed-if (listable? lawful-number? (names-of s) l) (line-listing (names-of s) l) output in
     pick (not (stored? n (lines-of s))) (not-listed 9 output) listed
 
 -- 1, and then over sound tables and store

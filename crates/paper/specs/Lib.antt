@@ -12,6 +12,7 @@ pub mod Grammar
 pub mod Line
 pub mod WellFormed
 pub mod Listing
+pub mod Errors
 pub mod Store
 pub mod Calls
 pub mod Direct

@@ -10,6 +10,7 @@ use Rattle.paper.specs.Grammar as Grammar′
 use Rattle.paper.specs.Line as Line′
 use Rattle.paper.specs.WellFormed as WellFormed′
 use Rattle.paper.specs.Listing as Listing′
+use Rattle.paper.specs.Errors as Errors′
 use Rattle.paper.specs.Store as Store′
 use Rattle.paper.specs.Calls as Calls′
 use Rattle.paper.specs.Direct as Direct′
@@ -60,16 +61,20 @@ unfoldable pub all-Listing : Unit {0}
 unfolding Listing′.decimal Listing′.operator-text Listing′.token-text Listing′.body-text Listing′.listing-text Listing′.direct-listing Listing′.listing
 all-Listing = tt
 
+unfoldable pub all-Errors : Unit {0}
+unfolding Errors′.flipped Errors′.marked-at Errors′.error-line Errors′.keepable? Errors′.error-size Errors′.error-text Errors′.error-line? Errors′.listable? Errors′.line-text Errors′.line-listing
+all-Errors = tt
+
 unfoldable pub all-Store : Unit {0}
 unfolding Store′.lines-from Store′.lines-in Store′.whole-line? Store′.rising-above Store′.rising Store′.sound-lines Store′.greatest-number Store′.room Store′.sound-store Store′.lines-below Store′.lines-not-below Store′.first-is? Store′.stored? Store′.first-line Store′.line-at Store′.lines-above Store′.put-line Store′.take-out Store′.overwritten
 all-Store = tt
 
 unfoldable pub all-Calls : Unit {0}
-unfolding Calls′.names-of Calls′.lines-of Calls′.sound-tables Calls′.agrees Calls′.sound-state Calls′.refusal Calls′.place-of Calls′.outcome Calls′.translate Calls′.with-names Calls′.stored Calls′.lacks-room Calls′.unless-short Calls′.accept Calls′.answered Calls′.delete Calls′.head-of Calls′.at-head Calls′.enter-sound Calls′.enter Calls′.not-listed Calls′.listed-if Calls′.list-sound Calls′.list
+unfolding Calls′.names-of Calls′.lines-of Calls′.sound-tables Calls′.agrees Calls′.sound-state Calls′.refusal Calls′.place-of Calls′.outcome Calls′.translate Calls′.with-names Calls′.stored Calls′.lacks-room Calls′.unless-short Calls′.accept Calls′.answered Calls′.delete Calls′.head-of Calls′.at-head Calls′.enter-sound Calls′.enter Calls′.keep-line Calls′.kept Calls′.enter-with Calls′.not-listed Calls′.listed-if Calls′.list-sound Calls′.list
 all-Calls = tt
 
 unfoldable pub all-Direct : Unit {0}
-unfolding Direct′.line-kept Direct′.accept-direct Direct′.answered-direct Direct′.unnumbered? Direct′.typed Direct′.line-in Direct′.show-sound Direct′.show
+unfolding Direct′.same-buffer Direct′.accept-direct Direct′.answered-direct Direct′.unnumbered? Direct′.typed Direct′.line-in Direct′.show-sound Direct′.show
 all-Direct = tt
 
 unfoldable pub all-Batch : Unit {0}
@@ -81,5 +86,5 @@ unfolding Hex′.nibble Hex′.pairs Hex′.hex
 all-Hex = tt
 
 unfoldable pub everything : Unit {0}
-unfolding all-Bytes all-Words all-Tokens all-Constants all-Names all-Items all-Machine all-Grammar all-Line all-WellFormed all-Listing all-Store all-Calls all-Direct all-Batch all-Hex
+unfolding all-Bytes all-Words all-Tokens all-Constants all-Names all-Items all-Machine all-Grammar all-Line all-WellFormed all-Listing all-Errors all-Store all-Calls all-Direct all-Batch all-Hex
 everything = tt
