@@ -5,12 +5,13 @@ use mathlib.Core.Bool.{Bool, true, false}
 use mathlib.Core.List.{List, [], _∷_}
 use lib.ListN.{length, take}
 use Rattle.paper.specs.Store.{lines-in, lines-from, greatest-number}
-use Rattle.paper.specs.Calls.{State, lines-of, sound-state, Entered, refusal, enter, not-listed, list}
+use Rattle.paper.specs.Calls.{State, lines-of, sound-state, Entered, refusal, enter, enter-with, not-listed, list}
 use Rattle.paper.specs.Direct.{typed}
 use Rattle.laws.specs.Tests.{as-T}
-use Rattle.promises.specs.Terms.{Agrees, Edited, Reached, empty-record, after-text, after-typed, state-after, after-batch}
+use Rattle.promises.specs.Terms.{Agrees, Edited, LineKept, Reached, empty-record, after-typed, state-after, after-batch}
 use Rattle.promises.specs.States.{state-says}
-use Rattle.promises.specs.Editing.{sound-after, after-any}
+use Rattle.promises.specs.Editing.{sound-after}
+use Rattle.promises.specs.KeptLines.{after-any-with}
 use Rattle.promises.specs.DirectLines.{after-any-typed}
 use Rattle.paper.specs.Batch.{text-lines, answers-to, batch}
 use Rattle.promises.specs.Batches.{batch-answers}
@@ -26,29 +27,32 @@ empty-agrees s u n g =
 edit-agrees : (text : List ℕ) (s : State) (e : Entered) → Edited text s e → Agrees (e .after)
 edit-agrees text s e d = state-says (e .after) (sound-after text s e d) .agrees
 
+-- and so does what a line that is kept leaves
+kept-agrees : (text : List ℕ) (s : State) (e : Entered) → LineKept text s e → Agrees (e .after)
+kept-agrees text s e k = state-says (e .after) (k .carried .sound) .agrees
+
 -- a record that agrees stays so
-pub stays-agreeing : (text : List ℕ) (s : State) → Agrees s → Agrees ((enter text s) .after)
-stays-agreeing text s a = after-any Agrees text s a (edit-agrees text s)
+pub stays-agreeing : (keep : Bool) (text : List ℕ) (s : State) → Agrees s → Agrees ((enter-with keep text s) .after)
+stays-agreeing keep text s a = after-any-with text s Agrees keep a (edit-agrees text s) (kept-agrees text s)
 
 -- whatever is typed
-pub typed-stays-agreeing : (text : List ℕ) (s : State) (buffer : List ℕ) → Agrees s → Agrees ((typed text s buffer) .entered .after)
-typed-stays-agreeing text s buffer a = after-any-typed text s buffer Agrees a (edit-agrees text s) (λ t m. state-says (t .entered .after) (m .kept .sound) .agrees)
+pub typed-stays-agreeing : (keep : Bool) (text : List ℕ) (s : State) (buffer : List ℕ) → Agrees s → Agrees ((typed keep text s buffer) .entered .after)
+typed-stays-agreeing keep text s buffer a = after-any-typed keep text s buffer Agrees a (edit-agrees text s) (kept-agrees text s) (λ t m. state-says (t .entered .after) (m .carried .sound) .agrees)
 
-lines-agreeing : (ls : List (List ℕ)) (s : State) → Agrees s → Agrees (state-after s (answers-to ls s))
+lines-agreeing : (keep : Bool) (ls : List (List ℕ)) (s : State) → Agrees s → Agrees (state-after s (answers-to keep ls s))
 unfolding answers-to state-after
-lines-agreeing [] s a = a
-lines-agreeing (l ∷ ls) s a = lines-agreeing ls ((enter l s) .after) (stays-agreeing l s a)
+lines-agreeing keep [] s a = a
+lines-agreeing keep (l ∷ ls) s a = lines-agreeing keep ls ((enter-with keep l s) .after) (stays-agreeing keep l s a)
 
 -- so many lines leave it
-batch-agrees : (text : List ℕ) (s : State) → Agrees s → Agrees ((batch text s) .after)
-batch-agrees text s a = subst Agrees (sym (batch-answers text s .after)) (lines-agreeing (text-lines text) s a)
+batch-agrees : (keep : Bool) (text : List ℕ) (s : State) → Agrees s → Agrees ((batch keep text s) .after)
+batch-agrees keep text s a = subst Agrees (sym (batch-answers keep text s .after)) (lines-agreeing keep (text-lines text) s a)
 
 -- a record reached from an empty one agrees
 pub reached-agrees : (s : State) → Reached s → Agrees s
 reached-agrees s (empty-record t u n g) = empty-agrees t u n g
-reached-agrees s (after-text text t r) = stays-agreeing text t (reached-agrees t r)
-reached-agrees s (after-typed text t buffer r) = typed-stays-agreeing text t buffer (reached-agrees t r)
-reached-agrees s (after-batch text t r) = batch-agrees text t (reached-agrees t r)
+reached-agrees s (after-typed keep text t buffer r) = typed-stays-agreeing keep text t buffer (reached-agrees t r)
+reached-agrees s (after-batch keep text t r) = batch-agrees keep text t (reached-agrees t r)
 
 -- ---- a record that disagrees
 

@@ -39,12 +39,13 @@ placeless = 1 ∷ 2 ∷ 3 ∷ 6 ∷ 7 ∷ 8 ∷ 9 ∷ []
 -- a text with a number, over a sound state
 pub record Numbered (text : List ℕ) (s : State) : Type 0 where
   pub sound : T (sound-state s)
+  pub digits : eqb (digit-count text) 0 ≡ false
   pub lawful : T (lawful-number? (number-in text))
 
 -- What `enter` answers: a refusal with no place; a refusal with 4 or 5; the line put in; the line deleted
 pub data Answer (text : List ℕ) (s : State) : Entered → Type 0 where
   refused-outright : (k : ℕ) → T (among k placeless) → Answer text s (refusal k no-span s)
-  refused-there : (k : ℕ) (q : Span) → Refusal (items-in text) k q → EndsThere text q → Answer text s (refusal k q s)
+  refused-there : Numbered text s → (k : ℕ) (q : Span) → Refusal (items-in text) k q → EndsThere text q → Answer text s (refusal k q s)
   puts-line : Numbered text s → (ts : List Token) → translate (number-end text) (past-number text) ≡ tokens ts → lacks-room s (names-with s ts) ≡ false
       → length (joined (put-line (line-with s (number-in text) ts) (lines-of s))) ≤ room (s .store)
       → Answer text s (record { number = 0; place = no-span; added = length (names-with s ts) - length (names-of s); after = stored s (names-with s ts) (put-line (line-with s (number-in text) ts) (lines-of s)) })
@@ -68,7 +69,7 @@ module _ (text : List ℕ) (s : State) where
   unfolding answered
   translation-says t (tokens ts) e = accept-says t ts e
   translation-says t (refused-at k q) e =
-      refused-there k q (translation-refused (number-end text) (past-number text) k q e) (translation-ends text (number-end text) (past-number text) k q stands-there e)
+      refused-there t k q (translation-refused (number-end text) (past-number text) k q e) (translation-ends text (number-end text) (past-number text) k q stands-there e)
 
   delete-go : Numbered text s → T (every blank? (past-number text)) → (b : Bool) → stored? (number-in text) (lines-of s) ≡ b
       → Answer text s (pick b (record { number = 0; place = no-span; added = 0; after = stored s (names-of s) (take-out (number-in text) (lines-of s)) }) (refusal 9 no-span s))
@@ -83,13 +84,13 @@ module _ (text : List ℕ) (s : State) where
 
   head-says : T (sound-state s) → Answer text s (at-head s (head-of text))
   unfolding at-head head-of after-blanks digit-count number-in number-end past-number among
-  head-says o = go (eqb (digit-count text) 0) (eqb (run blank? text) (length text)) (lawful-number? (number-in text)) refl
+  head-says o = go (eqb (digit-count text) 0) refl (eqb (run blank? text) (length text)) (lawful-number? (number-in text)) refl
     where
-      go : (a b c : Bool) → lawful-number? (number-in text) ≡ c → Answer text s (at-head s (pick a (pick b only-blanks unnumbered) (pick c (numbered (number-in text) (number-end text) (past-number text)) too-great)))
-      go true true c e = outright 3 tt
-      go true false c e = outright 3 tt
-      go false b false e = outright 3 tt
-      go false b true e = rw (run-whole blank? (past-number text)) (number-go (record { sound = o; lawful = as-T _ e }) (every blank? (past-number text)) refl)
+      go : (a : Bool) → eqb (digit-count text) 0 ≡ a → (b c : Bool) → lawful-number? (number-in text) ≡ c → Answer text s (at-head s (pick a (pick b only-blanks unnumbered) (pick c (numbered (number-in text) (number-end text) (past-number text)) too-great)))
+      go true d true c e = outright 3 tt
+      go true d false c e = outright 3 tt
+      go false d b false e = outright 3 tt
+      go false d b true e = rw (run-whole blank? (past-number text)) (number-go (record { sound = o; digits = d; lawful = as-T _ e }) (every blank? (past-number text)) refl)
 
   short-go : T (sound-state s) → (b : Bool) → Answer text s (pick b (refusal 2 no-span s) (at-head s (head-of text)))
   unfolding among
@@ -120,7 +121,7 @@ not-outright k m h n e = T-not (among m placeless) n (subst (λ (z : ℕ). T (am
 four-so : (text : List ℕ) (s : State) (e : Entered) → Answer text s e → e .number ≡ 4 → NoReading (items-in text) (e .place)
 unfolding among
 four-so text s e (refused-outright k h) z = absurd (not-outright k 4 h tt (sym (refused-is k no-span s .0) ∙ z))
-four-so text s e (refused-there k q h w) z = subst (NoReading (items-in text)) (sym (refused-is k q s .1)) (is-four (items-in text) k q h (sym (refused-is k q s .0) ∙ z))
+four-so text s e (refused-there t k q h w) z = subst (NoReading (items-in text)) (sym (refused-is k q s .1)) (is-four (items-in text) k q h (sym (refused-is k q s .0) ∙ z))
 four-so text s e (puts-line t ts tr lacks fits) z = absurd (omega arith)
 four-so text s e (drops-line t b st) z = absurd (omega arith)
 
@@ -131,9 +132,20 @@ place-four text s z = four-so text s (enter text s) (answer text s) z
 five-so : (text : List ℕ) (s : State) (e : Entered) → Answer text s e → e .number ≡ 5 → OutOfRange (items-in text) (e .place)
 unfolding among
 five-so text s e (refused-outright k h) z = absurd (not-outright k 5 h tt (sym (refused-is k no-span s .0) ∙ z))
-five-so text s e (refused-there k q h w) z = subst (OutOfRange (items-in text)) (sym (refused-is k q s .1)) (is-five (items-in text) k q h (sym (refused-is k q s .0) ∙ z))
+five-so text s e (refused-there t k q h w) z = subst (OutOfRange (items-in text)) (sym (refused-is k q s .1)) (is-five (items-in text) k q h (sym (refused-is k q s .0) ∙ z))
 five-so text s e (puts-line t ts tr lacks fits) z = absurd (omega arith)
 five-so text s e (drops-line t b st) z = absurd (omega arith)
+
+-- refusal 4 is answered only to a text with a number
+pub four-numbered : (text : List ℕ) (s : State) → (enter text s) .number ≡ 4 → Numbered text s
+unfolding among
+four-numbered text s z = go (enter text s) (answer text s) z
+  where
+    go : (e : Entered) → Answer text s e → e .number ≡ 4 → Numbered text s
+    go e (refused-outright k h) z = absurd (not-outright k 4 h tt (sym (refused-is k no-span s .0) ∙ z))
+    go e (refused-there t k q h w) z = t
+    go e (puts-line t ts tr lacks fits) z = t
+    go e (drops-line t b st) z = t
 
 -- the place of refusal 5
 pub place-five : (text : List ℕ) (s : State) → (enter text s) .number ≡ 5 → OutOfRange (items-in text) ((enter text s) .place)
@@ -141,7 +153,7 @@ place-five text s z = five-so text s (enter text s) (answer text s) z
 
 place-so : (text : List ℕ) (s : State) (e : Entered) → Answer text s e → (e .number ≡ 4 → ⊥) → (e .number ≡ 5 → ⊥) → e .place ≡ no-span
 place-so text s e (refused-outright k h) x y = refused-is k no-span s .1
-place-so text s e (refused-there k q h w) x y = absurd (four-or-five (items-in text) k q h (λ z. x (refused-is k q s .0 ∙ z)) (λ z. y (refused-is k q s .0 ∙ z)))
+place-so text s e (refused-there t k q h w) x y = absurd (four-or-five (items-in text) k q h (λ z. x (refused-is k q s .0 ∙ z)) (λ z. y (refused-is k q s .0 ∙ z)))
 place-so text s e (puts-line t ts tr lacks fits) x y = refl
 place-so text s e (drops-line t b st) x y = refl
 
@@ -149,7 +161,7 @@ ends-so : (text : List ℕ) (s : State) (e : Entered) → Answer text s e → (e
 unfolding among
 ends-so text s e (refused-outright k h) (inl z) = absurd (not-outright k 4 h tt (sym (refused-is k no-span s .0) ∙ z))
 ends-so text s e (refused-outright k h) (inr z) = absurd (not-outright k 5 h tt (sym (refused-is k no-span s .0) ∙ z))
-ends-so text s e (refused-there k q h w) z = subst (EndsThere text) (sym (refused-is k q s .1)) w
+ends-so text s e (refused-there t k q h w) z = subst (EndsThere text) (sym (refused-is k q s .1)) w
 ends-so text s e (puts-line t ts tr lacks fits) (inl z) = absurd (omega arith)
 ends-so text s e (puts-line t ts tr lacks fits) (inr z) = absurd (omega arith)
 ends-so text s e (drops-line t b st) (inl z) = absurd (omega arith)
@@ -165,7 +177,7 @@ no-place text s x y = place-so text s (enter text s) (answer text s) x y
 
 unchanged-so : (text : List ℕ) (s : State) (e : Entered) → Answer text s e → (e .number ≡ 0 → ⊥) → (e .after ≡ s) × (e .added ≡ 0)
 unchanged-so text s e (refused-outright k h) n = (refused-is k no-span s .3, refused-is k no-span s .2)
-unchanged-so text s e (refused-there k q h w) n = (refused-is k q s .3, refused-is k q s .2)
+unchanged-so text s e (refused-there t k q h w) n = (refused-is k q s .3, refused-is k q s .2)
 unchanged-so text s e (puts-line t ts tr lacks fits) n = absurd (n refl)
 unchanged-so text s e (drops-line t b st) n = absurd (n refl)
 

@@ -12,12 +12,12 @@ use borrow.Author.Tests.{eqb-true, eqb-false, eq-eqb, ne-eqb, le-ltb}
 use Rattle.paper.specs.Bytes.{pick, run, every, blank?}
 use Rattle.paper.specs.Names.{in-front}
 use Rattle.paper.specs.Items.{no-span, raw-byte?}
-use Rattle.paper.specs.Calls.{State, sound-state, Entered, refusal, at-head, head-of, enter-sound, enter, only-blanks, unnumbered}
+use Rattle.paper.specs.Calls.{State, sound-state, Entered, refusal, at-head, head-of, enter-sound, enter, only-blanks, unnumbered, enter-with}
 use Rattle.paper.specs.Batch.{text-lines, answers-to, RefusedLine, none-refused, Batched, no-lines, with-answer, with-answers, batch}
 use Rattle.laws.specs.Tests.{and-left, and-right, and-both, is-true, is-false, as-T}
 use Rattle.promises.specs.Terms.{digit-count, after-blanks, Parting, EachExactly, no-answer, answer-and, takes?, how-many, state-after, FirstRefused, Summed, one-then, all-unsound}
-use Rattle.promises.specs.Editing.{stays-sound}
-use Rattle.promises.specs.Exactly.{text-exactly}
+use Rattle.promises.specs.KeptLines.{same-unless-4, stays-sound-with}
+use Rattle.promises.specs.ExactlyKept.{text-exactly-with}
 
 -- ---- the lines of a text
 
@@ -56,14 +56,14 @@ lines-of-text = record { none = refl; ended = ended-line; last = last-line }
 
 -- ---- each line by itself
 
-each-exactly : (ls : List (List ℕ)) (s : State) → EachExactly ls s (answers-to ls s)
+each-exactly : (keep : Bool) (ls : List (List ℕ)) (s : State) → EachExactly keep ls s (answers-to keep ls s)
 unfolding answers-to
-each-exactly [] s = no-answer s
-each-exactly (l ∷ ls) s = answer-and (text-exactly l s) (each-exactly ls ((enter l s) .after))
+each-exactly keep [] s = no-answer s
+each-exactly keep (l ∷ ls) s = answer-and (text-exactly-with l s keep) (each-exactly keep ls ((enter-with keep l s) .after))
 
 -- the answers to a text's lines
-pub lines-exactly : (text : List ℕ) (s : State) → EachExactly (text-lines text) s (answers-to (text-lines text) s)
-lines-exactly text s = each-exactly (text-lines text) s
+pub lines-exactly : (keep : Bool) (text : List ℕ) (s : State) → EachExactly keep (text-lines text) s (answers-to keep (text-lines text) s)
+lines-exactly keep text s = each-exactly keep (text-lines text) s
 
 -- ---- what the one call says of the answers
 
@@ -189,10 +189,10 @@ first-so (e ∷ es) b r f = go (eqb (e .number) 0) refl (first-so es (with-answe
         })
 
 -- what is answered of all lines
-pub batch-answers : (text : List ℕ) (s : State) → Summed s (answers-to (text-lines text) s) (batch text s)
+pub batch-answers : (keep : Bool) (text : List ℕ) (s : State) → Summed s (answers-to keep (text-lines text) s) (batch keep text s)
 unfolding batch no-lines
-batch-answers text s =
-    let es : List Entered = answers-to (text-lines text) s in
+batch-answers keep text s =
+    let es : List Entered = answers-to keep (text-lines text) s in
     record { taken = taken-so es (no-lines s) ∙ zero-add _; refused = refused-so es (no-lines s) ∙ zero-add _; first = first-so es (no-lines s) refl refl; after = after-so es (no-lines s) }
 
 one-each : (es : List Entered) → how-many takes? es + how-many refuses? es ≡ length es
@@ -204,16 +204,16 @@ one-each (e ∷ es) = go (eqb (e .number) 0) refl (one-each es)
     go true h k = rw h (omega arith)
     go false h k = rw h (omega arith)
 
-an-answer-each : (ls : List (List ℕ)) (s : State) → length (answers-to ls s) ≡ length ls
+an-answer-each : (keep : Bool) (ls : List (List ℕ)) (s : State) → length (answers-to keep ls s) ≡ length ls
 unfolding answers-to
-an-answer-each [] s = refl
-an-answer-each (l ∷ ls) s = ap suc (an-answer-each ls ((enter l s) .after))
+an-answer-each keep [] s = refl
+an-answer-each keep (l ∷ ls) s = ap suc (an-answer-each keep ls ((enter-with keep l s) .after))
 
 -- every line is taken or refused
-pub batch-counts : (text : List ℕ) (s : State) → (batch text s) .taken + (batch text s) .refused ≡ length (text-lines text)
-batch-counts text s =
-    let sum = batch-answers text s in
-    omega (arith, sum .taken, sum .refused, one-each (answers-to (text-lines text) s), an-answer-each (text-lines text) s)
+pub batch-counts : (keep : Bool) (text : List ℕ) (s : State) → (batch keep text s) .taken + (batch keep text s) .refused ≡ length (text-lines text)
+batch-counts keep text s =
+    let sum = batch-answers keep text s in
+    omega (arith, sum .taken, sum .refused, one-each (answers-to keep (text-lines text) s), an-answer-each keep (text-lines text) s)
 
 -- ---- one text after another
 
@@ -234,10 +234,10 @@ two-texts (x ∷ a) b = go (eqb x 0x9b) refl (two-texts a b) (some-line a)
     go true e h f = rw e (ap (λ (z : List (List ℕ)). [] ∷ z) h)
     go false e h (l, ls, f) = rw (e, h, f)
 
-two-answers : (ls ms : List (List ℕ)) (s : State) → answers-to (ls ++ ms) s ≡ answers-to ls s ++ answers-to ms (state-after s (answers-to ls s))
+two-answers : (keep : Bool) (ls ms : List (List ℕ)) (s : State) → answers-to keep (ls ++ ms) s ≡ answers-to keep ls s ++ answers-to keep ms (state-after s (answers-to keep ls s))
 unfolding answers-to state-after
-two-answers [] ms s = refl
-two-answers (l ∷ ls) ms s = ap (λ (z : List Entered). enter l s ∷ z) (two-answers ls ms ((enter l s) .after))
+two-answers keep [] ms s = refl
+two-answers keep (l ∷ ls) ms s = ap (λ (z : List Entered). enter-with keep l s ∷ z) (two-answers keep ls ms ((enter-with keep l s) .after))
 
 -- one answer more in the second text
 then-answer : (x y : Batched) (e : Entered) → with-answer (one-then x y) e ≡ one-then x (with-answer y e)
@@ -284,58 +284,61 @@ then-none b f = go (eqb (b .refused) 0) refl
     go false h = rw (h, add-zero (b .taken), add-zero (b .refused))
 
 -- two texts, one after the other: answers and state
-pub batch-in-two : (a b : List ℕ) (s : State) → batch (a ++ 0x9b ∷ b) s ≡ one-then (batch (a ++ 0x9b ∷ []) s) (batch b ((batch (a ++ 0x9b ∷ []) s) .after))
+pub batch-in-two : (keep : Bool) (a b : List ℕ) (s : State) → batch keep (a ++ 0x9b ∷ b) s ≡ one-then (batch keep (a ++ 0x9b ∷ []) s) (batch keep b ((batch keep (a ++ 0x9b ∷ []) s) .after))
 unfolding batch no-lines
-batch-in-two a b s =
+batch-in-two keep a b s =
     let text : List ℕ = a ++ 0x9b ∷ [] in
-    let x : Batched = batch text s in
-    let es : List Entered = answers-to (text-lines b) (state-after s (answers-to (text-lines text) s)) in
-    ap (λ (z : List (List ℕ)). with-answers (no-lines s) (answers-to z s)) (two-texts a b)
-    ∙ ap (with-answers (no-lines s)) (two-answers (text-lines text) (text-lines b) s)
-    ∙ with-more (answers-to (text-lines text) s) es (no-lines s)
-    ∙ ap (λ (z : Batched). with-answers z es) (then-none x (none-first (answers-to (text-lines text) s) (no-lines s)))
+    let x : Batched = batch keep text s in
+    let es : List Entered = answers-to keep (text-lines b) (state-after s (answers-to keep (text-lines text) s)) in
+    ap (λ (z : List (List ℕ)). with-answers (no-lines s) (answers-to keep z s)) (two-texts a b)
+    ∙ ap (with-answers (no-lines s)) (two-answers keep (text-lines text) (text-lines b) s)
+    ∙ with-more (answers-to keep (text-lines text) s) es (no-lines s)
+    ∙ ap (λ (z : Batched). with-answers z es) (then-none x (none-first (answers-to keep (text-lines text) s) (no-lines s)))
     ∙ then-answers es x (no-lines (x .after))
-    ∙ ap (λ (z : State). one-then x (with-answers (no-lines (x .after)) (answers-to (text-lines b) z))) (sym (batch-answers text s .after))
+    ∙ ap (λ (z : State). one-then x (with-answers (no-lines (x .after)) (answers-to keep (text-lines b) z))) (sym (batch-answers keep text s .after))
 
 -- ---- one test of the tables is enough
 
--- over sound tables a text is entered without the test
-pub sound-entered : (text : List ℕ) (s : State) → T (sound-state s) → enter text s ≡ enter-sound text s
+one-so : (text : List ℕ) (s : State) → sound-state s ≡ false → enter text s ≡ refusal 1 no-span s
 unfolding enter
-sound-entered text s o = rw (is-true (sound-state s) o)
+one-so text s u = rw u
 
--- over others it is refused with 1
-pub unsound-entered : (text : List ℕ) (s : State) → sound-state s ≡ false → enter text s ≡ refusal 1 no-span s
-unfolding enter
-unsound-entered text s u = rw u
+-- a text that is refused with a number other than 4 is refused so with the switch
+with-switch : (keep : Bool) (text : List ℕ) (s : State) (k : ℕ) → (k ≡ 4 → ⊥) → enter text s ≡ refusal k no-span s → enter-with keep text s ≡ refusal k no-span s
+unfolding refusal
+with-switch keep text s k n e = same-unless-4 text s keep (λ z. n (sym (ap (λ (x : Entered). x .number) e) ∙ z)) ∙ e
+
+-- over unsound tables a text is refused with 1
+pub unsound-entered : (keep : Bool) (text : List ℕ) (s : State) → sound-state s ≡ false → enter-with keep text s ≡ refusal 1 no-span s
+unsound-entered keep text s u = with-switch keep text s 1 (λ e. omega arith) (one-so text s u)
 
 -- the tables are sound after a text exactly when they were before it
-pub same-soundness : (text : List ℕ) (s : State) → sound-state ((enter text s) .after) ≡ sound-state s
+pub same-soundness : (keep : Bool) (text : List ℕ) (s : State) → sound-state ((enter-with keep text s) .after) ≡ sound-state s
 unfolding refusal
-same-soundness text s = go (sound-state s) refl
+same-soundness keep text s = go (sound-state s) refl
   where
-    go : (b : Bool) → sound-state s ≡ b → sound-state ((enter text s) .after) ≡ b
-    go true e = is-true _ (stays-sound text s (as-T (sound-state s) e))
-    go false e = ap (λ (z : Entered). sound-state (z .after)) (unsound-entered text s e) ∙ e
+    go : (b : Bool) → sound-state s ≡ b → sound-state ((enter-with keep text s) .after) ≡ b
+    go true e = is-true _ (stays-sound-with text s keep (as-T (sound-state s) e))
+    go false e = ap (λ (z : Entered). sound-state (z .after)) (unsound-entered keep text s e) ∙ e
 
-soundness-after : (ls : List (List ℕ)) (s : State) → sound-state (state-after s (answers-to ls s)) ≡ sound-state s
+soundness-after : (keep : Bool) (ls : List (List ℕ)) (s : State) → sound-state (state-after s (answers-to keep ls s)) ≡ sound-state s
 unfolding answers-to state-after
-soundness-after [] s = refl
-soundness-after (l ∷ ls) s = soundness-after ls ((enter l s) .after) ∙ same-soundness l s
+soundness-after keep [] s = refl
+soundness-after keep (l ∷ ls) s = soundness-after keep ls ((enter-with keep l s) .after) ∙ same-soundness keep l s
 
 -- and after many lines
-pub batch-soundness : (text : List ℕ) (s : State) → sound-state ((batch text s) .after) ≡ sound-state s
-batch-soundness text s = ap sound-state (batch-answers text s .after) ∙ soundness-after (text-lines text) s
+pub batch-soundness : (keep : Bool) (text : List ℕ) (s : State) → sound-state ((batch keep text s) .after) ≡ sound-state s
+batch-soundness keep text s = ap sound-state (batch-answers keep text s .after) ∙ soundness-after keep (text-lines text) s
 
 -- n answers 1
 refusals : ℕ → State → List Entered
 refusals zero s = []
 refusals (suc n) s = refusal 1 no-span s ∷ refusals n s
 
-unsound-answers : (ls : List (List ℕ)) (s : State) → sound-state s ≡ false → answers-to ls s ≡ refusals (length ls) s
+unsound-answers : (keep : Bool) (ls : List (List ℕ)) (s : State) → sound-state s ≡ false → answers-to keep ls s ≡ refusals (length ls) s
 unfolding answers-to refusal refusals
-unsound-answers [] s u = refl
-unsound-answers (l ∷ ls) s u = ap (λ (z : Entered). z ∷ answers-to ls (z .after)) (unsound-entered l s u) ∙ ap (λ (z : List Entered). refusal 1 no-span s ∷ z) (unsound-answers ls s u)
+unsound-answers keep [] s u = refl
+unsound-answers keep (l ∷ ls) s u = ap (λ (z : Entered). z ∷ answers-to keep ls (z .after)) (unsound-entered keep l s u) ∙ ap (λ (z : List Entered). refusal 1 no-span s ∷ z) (unsound-answers keep ls s u)
 
 one-refusal : (n : ℕ) (s : State) → with-answer (all-unsound (suc n) s) (refusal 1 no-span s) ≡ all-unsound (suc (suc n)) s
 unfolding with-answer all-unsound refusal
@@ -353,9 +356,9 @@ all-refusals zero s = refl
 all-refusals (suc n) s = let k : 1 + n ≡ suc n = omega arith in more-refusals 0 n s ∙ ap (λ (z : ℕ). all-unsound z s) k
 
 -- over unsound tables every line is refused with 1
-pub batch-unsound : (text : List ℕ) (s : State) → sound-state s ≡ false → batch text s ≡ all-unsound (length (text-lines text)) s
+pub batch-unsound : (keep : Bool) (text : List ℕ) (s : State) → sound-state s ≡ false → batch keep text s ≡ all-unsound (length (text-lines text)) s
 unfolding batch
-batch-unsound text s u = ap (with-answers (no-lines s)) (unsound-answers (text-lines text) s u) ∙ all-refusals (length (text-lines text)) s
+batch-unsound keep text s u = ap (with-answers (no-lines s)) (unsound-answers keep (text-lines text) s u) ∙ all-refusals (length (text-lines text)) s
 
 -- ---- a line without a number
 
@@ -364,7 +367,10 @@ unfolding at-head
 without-number s true = refl
 without-number s false = refl
 
+three-so : (l : List ℕ) (s : State) → T (sound-state s) → length l ≤ 120 → digit-count l ≡ 0 → enter l s ≡ refusal 3 no-span s
+unfolding enter enter-sound at-head head-of digit-count after-blanks
+three-so l s o h d = rw (is-true (sound-state s) o, le-ltb 120 (length l) h, d) (without-number s (eqb (run blank? l) (length l)))
+
 -- it is refused with 3
-pub unnumbered-line : (l : List ℕ) (s : State) → T (sound-state s) → length l ≤ 120 → digit-count l ≡ 0 → enter l s ≡ refusal 3 no-span s
-unfolding enter-sound at-head head-of digit-count after-blanks
-unnumbered-line l s o h d = sound-entered l s o ∙ rw (le-ltb 120 (length l) h, d) (without-number s (eqb (run blank? l) (length l)))
+pub unnumbered-line : (keep : Bool) (l : List ℕ) (s : State) → T (sound-state s) → length l ≤ 120 → digit-count l ≡ 0 → enter-with keep l s ≡ refusal 3 no-span s
+unnumbered-line keep l s o h d = with-switch keep l s 3 (λ e. omega arith) (three-so l s o h d)

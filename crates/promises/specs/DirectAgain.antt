@@ -2,6 +2,7 @@
 use Prim.Native.Nat.{ℕ, zero, suc, _-_, _≤_}
 use native.Mathlib.Omega.{arith}
 use mathlib.Core.Path.{_≡_, refl, subst, sym, ap, _∙_}
+use mathlib.Core.Bool.{Bool, false}
 use mathlib.Core.List.{List, [], _∷_, _++_}
 use lib.Dec.{T, eqb→eq}
 use lib.ListN.{length, take, drop, getD}
@@ -11,14 +12,15 @@ use Rattle.paper.specs.Names.{sound-names, add-names}
 use Rattle.paper.specs.Line.{line-bytes, direct-number, direct-number?}
 use Rattle.paper.specs.Listing.{body-text, direct-listing}
 use Rattle.paper.specs.WellFormed.{WellFormedDirect}
+use Rattle.paper.specs.Errors.{error-line?, line-text}
 use Rattle.paper.specs.Store.{overwritten}
 use Rattle.paper.specs.Calls.{State, names-of, lines-of, sound-state, tokens, translate, with-names, unless-short, Listed}
 use Rattle.paper.specs.Direct.{accept-direct, answered-direct, typed, line-in, show}
 use Rattle.laws.specs.Tests.{is-true}
 use Rattle.promises.specs.Terms.{accepted-with}
 use Rattle.promises.specs.RoundTrip.{translated-again, no-new-names, decoded, tokens-apart}
-use Rattle.promises.specs.WellFormedTest.{test-says}
 use Rattle.promises.specs.States.{state-says}
+use Rattle.promises.specs.ErrorLines.{formed-else, text-else}
 use Rattle.promises.specs.Listings.{ListAnswer, ShownLine, show-answer, writes, written-so}
 use Rattle.promises.specs.Beginning.{translated-direct}
 use Rattle.promises.specs.ReEntry.{tables-stay, no-lack, store-same}
@@ -56,14 +58,14 @@ accepted s o buffer ts l names line short fits =
     rw (names, line, no-lack s, le-ltb 255 (length l) short, le-ltb (length buffer) (length l) fits, none-named s o, none)
 
 -- over a sound state, the listing of a line without a number, typed, puts that line in the line buffer, and nothing else changes
-pub typed-again : (s : State) → T (sound-state s) → (l buffer : List ℕ) → WellFormedDirect (names-of s) l → length l ≤ 255 → length (direct-listing (names-of s) l) ≤ 120 → length l ≤ length buffer
-    → typed (direct-listing (names-of s) l) s buffer ≡ record { entered = accepted-with s; line = overwritten l buffer }
+pub typed-again : (keep : Bool) (s : State) → T (sound-state s) → (l buffer : List ℕ) → WellFormedDirect (names-of s) l → length l ≤ 255 → length (direct-listing (names-of s) l) ≤ 120 → length l ≤ length buffer
+    → typed keep (direct-listing (names-of s) l) s buffer ≡ record { entered = accepted-with s; line = overwritten l buffer }
 unfolding answered-direct
-typed-again s o l buffer w b h fits =
+typed-again keep s o l buffer w b h fits =
     let ns : List (List ℕ) = names-of s in
     let text : List ℕ = direct-listing ns l in
     let tr : translate 0 text ≡ tokens (w .tokens) = direct-again ns (state-says s o .table .names) l w in
-    rw (direct-typed text s buffer (translated-direct 0 text (w .tokens) tr), is-true (sound-state s) o, le-ltb 120 (length text) h, tr) (accepted s o buffer (w .tokens) l (no-new-names ns (w .tokens) (w .right)) (direct-bytes ns l w) b fits)
+    rw (direct-typed keep text s buffer (translated-direct 0 text (w .tokens) tr), is-true (sound-state s) o, le-ltb 120 (length text) h, tr) (accepted s o buffer (w .tokens) l (no-new-names ns (w .tokens) (w .right)) (direct-bytes ns l w) b fits)
 
 -- ---- a line buffer that is listed, and the text typed
 
@@ -82,17 +84,19 @@ line-same : (buffer : List ℕ) → (overwritten (line-in buffer) buffer ≡ buf
 unfolding overwritten line-in
 line-same buffer = (front-same (getD buffer 2 0) buffer, front-short (getD buffer 2 0) buffer)
 
--- all is left as it was
-pub shown-again : (s : State) → T (sound-state s) → (buffer output : List ℕ) → length (line-in buffer) ≤ 255 → (e : Listed) → e ≡ show buffer (s .names) (s .name-size) (s .name-count) (s .values) output → e .number ≡ 0 → e .written ≤ 120
-    → typed (take (e .written) (e .output)) s buffer ≡ record { entered = accepted-with s; line = buffer }
+-- all is left as it was, unless it is an error line
+pub shown-again : (keep : Bool) (s : State) → T (sound-state s) → (buffer output : List ℕ) → length (line-in buffer) ≤ 255 → error-line? (line-in buffer) ≡ false
+    → (e : Listed) → e ≡ show buffer (s .names) (s .name-size) (s .name-count) (s .values) output → e .number ≡ 0 → e .written ≤ 120 → typed keep (take (e .written) (e .output)) s buffer ≡ record { entered = accepted-with s; line = buffer }
 unfolding names-of
-shown-again s o buffer output b e is z short =
+shown-again keep s o buffer output b x e is z short =
     let l : List ℕ = line-in buffer in
     let text : List ℕ = direct-listing (names-of s) l in
-    let a = subst (ListAnswer (ShownLine buffer (names-of s)) text output) (sym is) (show-answer buffer (s .names) (s .name-size) (s .name-count) (s .values) output) in
+    let a : ListAnswer (ShownLine buffer (names-of s)) text output e =
+    subst (λ (t : List ℕ). ListAnswer (ShownLine buffer (names-of s)) t output e) (text-else (names-of s) l x)
+    (subst (ListAnswer (ShownLine buffer (names-of s)) (line-text (names-of s) l) output) (sym is) (show-answer buffer (s .names) (s .name-size) (s .name-count) (s .values) output)) in
     let w = writes text output e a z in
     let same = line-same buffer in
-    ap (λ (k : ℕ). typed (take k (e .output)) s buffer) (w .count)
-    ∙ ap (λ (t : List ℕ). typed t s buffer) (w .there .front)
-    ∙ typed-again s o l buffer (test-says (names-of s) l (written-so text output e a z)) b (subst (λ (k : ℕ). k ≤ 120) (w .count) short) (same .1)
+    ap (λ (k : ℕ). typed keep (take k (e .output)) s buffer) (w .count)
+    ∙ ap (λ (t : List ℕ). typed keep t s buffer) (w .there .front)
+    ∙ typed-again keep s o l buffer (formed-else (names-of s) l x (written-so text output e a z)) b (subst (λ (k : ℕ). k ≤ 120) (w .count) short) (same .1)
     ∙ ap (λ (t : List ℕ). record { entered = accepted-with s; line = t }) (same .0)

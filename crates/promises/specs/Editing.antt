@@ -34,9 +34,9 @@ use Rattle.promises.specs.Accepted.{translated-lawful, names-new, stored
 use Rattle.promises.specs.NameTable.{NamesGood, adds-good}
 use Rattle.promises.specs.Refusals.{four-or-five}
 use Rattle.promises.specs.Stored.{put-sound, out-sound, out-less, Holds, holds}
-use Rattle.promises.specs.States.{state-says, names-good, Room, no-more, room-for, made, stored-made, kept}
+use Rattle.promises.specs.States.{state-says, names-good, Room, no-more, room-for, made, stored-made, carried}
 use Rattle.promises.specs.Answers.{not-outright, Numbered, Answer, refused-outright, refused-there, puts-line, drops-line, answer}
-use Rattle.promises.specs.Terms.{number-in, number-end, past-number, items-in, names-with, line-with, SoundState, Kept, AtMostOne, no-line, one-line, PutIn, TakenOut, Edited, line-put, line-gone}
+use Rattle.promises.specs.Terms.{number-in, number-end, past-number, items-in, names-with, line-with, SoundState, Carried, AtMostOne, no-line, one-line, PutIn, TakenOut, Edited, line-put, line-gone}
 
 -- ---- a well-formed line is a whole line
 
@@ -72,7 +72,7 @@ two-tokens [] a c = absurd c
 two-tokens (x ∷ []) a c = absurd (end-not-first (class (x .from)) c (first-only (class (x .from)) (side colon (class (x .from)) (a .0))))
 two-tokens (x ∷ y ∷ xs) a c = omega arith
 
-number-is : (n c : ℕ) (b : List ℕ) → line-number (n % 256 ∷ n / 256 ∷ c ∷ b) ≡ n
+pub number-is : (n c : ℕ) (b : List ℕ) → line-number (n % 256 ∷ n / 256 ∷ c ∷ b) ≡ n
 unfolding line-number
 number-is n c b = omega arith
 
@@ -120,7 +120,7 @@ cut-lines : (n : ℕ) (ls : List (List ℕ)) → CutAt n (lines-not-below n ls) 
 unfolding lines-above
 cut-lines n ls = cut-at n (lines-not-below n ls)
 
-put-in : (l : List ℕ) (ls : List (List ℕ)) → PutIn (line-number l) l ls (put-line l ls)
+pub put-in : (l : List ℕ) (ls : List (List ℕ)) → PutIn (line-number l) l ls (put-line l ls)
 unfolding put-line
 put-in l ls =
     let n : ℕ = line-number l in
@@ -153,21 +153,21 @@ used-bytes s t = bytes-back (take (s .used) (s .store)) (and-left (every whole-l
 
 -- ---- an accepted text
 
-lines-are : (s : State) (ns ls : List (List ℕ)) → Holds ls (s .store) → lines-of (stored s ns ls) ≡ ls
+pub lines-are : (s : State) (ns ls : List (List ℕ)) → Holds ls (s .store) → lines-of (stored s ns ls) ≡ ls
 unfolding stored lines-of
 lines-are s ns ls h = h .lines
 
 -- the names that a translated text adds, with these lines in the store
-pub names-kept : (s : State) → T (sound-state s) → (p : ℕ) (rest : List ℕ) (ts : List Token) → translate p rest ≡ tokens ts → (ns : List (List ℕ)) → names-with s ts ≡ ns → lacks-room s ns ≡ false → (ls : List (List ℕ)) → Holds ls (s .store)
-    → Kept s (stored s ns ls) (names-added (names-of s) ts)
-names-kept s sound p rest ts tr ns en lacks ls h =
+pub names-carried : (s : State) → T (sound-state s) → (p : ℕ) (rest : List ℕ) (ts : List Token) → translate p rest ≡ tokens ts → (ns : List (List ℕ)) → names-with s ts ≡ ns → lacks-room s ns ≡ false → (ls : List (List ℕ)) → Holds ls (s .store)
+    → Carried s (stored s ns ls) (names-added (names-of s) ts)
+names-carried s sound p rest ts tr ns en lacks ls h =
     let o : SoundState s = state-says s sound in
     let new : List (List ℕ) = names-added (names-of s) ts in
     let is : ns ≡ names-of s ++ new = sym en ∙ adds-front (names-of s) ts in
     let good : NamesGood (names-of s ++ new) = subst NamesGood (en ∙ is) (adds-good ts (names-of s) (names-new p rest ts tr) (names-good (names-of s) (o .table .names))) in
     let r : Room s new = room-for s new o (subst (λ (z : List (List ℕ)). lacks-room s z ≡ false) is lacks) in
     let made-so : stored s ns ls ≡ made s new ls = ap (λ (z : List (List ℕ)). stored s z ls) is ∙ stored-made s new ls in
-    subst (λ (z : State). Kept s z new) (sym made-so) (kept s new ls o good r h)
+    subst (λ (z : State). Carried s z new) (sym made-so) (carried s new ls o good r h)
 
 -- how many they are
 pub count-added : (s : State) (ts : List Token) → length (names-with s ts) - length (names-of s) ≡ length (names-added (names-of s) ts)
@@ -185,7 +185,7 @@ put-done text s t ts tr ns en lacks fits =
     let p : ℕ = number-end text in
     let wf : WellFormed ns l = subst (λ (z : List (List ℕ)). WellFormed z (line-bytes z n ts)) en (stored-well-formed (names-of s) n p (past-number text) ts (t .lawful) tr) in
     let h : Holds ls (s .store) = holds ls (s .store) (put-sound l (lines-of s) (well-formed-whole ns l wf) (state-says s (t .sound) .lines)) fits in
-    let k : Kept s a new = names-kept s (t .sound) p (past-number text) ts tr ns en lacks ls h in
+    let k : Carried s a new = names-carried s (t .sound) p (past-number text) ts tr ns en lacks ls h in
     let names : names-of a ≡ ns = k .names ∙ sym (adds-front (names-of s) ts) ∙ en in
     let put : PutIn n l (lines-of s) ls = subst (λ (z : ℕ). PutIn z l (lines-of s) ls) (line-number-of ns n ts) (put-in l (lines-of s)) in
     let line : l ≡ line-with s n ts = ap (λ (z : List (List ℕ)). line-bytes z n ts) (sym en) in
@@ -205,14 +205,14 @@ gone-done text s t b st =
     let fits : length (joined ls) ≤ room (s .store) = le-trans (out-less n (lines-of s)) used in
     let h : Holds ls (s .store) = holds ls (s .store) (out-sound n (lines-of s) (o .lines)) fits in
     let made-so : a ≡ made s [] ls = ap (λ (z : List (List ℕ)). stored s z ls) is ∙ stored-made s [] ls in
-    let k : Kept s a [] = subst (λ (z : State). Kept s z []) (sym made-so) (kept s [] ls o (subst NamesGood is (names-good (names-of s) (o .table .names))) (no-more s o) h) in
+    let k : Carried s a [] = subst (λ (z : State). Carried s z []) (sym made-so) (carried s [] ls o (subst NamesGood is (names-good (names-of s) (o .table .names))) (no-more s o) h) in
     line-gone b refl k (subst (TakenOut n (lines-of s)) (sym (lines-are s (names-of s) ls h)) (taken-out n (lines-of s) st))
 
 -- an answer with number 0 is one of the two edits
 pub edited-so : (text : List ℕ) (s : State) (e : Entered) → Answer text s e → e .number ≡ 0 → Edited text s e
 unfolding refusal among
 edited-so text s e (refused-outright k h) z = absurd (not-outright k 0 h tt z)
-edited-so text s e (refused-there k q h w) z = absurd (four-or-five (items-in text) k q h (λ x. omega arith) (λ x. omega arith))
+edited-so text s e (refused-there t k q h w) z = absurd (four-or-five (items-in text) k q h (λ x. omega arith) (λ x. omega arith))
 edited-so text s e (puts-line t ts tr lacks fits) z = put-done text s t ts tr (names-with s ts) refl lacks fits
 edited-so text s e (drops-line t b st) z = gone-done text s t b st
 
@@ -227,7 +227,7 @@ after-any P text s h k = go (enter text s) (answer text s)
   where
     go : (e : Entered) → Answer text s e → P (e .after)
     go e (refused-outright n x) = h
-    go e (refused-there n q x w) = h
+    go e (refused-there t n q x w) = h
     go e (puts-line t ts tr lacks fits) = k e (edited-so text s e (puts-line t ts tr lacks fits) refl)
     go e (drops-line t b st) = k e (edited-so text s e (drops-line t b st) refl)
 

@@ -15,13 +15,13 @@ use Rattle.paper.specs.Names.{most-names, name-bytes}
 use Rattle.paper.specs.Items.{Item, Span, no-span, items}
 use Rattle.paper.specs.Line.{line-number, lawful-number?}
 use Rattle.paper.specs.WellFormed.{Lawful, well-formed?}
-use Rattle.paper.specs.Listing.{listing}
+use Rattle.paper.specs.Errors.{listable?, line-listing}
 use Rattle.paper.specs.Store.{whole-line?, rising-above, rising, sound-lines, room, lines-not-below, first-is?, first-line, stored?, line-at, put-line}
 use Rattle.paper.specs.Calls.{State, names-of, lines-of, sound-state, Entered, refusal, Translated, tokens, refused-at, translate, lacks-room, unless-short, accept, answered, delete, numbered, too-great, only-blanks, unnumbered, head-of, at-head, enter-sound, enter, Listed, not-listed, listed-if, list-sound, list}
 use Rattle.laws.specs.Tests.{and-left, and-right, as-T, or-else}
 use Rattle.laws.specs.Names.{names-added, adds-front, name-bytes-append}
 use Rattle.promises.specs.Terms.{after-blanks, digit-count, number-in, number-end, past-number, FirstHolding, none-holds, this-holds, later-holds, Exactly, SoundState, Unsound, TextTooLong, NoLineNumber, Unread, TooFar, Giving, names-with, NamesLackRoom, line-with, LineTooLong, old-size, StoreLacksRoom, NoSuchLine, OfLine, entry-refusals, deletion-refusals, text-refusals, listing-refusals}
-use Rattle.promises.specs.WellFormedTest.{test-says, says-test}
+use Rattle.promises.specs.ErrorLines.{listable-says, says-listable}
 use Rattle.promises.specs.Decoding.{line-number-of}
 use Rattle.promises.specs.Stored.{no-lower}
 use Rattle.promises.specs.States.{state-says, says-state, room-for}
@@ -214,7 +214,7 @@ module _ (text : List ℕ) (s : State) where
   begin-first cs f = passed number-of (sound-state s) _ _ (says-unsound s) (λ o. tested number-of _ _ _ (says-less 120 (length text)) (λ e. number-first cs (f o)))
 
   -- then those of a deletion or an entry
-  pub text-exactly : Exactly (text-refusals text s) ((enter text s) .number)
+  pub text-exactly : Exactly (text-refusals false text s) ((enter text s) .number)
   unfolding delete refusal
   text-exactly = go alone refl
     where
@@ -229,9 +229,9 @@ abbrev pub listed-number : Listed → ℕ
 listed-number e = e .number
 
 -- 10 and 11
-pub listed-first : {P Q : Type 0} (formed : Bool) (text output : List ℕ) → Says (not formed) P → Says (ltb (length output) (length text)) Q → FirstHolding ((10, P) ∷ (11, Q) ∷ []) ((listed-if formed text output) .number)
+pub listed-first : {P Q : Type 0} (listable : Bool) (text output : List ℕ) → Says (not listable) P → Says (ltb (length output) (length text)) Q → FirstHolding ((10, P) ∷ (11, Q) ∷ []) ((listed-if listable text output) .number)
 unfolding listed-if not-listed
-listed-first formed text output p q = tested listed-number _ _ _ p (λ e. tested listed-number _ _ _ q (λ e. none-holds))
+listed-first listable text output p q = tested listed-number _ _ _ p (λ e. tested listed-number _ _ _ q (λ e. none-holds))
 
 -- 1, 9, 10, 11
 pub listing-exactly : (n : ℕ) (s : State) (output : List ℕ) → Exactly (listing-refusals n s output) ((list n s output) .number)
@@ -242,4 +242,4 @@ listing-exactly n s output =
     (passed listed-number (sound-state s) _ _ (says-unsound s)
     (λ o. tested listed-number _ _ _ (says-missing s o n)
     (λ e. let st : T (stored? n (lines-of s)) = as-T (stored? n (lines-of s)) (not-false _ e) in
-    listed-first _ _ output (says-line s o n st (says-not (well-formed? (names-of s) l) (test-says (names-of s) l) (says-test (names-of s) l))) (says-line s o n st (says-less (length output) (length (listing (names-of s) l)))))))
+    listed-first _ _ output (says-line s o n st (says-not (listable? lawful-number? (names-of s) l) (listable-says (names-of s) l) (says-listable (names-of s) l))) (says-line s o n st (says-less (length output) (length (line-listing (names-of s) l)))))))

@@ -12,18 +12,18 @@ use Rattle.paper.specs.Bytes.{pick, blank?, digit?, run, every}
 use Rattle.paper.specs.Names.{names-in, sound-table}
 use Rattle.paper.specs.Items.{no-span, items}
 use Rattle.paper.specs.Line.{direct-number, direct-number?}
-use Rattle.paper.specs.WellFormed.{formed?}
-use Rattle.paper.specs.Listing.{direct-listing}
+use Rattle.paper.specs.Errors.{listable?, line-text}
 use Rattle.paper.specs.Calls.{State, sound-state, refusal, not-listed}
-use Rattle.paper.specs.Direct.{Typed, line-kept, accept-direct, answered-direct, typed, line-in, show-sound, show}
+use Rattle.paper.specs.Direct.{Typed, same-buffer, accept-direct, answered-direct, typed, line-in, show-sound, show}
 use Rattle.laws.specs.Tests.{and-left, and-right, and-both, is-true, as-T}
 use Rattle.promises.specs.Terms.{after-blanks, digit-count, number-in, direct?, FirstHolding, Exactly, NoLineNumber, line-with, BufferTooShort, direct-refusals, text-refusals, typed-refusals, show-refusals}
 use Rattle.promises.specs.Lists.{run-whole}
-use Rattle.promises.specs.WellFormedTest.{test-says, says-test}
+use Rattle.promises.specs.ErrorLines.{listable-says, says-listable}
 use Rattle.promises.specs.States.{table-says, says-table}
 use Rattle.promises.specs.DirectLines.{other-typed, direct-typed}
 use Rattle.promises.specs.Tested.{exactly, says-less, says-not, tested, passed}
-use Rattle.promises.specs.Exactly.{says-unsound, short-first, answered-first, text-exactly, listed-number, listed-first}
+use Rattle.promises.specs.Exactly.{says-unsound, short-first, answered-first, listed-number, listed-first}
+use Rattle.promises.specs.ExactlyKept.{text-exactly-with}
 
 -- ---- a text that is typed
 
@@ -31,25 +31,25 @@ use Rattle.promises.specs.Exactly.{says-unsound, short-first, answered-f
 abbrev typed-number : Typed → ℕ
 typed-number e = e .entered .number
 
-module _ (text : List ℕ) (s : State) (buffer : List ℕ) where
+module _ (keep : Bool) (text : List ℕ) (s : State) (buffer : List ℕ) where
   -- of a line without a number
-  direct-first : T (direct? text) → FirstHolding (direct-refusals text s buffer) ((typed text s buffer) .entered .number)
-  unfolding answered-direct accept-direct line-kept refusal
+  direct-first : T (direct? text) → FirstHolding (direct-refusals text s buffer) ((typed keep text s buffer) .entered .number)
+  unfolding answered-direct accept-direct same-buffer refusal
   direct-first d =
-      rw (direct-typed text s buffer d)
+      rw (direct-typed keep text s buffer d)
       (passed typed-number (sound-state s) _ _ (says-unsound s)
       (λ o. tested typed-number _ _ _ (says-less 120 (length text))
       (λ e. answered-first s direct-number (BufferTooShort buffer s) 0 text (λ r. typed-number (answered-direct s buffer r)) (λ k q. refl)
-      (λ ts l. short-first s direct-number (BufferTooShort buffer s) typed-number (λ k. line-kept buffer (refusal k no-span s)) _ _ o (items 0 text) ts l (says-less (length buffer) (length (line-with s direct-number ts))) refl))))
+      (λ ts l. short-first s direct-number (BufferTooShort buffer s) typed-number (λ k. same-buffer buffer (refusal k no-span s)) _ _ o (items 0 text) ts l (says-less (length buffer) (length (line-with s direct-number ts))) refl))))
 
   -- of every text
-  pub typed-exactly : Exactly (typed-refusals text s buffer) ((typed text s buffer) .entered .number)
-  unfolding line-kept
+  pub typed-exactly : Exactly (typed-refusals keep text s buffer) ((typed keep text s buffer) .entered .number)
+  unfolding same-buffer
   typed-exactly = go (direct? text) refl
     where
-      go : (b : Bool) → direct? text ≡ b → Exactly (pick b (direct-refusals text s buffer) (text-refusals text s)) ((typed text s buffer) .entered .number)
+      go : (b : Bool) → direct? text ≡ b → Exactly (pick b (direct-refusals text s buffer) (text-refusals keep text s)) ((typed keep text s buffer) .entered .number)
       go true e = exactly _ _ tt (direct-first (as-T _ e))
-      go false e = rw (other-typed text s buffer e) (text-exactly text s)
+      go false e = rw (other-typed keep text s buffer e) (text-exactly-with text s keep)
 
 -- a blank text has no digit
 blank-none : (text : List ℕ) → T (every blank? text) → digit-count text ≡ 0
@@ -85,4 +85,4 @@ show-exactly buffer names size count values output =
     exactly _ _ tt
     (passed listed-number (sound && room) _ _
     (says-not (sound && room) (λ t. (table-says names size count (and-left sound room t), leb→le _ _ (and-right sound room t))) (λ o. and-both sound room (says-table names size count (o .0)) (le→leb _ _ (o .1))))
-    (λ t. listed-first (formed? direct-number? ns l) (direct-listing ns l) output (says-not (formed? direct-number? ns l) (test-says ns l) (says-test ns l)) (says-less (length output) (length (direct-listing ns l)))))
+    (λ t. listed-first (listable? direct-number? ns l) (line-text ns l) output (says-not (listable? direct-number? ns l) (listable-says ns l) (says-listable ns l)) (says-less (length output) (length (line-text ns l)))))

@@ -30,14 +30,16 @@ pub mod NameTable
 pub mod Ending
 pub mod Refusals
 pub mod Answers
-pub mod Listings
 pub mod Accepted
 pub mod Beginning
 pub mod Entering
 pub mod States
 pub mod Editing
+pub mod ErrorLines
+pub mod Listings
 pub mod Growing
 pub mod ReEntry
+pub mod KeptLines
 pub mod DirectLines
 pub mod DirectAgain
 pub mod Batches
@@ -46,6 +48,7 @@ pub mod WellFormedLines
 pub mod Tested
 pub mod OnePlace
 pub mod Exactly
+pub mod ExactlyKept
 pub mod ExactlyTyped
 pub mod Main
 pub mod Requests

@@ -8,15 +8,15 @@ use lib.ListN.{length, take}
 use borrow.Author.Tests.{ltb-false}
 use Rattle.paper.specs.Bytes.{pick, among}
 use Rattle.paper.specs.Names.{names-in, sound-table}
-use Rattle.paper.specs.Line.{direct-number?}
-use Rattle.paper.specs.WellFormed.{formed?, well-formed?}
-use Rattle.paper.specs.Listing.{listing, direct-listing}
+use Rattle.paper.specs.Line.{lawful-number?, direct-number?}
+use Rattle.paper.specs.Errors.{listable?, line-text, line-listing}
 use Rattle.paper.specs.Store.{stored?, line-at, overwritten}
 use Rattle.paper.specs.Calls.{State, names-of, lines-of, sound-state, Listed, not-listed, listed-if, list-sound, list}
 use Rattle.paper.specs.Direct.{line-in, show-sound, show}
 use Rattle.laws.specs.Tests.{as-T}
-use Rattle.promises.specs.Terms.{Written}
+use Rattle.promises.specs.Terms.{Listable, Written}
 use Rattle.promises.specs.Stored.{at-front}
+use Rattle.promises.specs.ErrorLines.{listable-says}
 
 -- ---- every answer
 
@@ -26,9 +26,9 @@ pub data ListAnswer (So : Type 0) (text output : List ℕ) : Listed → Type 0 w
   written-out : So → length text ≤ length output → ListAnswer So text output (record { number = 0; written = length text; output = overwritten text output })
 
 -- 10, 11, or the text
-formed-answer : {So : Type 0} (formed : Bool) (text output : List ℕ) → (T formed → So) → ListAnswer So text output (listed-if formed text output)
+listable-answer : {So : Type 0} (listable : Bool) (text output : List ℕ) → (T listable → So) → ListAnswer So text output (listed-if listable text output)
 unfolding listed-if among
-formed-answer {So = So} formed text output so = go formed so (ltb (length output) (length text)) refl
+listable-answer {So = So} listable text output so = go listable so (ltb (length output) (length text)) refl
   where
     go : (a : Bool) → (T a → So) → (b : Bool) → ltb (length output) (length text) ≡ b
         → ListAnswer So text output (pick (not a) (not-listed 10 output) (pick b (not-listed 11 output) (record { number = 0; written = length text; output = overwritten text output })))
@@ -38,36 +38,36 @@ formed-answer {So = So} formed text output so = go formed so (ltb (length output
 
 -- what is so of a line of the store that is listed
 abbrev pub ListedLine : ℕ → State → Type 0
-ListedLine n s = T (sound-state s) × T (stored? n (lines-of s)) × T (well-formed? (names-of s) (line-at n (lines-of s)))
+ListedLine n s = T (sound-state s) × T (stored? n (lines-of s)) × Listable lawful-number? (names-of s) (line-at n (lines-of s))
 
 module _ (n : ℕ) (s : State) (output : List ℕ) where
-  abbrev line-text : List ℕ
-  line-text = listing (names-of s) (line-at n (lines-of s))
+  abbrev text : List ℕ
+  text = line-listing (names-of s) (line-at n (lines-of s))
 
   list-go : (a : Bool) → sound-state s ≡ a → (b : Bool) → stored? n (lines-of s) ≡ b
-      → ListAnswer (ListedLine n s) line-text output (pick a (pick (not b) (not-listed 9 output) (listed-if (well-formed? (names-of s) (line-at n (lines-of s))) line-text output)) (not-listed 1 output))
+      → ListAnswer (ListedLine n s) text output (pick a (pick (not b) (not-listed 9 output) (listed-if (listable? lawful-number? (names-of s) (line-at n (lines-of s))) text output)) (not-listed 1 output))
   unfolding among
   list-go false x b y = not-written 1 tt
   list-go true x false y = not-written 9 tt
-  list-go true x true y = formed-answer _ line-text output (λ w. (as-T _ x, as-T _ y, w))
+  list-go true x true y = listable-answer _ text output (λ w. (as-T _ x, as-T _ y, listable-says (names-of s) (line-at n (lines-of s)) w))
 
   -- every answer of `list` is one of these
-  pub list-answer : ListAnswer (ListedLine n s) (listing (names-of s) (line-at n (lines-of s))) output (list n s output)
+  pub list-answer : ListAnswer (ListedLine n s) (line-listing (names-of s) (line-at n (lines-of s))) output (list n s output)
   unfolding list list-sound
   list-answer = list-go (sound-state s) refl (stored? n (lines-of s)) refl
 
 -- what is so of a line buffer that is listed over these names
 abbrev pub ShownLine : List ℕ → List (List ℕ) → Type 0
-ShownLine buffer ns = T (formed? direct-number? ns (line-in buffer))
+ShownLine buffer ns = Listable direct-number? ns (line-in buffer)
 
-show-go : (buffer : List ℕ) (ns : List (List ℕ)) (output : List ℕ) (a : Bool) → ListAnswer (ShownLine buffer ns) (direct-listing ns (line-in buffer)) output (pick a (show-sound buffer ns output) (not-listed 1 output))
+show-go : (buffer : List ℕ) (ns : List (List ℕ)) (output : List ℕ) (a : Bool) → ListAnswer (ShownLine buffer ns) (line-text ns (line-in buffer)) output (pick a (show-sound buffer ns output) (not-listed 1 output))
 unfolding show-sound among
-show-go buffer ns output true = formed-answer _ (direct-listing ns (line-in buffer)) output (λ w. w)
+show-go buffer ns output true = listable-answer _ (line-text ns (line-in buffer)) output (listable-says ns (line-in buffer))
 show-go buffer ns output false = not-written 1 tt
 
 -- every answer of `show` is one of these
 pub show-answer : (buffer names : List ℕ) (size count : ℕ) (values output : List ℕ)
-    → ListAnswer (ShownLine buffer (names-in (take size names))) (direct-listing (names-in (take size names)) (line-in buffer)) output (show buffer names size count values output)
+    → ListAnswer (ShownLine buffer (names-in (take size names))) (line-text (names-in (take size names)) (line-in buffer)) output (show buffer names size count values output)
 unfolding show
 show-answer buffer names size count values output = show-go buffer (names-in (take size names)) output (sound-table names size count && leb (8 * count) (length values))
 

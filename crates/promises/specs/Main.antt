@@ -1,8 +1,9 @@
 -- The promises, about the definitions of `paper`. The terms in which they are stated are in Terms.antt.
--- Of the call that is lent a line buffer (document 02, §1) those about `enter` hold for every text but a line without a number: `Requests.typed-as-entered`.
+-- Of the call that is lent a line buffer and a switch (document 02, §1 and §9) those about `enter` hold for every text but a line without a number and one that is
+-- kept: `Requests.typed-as-entered`, `Requests.switched`.
 use Prim.Native.Nat.{ℕ, zero, _+_, _≤_, _<_}
 use mathlib.Core.Path.{_≡_}
-use mathlib.Core.Bool.{Bool}
+use mathlib.Core.Bool.{Bool, false}
 use mathlib.Core.Logic.{_↔_, _⊎_}
 use mathlib.Core.List.{List, List·Memᴰ}
 use lib.Dec.{T}
@@ -14,6 +15,7 @@ use Rattle.paper.specs.Items.{Item, Span, no-span, item, item-at}
 use Rattle.paper.specs.Line.{line-number}
 use Rattle.paper.specs.WellFormed.{WellFormed, well-formed?}
 use Rattle.paper.specs.Listing.{listing}
+use Rattle.paper.specs.Errors.{error-line?, line-listing}
 use Rattle.paper.specs.Store.{room, line-at, put-line}
 use Rattle.paper.specs.Calls.{State, names-of, lines-of, sound-state, enter, list}
 use Rattle.promises.specs.Terms.{number-end, past-number, items-in, NoReading, OutOfRange, Readable, Exactly, Unread, TooFar, text-refusals, listing-refusals, Edited, Written, HoldsWellFormed, CutTo, old-size, with-lines, accepted-with}
@@ -44,7 +46,7 @@ pub no-place : (text : List ℕ) (s : State) → ((enter text s) .number ≡ 4 �
 no-place text s h k = Answers′.no-place text s h k
 
 -- 2. A refused call leaves every buffer and count as given, and answers counts 0. An accepted listing writes the text of the line and leaves
--- every other byte as it was.
+-- every other byte as it was. (A well-formed line's text is its `listing`: `Requests.well-formed-text`.)
 pub refused-text : (text : List ℕ) (s : State) → ((enter text s) .number ≡ 0 → ⊥) → ((enter text s) .after ≡ s) × ((enter text s) .added ≡ 0)
 refused-text text s h = Answers′.unchanged text s h
 
@@ -53,7 +55,7 @@ pub refused-listing : (n : ℕ) (s : State) (output : List ℕ) → ((list n s o
 refused-listing n s output h = Listings′.unwritten _ output (list n s output) (Listings′.list-answer n s output) h
 
 -- an accepted listing
-pub accepted-listing : (n : ℕ) (s : State) (output : List ℕ) → (list n s output) .number ≡ 0 → Written (listing (names-of s) (line-at n (lines-of s))) output (list n s output)
+pub accepted-listing : (n : ℕ) (s : State) (output : List ℕ) → (list n s output) .number ≡ 0 → Written (line-listing (names-of s) (line-at n (lines-of s))) output (list n s output)
 accepted-listing n s output h = Listings′.writes _ output (list n s output) (Listings′.list-answer n s output) h
 
 -- 3. The store. An accepted text has put one line in, in the place of the one with its number if there was one, or taken one out. Every
@@ -102,15 +104,15 @@ well-formed-test ns l = (WellFormedTest′.test-says ns l, WellFormedTest′.say
 
 -- 6. Re-entry. Over sound tables with room for it, and a record that agrees with the store, a well-formed line of at most 255 bytes whose listing
 -- has at most 120 is put in, byte for byte, by entering that listing; no name is added, and nothing else changes. So a line that is listed from the
--- store, entered again, leaves the state as it is. (Its length byte counts it, so where the entries of the store are bytes it has no more than 255.)
+-- store, entered again, leaves the state as it is, unless it is an error line (document 02, §9). (Its length byte counts it, so where the entries of the store are bytes it has no more than 255.)
 pub re-entry : (s : State) → T (sound-state s) → (l : List ℕ) → length l ≤ 255 → WellFormed (names-of s) l → length (listing (names-of s) l) ≤ 120 → s .used + length l ≤ room (s .store) + old-size (line-number l) s
     → enter (listing (names-of s) l) s ≡ accepted-with (with-lines s (put-line l (lines-of s)))
 re-entry s o l b w h r = ReEntry′.entered-again s o l w h b r
 
 -- listed, and entered again
-pub listed-again : (n : ℕ) (s : State) (output : List ℕ) → length (line-at n (lines-of s)) ≤ 255 → (list n s output) .number ≡ 0 → (list n s output) .written ≤ 120
+pub listed-again : (n : ℕ) (s : State) (output : List ℕ) → length (line-at n (lines-of s)) ≤ 255 → error-line? (line-at n (lines-of s)) ≡ false → (list n s output) .number ≡ 0 → (list n s output) .written ≤ 120
     → enter (take ((list n s output) .written) ((list n s output) .output)) s ≡ accepted-with s
-listed-again n s output b h k = ReEntry′.listed-again n s output h k b
+listed-again n s output b x h k = ReEntry′.listed-again n s output x h k b
 
 -- 7. No two different well-formed lines over one sound name table have the same listing, of any length.
 pub one-listing : (ns : List (List ℕ)) → T (sound-names ns) → (l m : List ℕ) → WellFormed ns l → WellFormed ns m → listing ns l ≡ listing ns m → l ≡ m
@@ -118,7 +120,7 @@ one-listing ns s l m v w e = RoundTrip′.one-listing ns s l m v w e
 
 -- 8. Exactly when. Terms.antt lists the numbers of each call with their conditions, in the order and the words of document 01: of a text that is
 -- entered, of one that deletes, of a listing. A call answers k exactly when k's condition holds and none before it does, and 0 exactly when none holds.
-pub text-exactly : (text : List ℕ) (s : State) → Exactly (text-refusals text s) ((enter text s) .number)
+pub text-exactly : (text : List ℕ) (s : State) → Exactly (text-refusals false text s) ((enter text s) .number)
 text-exactly text s = Exactly′.text-exactly text s
 
 -- the same of a listing

@@ -13,6 +13,7 @@ use Rattle.paper.specs.Bytes.{pick, joined}
 use Rattle.paper.specs.Tokens.{Token}
 use Rattle.paper.specs.Names.{name-bytes, add-names, value-entries}
 use Rattle.paper.specs.Line.{line-bytes, line-number}
+use Rattle.paper.specs.Errors.{error-line?}
 use Rattle.paper.specs.Listing.{listing}
 use Rattle.paper.specs.WellFormed.{WellFormed}
 use Rattle.paper.specs.Store.{room, lines-below, lines-not-below, lines-above, first-is?, first-line, stored?, line-at, put-line, overwritten}
@@ -21,9 +22,9 @@ use Rattle.laws.specs.Tests.{is-true}
 use Rattle.laws.specs.Lines.{joined-append, both-sides, old-line, three-parts, room-lent}
 use Rattle.promises.specs.Terms.{SoundState, old-size, with-lines, accepted-with}
 use Rattle.promises.specs.RoundTrip.{no-new-names}
-use Rattle.promises.specs.WellFormedTest.{test-says}
 use Rattle.promises.specs.States.{state-says}
-use Rattle.promises.specs.Listings.{ListedLine, list-answer, writes, written-so}
+use Rattle.promises.specs.Listings.{ListAnswer, ListedLine, list-answer, writes, written-so}
+use Rattle.promises.specs.ErrorLines.{formed-else, listing-else}
 use Rattle.promises.specs.Entering.{enter-listing}
 use Rattle.promises.specs.Editing.{used-bytes}
 
@@ -112,17 +113,18 @@ size-there : (n : ℕ) (s : State) → T (stored? n (lines-of s)) → old-size n
 unfolding old-size
 size-there n s t = rw (is-true (stored? n (lines-of s)) t)
 
--- a line of the store that is listed, entered again, leaves the state as it is
-pub listed-again : (n : ℕ) (s : State) (output : List ℕ) → (list n s output) .number ≡ 0 → (list n s output) .written ≤ 120 → length (line-at n (lines-of s)) ≤ 255
+-- a line of the store that is listed and no error line, entered again, leaves the state as it is
+pub listed-again : (n : ℕ) (s : State) (output : List ℕ) → error-line? (line-at n (lines-of s)) ≡ false → (list n s output) .number ≡ 0 → (list n s output) .written ≤ 120 → length (line-at n (lines-of s)) ≤ 255
     → enter (take ((list n s output) .written) ((list n s output) .output)) s ≡ accepted-with s
-listed-again n s output z short b =
+listed-again n s output x z short b =
     let l : List ℕ = line-at n (lines-of s) in
     let text : List ℕ = listing (names-of s) l in
-    let so : ListedLine n s = written-so text output (list n s output) (list-answer n s output) z in
-    let w = writes text output (list n s output) (list-answer n s output) z in
+    let a : ListAnswer (ListedLine n s) text output (list n s output) = subst (λ (t : List ℕ). ListAnswer (ListedLine n s) t output (list n s output)) (listing-else (names-of s) l x) (list-answer n s output) in
+    let so : ListedLine n s = written-so text output (list n s output) a z in
+    let w = writes text output (list n s output) a z in
     let p = put-same n (lines-of s) (so .1) in
     let size : old-size (line-number l) s ≡ length l = ap (λ (z : ℕ). old-size z s) (p .0) ∙ size-there n s (so .1) in
     ap (λ (z : ℕ). enter (take z ((list n s output) .output)) s) (w .count)
     ∙ ap (λ (z : List ℕ). enter z s) (w .there .front)
-    ∙ entered-again s (so .0) l (test-says (names-of s) l (so .2)) (subst (λ (z : ℕ). z ≤ 120) (w .count) short) b (omega (arith, state-says s (so .0) .used-fits))
+    ∙ entered-again s (so .0) l (formed-else (names-of s) l x (so .2)) (subst (λ (z : ℕ). z ≤ 120) (w .count) short) b (omega (arith, state-says s (so .0) .used-fits))
     ∙ ap accepted-with (ap (with-lines s) (p .1) ∙ store-same s (so .0))

@@ -1,7 +1,7 @@
 -- The promises that document 02 adds, a section for each request in the order in which they landed.
 use Prim.Native.Nat.{ℕ, _≤_, _<_, _+_}
 use mathlib.Core.Path.{_≡_, refl, ap}
-use mathlib.Core.Bool.{Bool, false}
+use mathlib.Core.Bool.{Bool, true, false}
 use mathlib.Core.Logic.{_↔_, _⊎_}
 use mathlib.Core.List.{List, [], _∷_, _++_}
 use lib.Dec.{T}
@@ -11,13 +11,14 @@ use Rattle.paper.specs.Tokens.{string, unreadable}
 use Rattle.paper.specs.Names.{names-in, sound-names}
 use Rattle.paper.specs.Items.{Item, no-span, item, string-byte?, item-at, size-at, items}
 use Rattle.paper.specs.Line.{direct-number?}
-use Rattle.paper.specs.WellFormed.{WellFormedDirect, formed?}
-use Rattle.paper.specs.Listing.{direct-listing}
+use Rattle.paper.specs.WellFormed.{Formed, WellFormedDirect, formed?}
+use Rattle.paper.specs.Listing.{listing, direct-listing}
+use Rattle.paper.specs.Errors.{flipped, error-line?, listable?, line-text, line-listing}
 use Rattle.paper.specs.Store.{overwritten}
-use Rattle.paper.specs.Calls.{State, names-of, sound-state, enter, Listed, list, refusal}
-use Rattle.paper.specs.Direct.{line-kept, typed, line-in, show}
+use Rattle.paper.specs.Calls.{State, names-of, sound-state, enter, enter-with, Listed, list, refusal}
+use Rattle.paper.specs.Direct.{same-buffer, typed, line-in, show}
 use Rattle.laws.specs.Runs.{all-every}
-use Rattle.promises.specs.Terms.{number-in, direct?, NoReading, OutOfRange, EndsThere, Readable, Exactly, NoLineNumber, Unread, TooFar, typed-refusals, show-refusals, Unchanged, LineMade, over-store, typed-over-store, HoldsWellFormed, Written, Agrees, Reached, accepted-with, digit-count, Parting, EachExactly, Summed, one-then, all-unsound}
+use Rattle.promises.specs.Terms.{number-in, direct?, NoReading, OutOfRange, EndsThere, Readable, Exactly, NoLineNumber, Unread, TooFar, text-refusals, typed-refusals, show-refusals, Listable, HoldsListable, Switched, RefusedLeaves, LineMade, over-store, typed-over-store, Written, Agrees, Reached, accepted-with, digit-count, Parting, EachExactly, Summed, one-then, all-unsound}
 use Rattle.paper.specs.Batch.{text-lines, answers-to, batch}
 use Rattle.laws.specs.Ends as Ends′
 use Rattle.promises.specs.Strings as Strings′
@@ -28,7 +29,10 @@ use Rattle.promises.specs.DirectAgain as DirectAgain′
 use Rattle.promises.specs.Listings as Listings′
 use Rattle.promises.specs.WellFormedTest as WellFormedTest′
 use Rattle.promises.specs.WellFormedLines as WellFormedLines′
+use Rattle.promises.specs.ErrorLines as ErrorLines′
+use Rattle.promises.specs.KeptLines as KeptLines′
 use Rattle.promises.specs.OnePlace as OnePlace′
+use Rattle.promises.specs.ExactlyKept as ExactlyKept′
 use Rattle.promises.specs.ExactlyTyped as ExactlyTyped′
 use Rattle.promises.specs.Batches as Batches′
 
@@ -78,8 +82,8 @@ open-there t h = ap (λ (i : Item). i .size) (open-string false 0 t h)
 -- ---- §6 Line count and last number kept
 
 -- A record that agrees with the store stays so, whatever is entered.
-pub stays-agreeing : (text : List ℕ) (s : State) → Agrees s → Agrees ((enter text s) .after)
-stays-agreeing text s a = Agreeing′.stays-agreeing text s a
+pub stays-agreeing : (keep : Bool) (text : List ℕ) (s : State) → Agrees s → Agrees ((enter-with keep text s) .after)
+stays-agreeing keep text s a = Agreeing′.stays-agreeing keep text s a
 
 -- In every record reached from an empty one by calls, the count of lines and the greatest number are what a walk of the store finds.
 pub record-agrees : (s : State) → Reached s → Agrees s
@@ -96,59 +100,61 @@ disagreeing-listing n s output h = Agreeing′.listing-refused n s output h
 
 -- ---- §1 Lines without a number
 
--- The call is now `typed`, which is lent a line buffer as well. Every text but a line without a number (`Terms.direct?`) is entered, and the line buffer stays
--- as it was: so each promise of `Main` about `enter` holds of the call. What follows is said of every text that is typed, or of lines without a number.
-pub typed-as-entered : (text : List ℕ) (s : State) (buffer : List ℕ) → direct? text ≡ false → ((typed text s buffer) .entered ≡ enter text s) × ((typed text s buffer) .line ≡ buffer)
-unfolding line-kept
-typed-as-entered text s buffer d = let e = DirectLines′.other-typed text s buffer d in rw e (refl, refl)
+-- The call is now `typed`, which is lent a line buffer as well, and the switch of §9. Every text but a line without a number (`Terms.direct?`) is entered, and the
+-- line buffer stays as it was: so each promise about `enter`, and of §9 about `enter-with`, holds of the call. What follows is said of every text that is typed, or of
+-- lines without a number.
+pub typed-as-entered : (keep : Bool) (text : List ℕ) (s : State) (buffer : List ℕ) → direct? text ≡ false → ((typed keep text s buffer) .entered ≡ enter-with keep text s) × ((typed keep text s buffer) .line ≡ buffer)
+unfolding same-buffer
+typed-as-entered keep text s buffer d = let e = DirectLines′.other-typed keep text s buffer d in rw e (refl, refl)
 
 -- Places are those of `Main`, 1. In a line without a number they are counted from the text's start, among the items of the whole text.
-pub direct-place-of-4 : (text : List ℕ) (s : State) (buffer : List ℕ) → T (direct? text) → (typed text s buffer) .entered .number ≡ 4 → NoReading (items 0 text) ((typed text s buffer) .entered .place)
-direct-place-of-4 text s buffer d h = DirectLines′.direct-four text s buffer _ (DirectLines′.direct-answer text s buffer d) h
+pub direct-place-of-4 : (keep : Bool) (text : List ℕ) (s : State) (buffer : List ℕ) → T (direct? text) → (typed keep text s buffer) .entered .number ≡ 4 → NoReading (items 0 text) ((typed keep text s buffer) .entered .place)
+direct-place-of-4 keep text s buffer d h = DirectLines′.direct-four text s buffer _ (DirectLines′.direct-answer keep text s buffer d) h
 
 -- refusal 5
-pub direct-place-of-5 : (text : List ℕ) (s : State) (buffer : List ℕ) → T (direct? text) → (typed text s buffer) .entered .number ≡ 5 → OutOfRange (items 0 text) ((typed text s buffer) .entered .place)
-direct-place-of-5 text s buffer d h = DirectLines′.direct-five text s buffer _ (DirectLines′.direct-answer text s buffer d) h
+pub direct-place-of-5 : (keep : Bool) (text : List ℕ) (s : State) (buffer : List ℕ) → T (direct? text) → (typed keep text s buffer) .entered .number ≡ 5 → OutOfRange (items 0 text) ((typed keep text s buffer) .entered .place)
+direct-place-of-5 keep text s buffer d h = DirectLines′.direct-five text s buffer _ (DirectLines′.direct-answer keep text s buffer d) h
 
 -- The end is past the item that stands there.
-pub typed-place-ends : (text : List ℕ) (s : State) (buffer : List ℕ) → ((typed text s buffer) .entered .number ≡ 4) ⊎ ((typed text s buffer) .entered .number ≡ 5) → EndsThere text ((typed text s buffer) .entered .place)
-typed-place-ends text s buffer h = DirectLines′.typed-ends text s buffer h
+pub typed-place-ends : (keep : Bool) (text : List ℕ) (s : State) (buffer : List ℕ) → ((typed keep text s buffer) .entered .number ≡ 4) ⊎ ((typed keep text s buffer) .entered .number ≡ 5) → EndsThere text ((typed keep text s buffer) .entered .place)
+typed-place-ends keep text s buffer h = DirectLines′.typed-ends keep text s buffer h
 
 -- Every other answer has no place.
-pub typed-no-place : (text : List ℕ) (s : State) (buffer : List ℕ) → ((typed text s buffer) .entered .number ≡ 4 → ⊥) → ((typed text s buffer) .entered .number ≡ 5 → ⊥) → (typed text s buffer) .entered .place ≡ no-span
-typed-no-place text s buffer h k = DirectLines′.typed-no-place text s buffer h k
+pub typed-no-place : (keep : Bool) (text : List ℕ) (s : State) (buffer : List ℕ) → ((typed keep text s buffer) .entered .number ≡ 4 → ⊥) → ((typed keep text s buffer) .entered .number ≡ 5 → ⊥) → (typed keep text s buffer) .entered .place ≡ no-span
+typed-no-place keep text s buffer h k = DirectLines′.typed-no-place keep text s buffer h k
 
--- A refused text leaves every buffer and count as given, the line buffer too, and answers no name added.
-pub refused-typed : (text : List ℕ) (s : State) (buffer : List ℕ) → ((typed text s buffer) .entered .number ≡ 0 → ⊥) → Unchanged s buffer (typed text s buffer)
-refused-typed text s buffer h = DirectLines′.typed-unchanged text s buffer h
+-- A refused text leaves the line buffer as it was, and every other buffer and count too, and answers no name added, unless it is kept (§9).
+pub refused-typed : (keep : Bool) (text : List ℕ) (s : State) (buffer : List ℕ) → ((typed keep text s buffer) .entered .number ≡ 0 → ⊥)
+    → RefusedLeaves keep text s ((typed keep text s buffer) .entered) × ((typed keep text s buffer) .line ≡ buffer)
+refused-typed keep text s buffer h = DirectLines′.typed-refused keep text s buffer h
 
 -- An accepted line without a number stands at the front of the line buffer, well-formed with number 32768, and nothing past it is written; its new names are
 -- added as for a stored line; store, bytes used and the record's pair are untouched.
-pub accepted-direct : (text : List ℕ) (s : State) (buffer : List ℕ) → T (direct? text) → (typed text s buffer) .entered .number ≡ 0 → LineMade text s buffer (typed text s buffer)
-accepted-direct text s buffer d h = DirectLines′.made-so text s buffer _ (DirectLines′.direct-answer text s buffer d) h
+pub accepted-direct : (keep : Bool) (text : List ℕ) (s : State) (buffer : List ℕ) → T (direct? text) → (typed keep text s buffer) .entered .number ≡ 0 → LineMade text s buffer (typed keep text s buffer)
+accepted-direct keep text s buffer d h = DirectLines′.made-so text s buffer _ (DirectLines′.direct-answer keep text s buffer d) h
 
 -- No store has any part in it, as long as it is sound: over any other the answer, the names and the line are the same.
-pub direct-any-store : (store : List ℕ) (used lines greatest : ℕ) (text : List ℕ) (s : State) (buffer : List ℕ) → T (direct? text) → T (sound-state s) → T (sound-state (over-store store used lines greatest s))
-    → typed text (over-store store used lines greatest s) buffer ≡ typed-over-store store used lines greatest (typed text s buffer)
-direct-any-store store used lines greatest text s buffer d o t = DirectLines′.any-store store used lines greatest s buffer text d o t
+pub direct-any-store : (store : List ℕ) (used lines greatest : ℕ) (keep : Bool) (text : List ℕ) (s : State) (buffer : List ℕ) → T (direct? text) → T (sound-state s) → T (sound-state (over-store store used lines greatest s))
+    → typed keep text (over-store store used lines greatest s) buffer ≡ typed-over-store store used lines greatest (typed keep text s buffer)
+direct-any-store store used lines greatest keep text s buffer d o t = DirectLines′.any-store store used lines greatest s buffer keep text d o t
 
 -- A sound state stays sound, whatever is typed;
-pub typed-stays-sound : (text : List ℕ) (s : State) (buffer : List ℕ) → T (sound-state s) → T (sound-state ((typed text s buffer) .entered .after))
-typed-stays-sound text s buffer h = DirectLines′.typed-stays-sound text s buffer h
+pub typed-stays-sound : (keep : Bool) (text : List ℕ) (s : State) (buffer : List ℕ) → T (sound-state s) → T (sound-state ((typed keep text s buffer) .entered .after))
+typed-stays-sound keep text s buffer h = DirectLines′.typed-stays-sound keep text s buffer h
 
 -- a record that agrees with the store stays so (and `record-agrees` holds after typed texts too);
-pub typed-stays-agreeing : (text : List ℕ) (s : State) (buffer : List ℕ) → Agrees s → Agrees ((typed text s buffer) .entered .after)
-typed-stays-agreeing text s buffer a = Agreeing′.typed-stays-agreeing text s buffer a
+pub typed-stays-agreeing : (keep : Bool) (text : List ℕ) (s : State) (buffer : List ℕ) → Agrees s → Agrees ((typed keep text s buffer) .entered .after)
+typed-stays-agreeing keep text s buffer a = Agreeing′.typed-stays-agreeing keep text s buffer a
 
--- and a store of well-formed lines stays one.
-pub typed-stored-lines : (text : List ℕ) (s : State) (buffer : List ℕ) → HoldsWellFormed s → HoldsWellFormed ((typed text s buffer) .entered .after)
-typed-stored-lines text s buffer h = WellFormedLines′.typed-stays-well-formed text s buffer h
+-- and a store whose lines are well-formed or error lines (§9) stays one.
+pub typed-stored-lines : (keep : Bool) (text : List ℕ) (s : State) (buffer : List ℕ) → HoldsListable s → HoldsListable ((typed keep text s buffer) .entered .after)
+typed-stored-lines keep text s buffer h = WellFormedLines′.typed-stays-listable text s h keep buffer
 
 -- Demand 3, with 32768 allowed and the line buffer in the store's place. Over sound tables and store, a well-formed line of at most 255 bytes whose listing has
 -- at most 120 is put in the line buffer, byte for byte, by typing that listing; no name is added, and nothing else changes.
-pub direct-re-entry : (s : State) → T (sound-state s) → (l buffer : List ℕ) → length l ≤ 255 → WellFormedDirect (names-of s) l → length (direct-listing (names-of s) l) ≤ 120 → length l ≤ length buffer
-    → typed (direct-listing (names-of s) l) s buffer ≡ record { entered = accepted-with s; line = overwritten l buffer }
-direct-re-entry s o l buffer b w h fits = DirectAgain′.typed-again s o l buffer w b h fits
+pub direct-re-entry : (keep : Bool) (s : State) → T (sound-state s) → (l buffer : List ℕ) → length l ≤ 255 → WellFormedDirect (names-of s) l → length (direct-listing (names-of s) l) ≤ 120 → length l ≤ length buffer
+    → typed keep (direct-listing (names-of s) l) s buffer ≡ record { entered = accepted-with s; line = overwritten l buffer }
+direct-re-entry keep s o l buffer b w h fits = DirectAgain′.typed-again keep s o l buffer w b h fits
 
 -- No two different ones over one sound name table have the same listing, of any length.
 pub one-direct-listing : (ns : List (List ℕ)) → T (sound-names ns) → (l m : List ℕ) → WellFormedDirect ns l → WellFormedDirect ns m → direct-listing ns l ≡ direct-listing ns m → l ≡ m
@@ -165,18 +171,18 @@ refused-showing buffer names size count values output h = Listings′.unwritten 
 
 -- Accepted, it writes the text of the line at the buffer's front, and leaves every other byte as it was.
 pub accepted-showing : (buffer names : List ℕ) (size count : ℕ) (values output : List ℕ) → (show buffer names size count values output) .number ≡ 0
-    → Written (direct-listing (names-in (take size names)) (line-in buffer)) output (show buffer names size count values output)
+    → Written (line-text (names-in (take size names)) (line-in buffer)) output (show buffer names size count values output)
 accepted-showing buffer names size count values output h = Listings′.writes _ output _ (Listings′.show-answer buffer names size count values output) h
 
--- What was shown, typed again, leaves tables, store and line buffer as they are.
-pub shown-again : (s : State) → T (sound-state s) → (buffer output : List ℕ) → length (line-in buffer) ≤ 255 → (e : Listed) → e ≡ show buffer (s .names) (s .name-size) (s .name-count) (s .values) output → e .number ≡ 0 → e .written ≤ 120
-    → typed (take (e .written) (e .output)) s buffer ≡ record { entered = accepted-with s; line = buffer }
-shown-again s o buffer output b e is h k = DirectAgain′.shown-again s o buffer output b e is h k
+-- What was shown, typed again, leaves tables, store and line buffer as they are, unless it is an error line (§9).
+pub shown-again : (keep : Bool) (s : State) → T (sound-state s) → (buffer output : List ℕ) → length (line-in buffer) ≤ 255 → error-line? (line-in buffer) ≡ false
+    → (e : Listed) → e ≡ show buffer (s .names) (s .name-size) (s .name-count) (s .values) output → e .number ≡ 0 → e .written ≤ 120 → typed keep (take (e .written) (e .output)) s buffer ≡ record { entered = accepted-with s; line = buffer }
+shown-again keep s o buffer output b x e is h k = DirectAgain′.shown-again keep s o buffer output b x e is h k
 
 -- Exactly when (see `Main`, 8). Terms.antt lists the numbers of `typed`: for a line without a number 1, 2, 4, 5, 6, 7 and 8, which is asked of the line buffer
 -- alone, and for any other text those of `enter`; and the numbers of `show`: 1, 10, 11.
-pub typed-exactly : (text : List ℕ) (s : State) (buffer : List ℕ) → Exactly (typed-refusals text s buffer) ((typed text s buffer) .entered .number)
-typed-exactly text s buffer = ExactlyTyped′.typed-exactly text s buffer
+pub typed-exactly : (keep : Bool) (text : List ℕ) (s : State) (buffer : List ℕ) → Exactly (typed-refusals keep text s buffer) ((typed keep text s buffer) .entered .number)
+typed-exactly keep text s buffer = ExactlyTyped′.typed-exactly keep text s buffer
 
 -- So 3 is answered only to an empty or blank text, or a number above 32767.
 pub typed-3 : (text : List ℕ) → direct? text ≡ false → NoLineNumber text ↔ (T (every blank? text) ⊎ (32767 < number-in text))
@@ -198,34 +204,73 @@ lines-of-text = Batches′.lines-of-text
 
 -- Each line is answered as the single call answers it over the state that the lines before it left, and so exactly when its condition is the first that holds
 -- there, whether those lines were taken or refused.
-pub lines-exactly : (text : List ℕ) (s : State) → EachExactly (text-lines text) s (answers-to (text-lines text) s)
-lines-exactly text s = Batches′.lines-exactly text s
+pub lines-exactly : (keep : Bool) (text : List ℕ) (s : State) → EachExactly keep (text-lines text) s (answers-to keep (text-lines text) s)
+lines-exactly keep text s = Batches′.lines-exactly keep text s
 
 -- The one call says of these answers how many take their lines, deletions among them, and how many do not; number, place in its line and line of the first
 -- refusal, all 0 if there is none; and it leaves the state that the last line left.
-pub batch-answers : (text : List ℕ) (s : State) → Summed s (answers-to (text-lines text) s) (batch text s)
-batch-answers text s = Batches′.batch-answers text s
+pub batch-answers : (keep : Bool) (text : List ℕ) (s : State) → Summed s (answers-to keep (text-lines text) s) (batch keep text s)
+batch-answers keep text s = Batches′.batch-answers keep text s
 
 -- Every line is taken or refused.
-pub batch-counts : (text : List ℕ) (s : State) → (batch text s) .taken + (batch text s) .refused ≡ length (text-lines text)
-batch-counts text s = Batches′.batch-counts text s
+pub batch-counts : (keep : Bool) (text : List ℕ) (s : State) → (batch keep text s) .taken + (batch keep text s) .refused ≡ length (text-lines text)
+batch-counts keep text s = Batches′.batch-counts keep text s
 
 -- A text may be sent in two parts, the first with its last 9B: the second call goes on where the first one ended.
-pub batch-in-two : (a b : List ℕ) (s : State) → batch (a ++ 0x9b ∷ b) s ≡ one-then (batch (a ++ 0x9b ∷ []) s) (batch b ((batch (a ++ 0x9b ∷ []) s) .after))
-batch-in-two a b s = Batches′.batch-in-two a b s
+pub batch-in-two : (keep : Bool) (a b : List ℕ) (s : State) → batch keep (a ++ 0x9b ∷ b) s ≡ one-then (batch keep (a ++ 0x9b ∷ []) s) (batch keep b ((batch keep (a ++ 0x9b ∷ []) s) .after))
+batch-in-two keep a b s = Batches′.batch-in-two keep a b s
 
 -- Tables, store and record are sound after a text, and after any number of lines, exactly when they were before: one test serves all lines.
-pub same-soundness : (text : List ℕ) (s : State) → sound-state ((enter text s) .after) ≡ sound-state s
-same-soundness text s = Batches′.same-soundness text s
+pub same-soundness : (keep : Bool) (text : List ℕ) (s : State) → sound-state ((enter-with keep text s) .after) ≡ sound-state s
+same-soundness keep text s = Batches′.same-soundness keep text s
 
 -- many lines
-pub batch-soundness : (text : List ℕ) (s : State) → sound-state ((batch text s) .after) ≡ sound-state s
-batch-soundness text s = Batches′.batch-soundness text s
+pub batch-soundness : (keep : Bool) (text : List ℕ) (s : State) → sound-state ((batch keep text s) .after) ≡ sound-state s
+batch-soundness keep text s = Batches′.batch-soundness keep text s
 
 -- Where they are unsound every line is refused with 1; a text without a line is not.
-pub batch-unsound : (text : List ℕ) (s : State) → sound-state s ≡ false → batch text s ≡ all-unsound (length (text-lines text)) s
-batch-unsound text s u = Batches′.batch-unsound text s u
+pub batch-unsound : (keep : Bool) (text : List ℕ) (s : State) → sound-state s ≡ false → batch keep text s ≡ all-unsound (length (text-lines text)) s
+batch-unsound keep text s u = Batches′.batch-unsound keep text s u
 
 -- A line without a number, the empty one too, is refused with 3 after 1 and 2, and adds no name.
-pub unnumbered-line : (l : List ℕ) (s : State) → T (sound-state s) → length l ≤ 120 → digit-count l ≡ 0 → enter l s ≡ refusal 3 no-span s
-unnumbered-line l s o h d = Batches′.unnumbered-line l s o h d
+pub unnumbered-line : (keep : Bool) (l : List ℕ) (s : State) → T (sound-state s) → length l ≤ 120 → digit-count l ≡ 0 → enter-with keep l s ≡ refusal 3 no-span s
+unnumbered-line keep l s o h d = Batches′.unnumbered-line keep l s o h d
+
+-- ---- §9 Error lines that stay in the program
+
+-- With the switch off `enter-with` is `enter`. With it on a text that is not refused with 4, or cannot be kept (a 9B in it, a 1B at the place), is answered as
+-- without it; one that can is kept if its error line has room, and else answered 8, as a refusal that changes nothing. (`text-exactly-with` has the numbers.)
+pub switched : (text : List ℕ) (s : State) → Switched text s (enter-with true text s)
+switched text s = KeptLines′.switched text s
+
+-- So whatever is accepted is accepted alike,
+pub accepted-alike : (keep : Bool) (text : List ℕ) (s : State) → (enter-with keep text s) .number ≡ 0 → enter-with keep text s ≡ enter text s
+accepted-alike keep text s h = KeptLines′.accepted-alike text s keep h
+
+-- and a refused text changes nothing, with one exception: a line that is kept.
+pub refused-with : (keep : Bool) (text : List ℕ) (s : State) → ((enter-with keep text s) .number ≡ 0 → ⊥) → RefusedLeaves keep text s (enter-with keep text s)
+refused-with keep text s h = KeptLines′.refused-leaves text s keep h
+
+-- Exactly when (see `Main`, 8), with wrong lines kept or not.
+pub text-exactly-with : (keep : Bool) (text : List ℕ) (s : State) → Exactly (text-refusals keep text s) ((enter-with keep text s) .number)
+text-exactly-with keep text s = ExactlyKept′.text-exactly-with text s keep
+
+-- The byte at the place can be mended: flipped twice, it is as it was.
+pub flipped-twice : (b : ℕ) → b < 256 → flipped (flipped b) ≡ b
+flipped-twice b h = ErrorLines′.flipped-twice b h
+
+-- Demand 3's last sentence: a store whose lines are well-formed or error lines stays one, whatever is entered.
+pub stored-listable : (keep : Bool) (text : List ℕ) (s : State) → HoldsListable s → HoldsListable ((enter-with keep text s) .after)
+stored-listable keep text s h = WellFormedLines′.stays-listable text s h keep
+
+-- No line is both, whatever its number may be;
+pub never-both : {lawful? : ℕ → Bool} (ns : List (List ℕ)) (l : List ℕ) → Formed lawful? ns l → error-line? l ≡ false
+never-both ns l w = ErrorLines′.never-both ns l w
+
+-- so a well-formed line lists as it did.
+pub well-formed-text : {lawful? : ℕ → Bool} (ns : List (List ℕ)) (l : List ℕ) → Formed lawful? ns l → (line-text ns l ≡ direct-listing ns l) × (line-listing ns l ≡ listing ns l)
+well-formed-text ns l w = let e = ErrorLines′.never-both ns l w in (ErrorLines′.text-else ns l e, ErrorLines′.listing-else ns l e)
+
+-- The test that is made before a line is listed says what 10 is asked of.
+pub listable-test : {lawful? : ℕ → Bool} (ns : List (List ℕ)) (l : List ℕ) → (T (listable? lawful? ns l) → Listable lawful? ns l) × (Listable lawful? ns l → T (listable? lawful? ns l))
+listable-test ns l = (ErrorLines′.listable-says ns l, ErrorLines′.says-listable ns l)

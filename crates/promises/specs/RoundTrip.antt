@@ -33,7 +33,7 @@ use Rattle.promises.specs.Closed.{closed, run-closed}
 use Rattle.promises.specs.WordReading.{read-tokens}
 use Rattle.promises.specs.Reading.{Fine, Rest, rescan}
 use Rattle.promises.specs.Decoding.{Shapes, line-decode, line-number-of}
-use Rattle.promises.specs.Shaped.{shapes, starts-statement}
+use Rattle.promises.specs.Shaped.{Start, starts, shapes, starts-statement}
 
 -- the token of an item
 unfoldable pub token-of : Item → Token
@@ -80,6 +80,17 @@ known ns js es e r =
       ended = subst (λ (l : List Token). T (closed (map class l))) a (run-closed js es e);
       fine = fine-of ns es g (subst T (all-right ns es g) r);
     }
+
+-- Lawful, right tokens begin with a statement's word or with a name that is assigned to.
+pub begun : (ns : List (List ℕ)) (is : List Item) (ts : List Token) → Lawful is ts → T (every (right-token? ns) ts) → Start ts
+unfolding on-run
+begun ns is ts l r =
+    let es : List (Taken Gives Token) = on-taken token-of (l .taken) in
+    let js : List Token = map token-of is in
+    let e : read look-token start js ≡ left es [] = sym (as-tokens is) ∙ ap (on-run token-of) (l .reads) in
+    let g : tokens-given es ≡ ts = sym (tokens-same (l .taken)) ∙ l .gives in
+    let k : Known ns js es = known ns js es e (subst (λ (z : List Token). T (every (right-token? ns) z)) (sym g) r) in
+    subst Start g (starts ns es (k .fit) (k .side-by-side) (k .fine))
 
 -- ---- read again
 

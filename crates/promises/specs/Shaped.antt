@@ -172,10 +172,16 @@ operator-first j true a y b n s = not-first line-end (subst (Side colon) (op-lin
 operator-first j false a true b n s = not-first raw-end (subst (Side colon) (op-raw-end j a b) s) tt
 operator-first j false a false b n s = not-first (operator-class j) s (op-known j a b n .not-first)
 
-start-go : (ns : List (List ℕ)) (e : Gives) (t : Token) (ts : List Token) → T (fits e (class t)) → Side colon (class t) → T (not (eqb (class t) unfit)) → T (right-token? ns t) → to-next ns (given e t ∷ ts) ≡ 0
-unfolding class right-token? symbol-class? among to-next begins? first-class?
-start-go ns e (statement k) ts h s n y = ap (λ (u : Token). to-next ns (u ∷ ts)) (own-given e (statement k) h (no-symbol-statement k))
-start-go ns e (assigned w) ts h s n y = ap (λ (u : Token). to-next ns (u ∷ ts)) (own-given e (assigned w) h (no-symbol-name w first-numeric first-string first-array tt tt tt))
+-- The tokens of a line begin with a statement's word that is not refused, or with the name that is assigned to.
+pub data Start : List Token → Type 0 where
+  no-start : Start []
+  with-word : (k : ℕ) (ts : List Token) → T (not (eqb (class (statement k)) unfit)) → Start (statement k ∷ ts)
+  with-name : (n : List ℕ) (ts : List Token) → Start (assigned n ∷ ts)
+
+start-go : (ns : List (List ℕ)) (e : Gives) (t : Token) (ts : List Token) → T (fits e (class t)) → Side colon (class t) → T (not (eqb (class t) unfit)) → T (right-token? ns t) → Start (given e t ∷ ts)
+unfolding class right-token? symbol-class? among first-class?
+start-go ns e (statement k) ts h s n y = subst (λ (u : Token). Start (u ∷ ts)) (sym (own-given e (statement k) h (no-symbol-statement k))) (with-word k ts n)
+start-go ns e (assigned w) ts h s n y = subst (λ (u : Token). Start (u ∷ ts)) (sym (own-given e (assigned w) h (no-symbol-name w first-numeric first-string first-array tt tt tt))) (with-name w ts)
 start-go ns e (operator j) ts h s n y = absurd (operator-first j (eqb j 0x16) refl (eqb j 0x9b) refl n s)
 start-go ns e (variable w) ts h s n y = absurd (not-first _ s (at-kind (λ d. not (first-class? d)) w numeric-variable string-variable array tt tt tt))
 start-go ns e (constant b) ts h s n y = absurd (not-first number s tt)
@@ -184,8 +190,18 @@ start-go ns e (raw b) ts h s n y = absurd (not-first raw-text s tt)
 start-go ns e out-of-range ts h s n y = absurd y
 start-go ns e unreadable ts h s n y = absurd y
 
+-- what a lawful run over right tokens gives begins so
+pub starts : (ns : List (List ℕ)) (es : List (Taken Gives Token)) → AllFit fits class es → Apart colon (sources es) → Fine ns (sources es) → Start (tokens-given es)
+unfolding tokens-given sources
+starts ns [] g a f = no-start
+starts ns (x ∷ xs) g a f = start-go ns (x .gave) (x .from) (tokens-given xs) (g .0) (side colon (class (x .from)) (a .0)) (f .0 .0) (f .0 .1)
+
+at-start : (ns : List (List ℕ)) (ts : List Token) → Start ts → to-next ns ts ≡ 0
+unfolding to-next begins?
+at-start ns ts no-start = refl
+at-start ns ts (with-word k r h) = refl
+at-start ns ts (with-name n r) = refl
+
 -- the first token of a line begins a statement
 pub starts-statement : (ns : List (List ℕ)) (es : List (Taken Gives Token)) → AllFit fits class es → Apart colon (sources es) → Fine ns (sources es) → to-next ns (tokens-given es) ≡ 0
-unfolding tokens-given sources to-next
-starts-statement ns [] g a f = refl
-starts-statement ns (x ∷ xs) g a f = start-go ns (x .gave) (x .from) (tokens-given xs) (g .0) (side colon (class (x .from)) (a .0)) (f .0 .0) (f .0 .1)
+starts-statement ns es g a f = at-start ns (tokens-given es) (starts ns es g a f)

@@ -15,7 +15,7 @@ use Rattle.paper.specs.Calls.{State, names-of, lines-of, sound-tables, agrees, 
 use Rattle.laws.specs.Tests.{and-left, and-right, and-both, as-T, is-true}
 use Rattle.laws.specs.Names.{same-self, same-eq, name-bytes-append}
 use Rattle.laws.specs.Tables.{length-entries}
-use Rattle.promises.specs.Terms.{Agrees, SoundTable, SoundState, Kept}
+use Rattle.promises.specs.Terms.{Agrees, SoundTable, SoundState, Carried}
 use Rattle.promises.specs.Lists.{or-false-left, or-false-right}
 use Rattle.promises.specs.NameTable.{NamesGood, names-back}
 use Rattle.promises.specs.Stored.{Extended, extended, over-past, Holds}
@@ -174,9 +174,9 @@ table-sound s new o g r out e l =
     )
 
 -- new names that are good and have room, and sound lines that have room, leave a sound state
-pub kept : (s : State) (new ls : List (List ℕ)) → SoundState s → NamesGood (names-of s ++ new) → Room s new → Holds ls (s .store) → Kept s (made s new ls) new
+pub carried : (s : State) (new ls : List (List ℕ)) → SoundState s → NamesGood (names-of s ++ new) → Room s new → Holds ls (s .store) → Carried s (made s new ls) new
 unfolding made names-of lines-of sound-state sound-tables
-kept s new ls o g r h =
+carried s new ls o g r h =
     let n : Extended (s .name-size) (name-bytes new) (s .names) = extended (s .name-size) (name-bytes new) (s .names) (r .bytes) in
     let es : List ℕ = value-entries (s .name-count) new in
     let el : length es ≡ 8 * length new = length-entries (s .name-count) new in
@@ -192,8 +192,8 @@ kept s new ls o g r h =
           (le→leb (8 * length (names-of s ++ new)) _ (subst (λ (z : ℕ). 8 * length (names-of s ++ new) ≤ z) (sym (v .same-size)) fits)) (h .sound)))
           (says-pair (made s new ls) (record { counted = ap length (sym (h .lines)); greatest = ap greatest-number (sym (h .lines)) }));
       names = t .0;
-      old-names = n .kept;
-      old-values = v .kept;
+      old-names = n .stays;
+      old-values = v .stays;
       new-values = subst (λ (z : ℕ). take z (drop (8 * s .name-count) (overwritten (take (8 * s .name-count) (s .values) ++ es) (s .values))) ≡ es) el (v .there);
       past-names = n .past;
       past-values = subst (λ (z : ℕ). drop z (overwritten (take (8 * s .name-count) (s .values) ++ es) (s .values)) ≡ drop z (s .values)) (sym c) (v .past);

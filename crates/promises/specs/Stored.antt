@@ -157,9 +157,9 @@ over-past new old = drop-append-seam new (drop (length new) old)
 pub at-front : (new old : List ℕ) → length new ≤ length old → AtFront new old (overwritten new old)
 at-front new old h = record { front = over-take new old; past = over-past new old; same-size = over-length new old h }
 
--- A buffer whose first k bytes are kept, with new bytes after them
+-- A buffer whose first k bytes are stays, with new bytes after them
 pub record Extended (k : ℕ) (new old : List ℕ) : Type 0 where
-  pub kept : take k (overwritten (take k old ++ new) old) ≡ take k old
+  pub stays : take k (overwritten (take k old ++ new) old) ≡ take k old
   pub there : take (length new) (drop k (overwritten (take k old ++ new) old)) ≡ new
   pub both : take (k + length new) (overwritten (take k old ++ new) old) ≡ take k old ++ new
   pub past : drop (k + length new) (overwritten (take k old ++ new) old) ≡ drop (k + length new) old
@@ -175,7 +175,7 @@ extended k new old h =
     let more : List ℕ = drop (length x) old in
     let parts : x ++ more ≡ take k old ++ (new ++ more) = append-assoc (take k old) new more in
     record {
-      kept = ap (take k) parts ∙ take-at (take k old) (new ++ more) k front;
+      stays = ap (take k) parts ∙ take-at (take k old) (new ++ more) k front;
       there = ap (λ (z : List ℕ). take (length new) (drop k z)) parts ∙ ap (take (length new)) (drop-at (take k old) (new ++ more) k front) ∙ take-append-seam new more;
       both = take-at x more (k + length new) size;
       past = drop-at x more (k + length new) size ∙ ap (λ (z : ℕ). drop z old) size;

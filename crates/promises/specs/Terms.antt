@@ -1,21 +1,22 @@
 -- The terms in which the promises are stated.
 use Prim.Native.Nat.{ℕ, zero, suc, _+_, _*_, _^_, _≤_, _<_}
 use mathlib.Core.Path.{_≡_}
-use mathlib.Core.Bool.{Bool, not, _&&_}
+use mathlib.Core.Bool.{Bool, false, not, _&&_}
 use mathlib.Core.Logic.{_↔_, _⊎_}
 use mathlib.Core.List.{List, [], _∷_, _++_, List·Memᴰ}
 use lib.Dec.{T, eqb}
 use lib.ListN.{length, take, drop}
-use Rattle.paper.specs.Bytes.{pick, every, joined, blank?, digit?, run}
+use Rattle.paper.specs.Bytes.{pick, bytes, blank, every, joined, blank?, digit?, run}
 use Rattle.paper.specs.Tokens.{Token, out-of-range, out-of-range?}
 use Rattle.paper.specs.Constants.{value, five, six}
 use Rattle.paper.specs.Names.{most-names, names-in, sound-names, name-bytes, add-names, value-entries}
 use Rattle.paper.specs.Items.{Item, Span, span-of, no-span, size-at, items, raw-byte?}
-use Rattle.paper.specs.Line.{line-bytes, line-number, direct-number}
-use Rattle.paper.specs.WellFormed.{Lawful, WellFormed, WellFormedDirect}
-use Rattle.paper.specs.Listing.{listing, direct-listing}
+use Rattle.paper.specs.Line.{line-bytes, line-number, lawful-number?, direct-number, direct-number?}
+use Rattle.paper.specs.WellFormed.{Lawful, Formed, WellFormed, WellFormedDirect}
+use Rattle.paper.specs.Listing.{decimal}
+use Rattle.paper.specs.Errors.{marked-at, error-line, keepable?, error-line?, line-text, line-listing}
 use Rattle.paper.specs.Store.{greatest-number, sound-lines, room, stored?, line-at, overwritten}
-use Rattle.paper.specs.Calls.{State, names-of, lines-of, sound-state, Entered, enter, Listed}
+use Rattle.paper.specs.Calls.{State, names-of, lines-of, sound-state, Entered, refusal, enter, enter-with, Listed}
 use Rattle.paper.specs.Direct.{Typed, typed, line-in}
 use Rattle.paper.specs.Batch.{RefusedLine, none-refused, Batched, no-lines, batch}
 
@@ -174,9 +175,21 @@ LineTooLong s n ts = 255 < length (line-with s n ts)
 unfoldable pub old-size : ℕ → State → ℕ
 old-size n s = length (pick (stored? n (lines-of s)) (line-at n (lines-of s)) [])
 
--- 8: the store would pass its room; a replaced line's room counts as free
+-- the store would pass its room with this line as the one with a number; a replaced line's room counts as free
+abbrev pub LineLacksRoom : State → ℕ → List ℕ → Type 0
+LineLacksRoom s n line = room (s .store) + old-size n s < s .used + length line
+
+-- 8: it would with the line of these tokens
 abbrev pub StoreLacksRoom : State → ℕ → List Token → Type 0
-StoreLacksRoom s n ts = room (s .store) + old-size n s < s .used + length (line-with s n ts)
+StoreLacksRoom s n ts = LineLacksRoom s n (line-with s n ts)
+
+-- the error line that a text refused at a place is kept as (document 02, §9): what stands after its number, with the byte at the place flipped
+unfoldable pub error-line-for : List ℕ → ℕ → List ℕ
+error-line-for text place = error-line (number-in text) (drop (number-end text) (marked-at place text))
+
+-- 8 of a text that 4 is said of and that can be kept: its error line has no room
+abbrev pub KeptLacksRoom : List ℕ → State → Type 0
+KeptLacksRoom text s = (place : Span) × NoReading (items-in text) place × T (keepable? (place .start) text) × LineLacksRoom s (number-in text) (error-line-for text (place .start))
 
 -- 9: the line is not there
 abbrev pub NoSuchLine : ℕ → State → Type 0
@@ -186,26 +199,34 @@ NoSuchLine n s = (l : List ℕ) → List·Memᴰ l (lines-of s) → line-number 
 abbrev pub OfLine : ℕ → State → (List ℕ → Type 0) → Type 0
 OfLine n s P = (l : List ℕ) × List·Memᴰ l (lines-of s) × (line-number l ≡ n) × P l
 
--- entering a text; of 4 and 5 the leftmost, for they never hold together
-abbrev pub entry-refusals : List ℕ → State → List (ℕ × Type 0)
-entry-refusals text s =
+-- entering a text, where 4 and 8 are asked so
+abbrev pub entry-list : List ℕ → State → Type 0 → Type 0 → List (ℕ × Type 0)
+entry-list text s Four Eight =
     (1, Unsound s)
     ∷ (2, TextTooLong text)
     ∷ (3, NoLineNumber text)
-    ∷ (4, Unread (items-in text))
+    ∷ (4, Four)
     ∷ (5, TooFar (items-in text))
     ∷ (6, Giving (items-in text) (λ ts. NamesLackRoom s (names-with s ts)))
     ∷ (7, Giving (items-in text) (LineTooLong s (number-in text)))
-    ∷ (8, Giving (items-in text) (StoreLacksRoom s (number-in text)))
+    ∷ (8, Eight)
     ∷ []
+
+-- entering a text; of 4 and 5 the leftmost, for they never hold together
+abbrev pub entry-refusals : List ℕ → State → List (ℕ × Type 0)
+entry-refusals text s = entry-list text s (Unread (items-in text)) (Giving (items-in text) (StoreLacksRoom s (number-in text)))
+
+-- the same with wrong lines kept (document 02, §9): 4 is said of one that is kept or cannot be, and 8 of one that can be and would not fit
+abbrev pub kept-refusals : List ℕ → State → List (ℕ × Type 0)
+kept-refusals text s = entry-list text s (Unread (items-in text) × (KeptLacksRoom text s → ⊥)) (Giving (items-in text) (StoreLacksRoom s (number-in text)) ⊎ KeptLacksRoom text s)
 
 -- deleting a line
 abbrev pub deletion-refusals : List ℕ → State → List (ℕ × Type 0)
 deletion-refusals text s = (1, Unsound s) ∷ (2, TextTooLong text) ∷ (3, NoLineNumber text) ∷ (9, NoSuchLine (number-in text) s) ∷ []
 
--- a text with nothing but blanks after its number deletes, every other is entered
-abbrev pub text-refusals : List ℕ → State → List (ℕ × Type 0)
-text-refusals text s = pick (every blank? (past-number text)) (deletion-refusals text s) (entry-refusals text s)
+-- a text with nothing but blanks after its number deletes, every other is entered; the switch says whether wrong lines are kept
+abbrev pub text-refusals : Bool → List ℕ → State → List (ℕ × Type 0)
+text-refusals keep text s = pick (every blank? (past-number text)) (deletion-refusals text s) (pick keep (kept-refusals text s) (entry-refusals text s))
 
 -- 8 of a line without a number: the line buffer is shorter than the line
 abbrev pub BufferTooShort : List ℕ → State → List Token → Type 0
@@ -224,31 +245,36 @@ direct-refusals text s buffer =
     ∷ []
 
 -- typing any text
-abbrev pub typed-refusals : List ℕ → State → List ℕ → List (ℕ × Type 0)
-typed-refusals text s buffer = pick (direct? text) (direct-refusals text s buffer) (text-refusals text s)
+abbrev pub typed-refusals : Bool → List ℕ → State → List ℕ → List (ℕ × Type 0)
+typed-refusals keep text s buffer = pick (direct? text) (direct-refusals text s buffer) (text-refusals keep text s)
 
--- listing a line; 10: it is not well-formed; 11: its listing is longer than the output buffer
+-- a line that can be listed: well-formed, or an error line with a number that it may have
+abbrev pub Listable : (ℕ → Bool) → List (List ℕ) → List ℕ → Type 0
+Listable lawful? ns l = Formed lawful? ns l ⊎ (T (lawful? (line-number l)) × T (error-line? l))
+
+-- listing a line; 10: it is neither well-formed nor an error line; 11: its listing is longer than the output buffer
 abbrev pub listing-refusals : ℕ → State → List ℕ → List (ℕ × Type 0)
 listing-refusals n s output =
     (1, Unsound s)
     ∷ (9, NoSuchLine n s)
-    ∷ (10, OfLine n s (λ l. WellFormed (names-of s) l → ⊥))
-    ∷ (11, OfLine n s (λ l. length output < length (listing (names-of s) l)))
+    ∷ (10, OfLine n s (λ l. Listable lawful-number? (names-of s) l → ⊥))
+    ∷ (11, OfLine n s (λ l. length output < length (line-listing (names-of s) l)))
     ∷ []
 
--- listing a line buffer; 1: the names are unsound, or the values lack room for all; 10: the line at its front is not well-formed with number 32768
+-- listing a line buffer; 1: the names are unsound, or the values lack room for all; 10: the line at its front is neither well-formed nor an error line
+-- with number 32768
 abbrev pub show-refusals : List ℕ → List ℕ → ℕ → ℕ → List ℕ → List ℕ → List (ℕ × Type 0)
 show-refusals buffer names size count values output =
     (1, SoundTable (names-in (take size names)) names size count × (8 * count ≤ length values) → ⊥)
-    ∷ (10, WellFormedDirect (names-in (take size names)) (line-in buffer) → ⊥)
-    ∷ (11, length output < length (direct-listing (names-in (take size names)) (line-in buffer)))
+    ∷ (10, Listable direct-number? (names-in (take size names)) (line-in buffer) → ⊥)
+    ∷ (11, length output < length (line-text (names-in (take size names)) (line-in buffer)))
     ∷ []
 
 -- ---- what an edit leaves
 
--- What a state keeps in an edit that adds these names: it is sound again; the old names and values stand as they did, and the new ones
+-- What an edit that adds these names carries over: the state is sound again; the old names and values stand as they did, and the new ones
 -- after them; from the new ends on every byte of names, values and store is as it was, and no buffer has another length.
-pub record Kept (s after : State) (new : List (List ℕ)) : Type 0 where
+pub record Carried (s after : State) (new : List (List ℕ)) : Type 0 where
   pub sound : T (sound-state after)
   pub names : names-of after ≡ names-of s ++ new
   pub old-names : take (s .name-size) (after .names) ≡ take (s .name-size) (s .names)
@@ -288,13 +314,40 @@ pub record TakenOut (n : ℕ) (old new : List (List ℕ)) : Type 0 where
 -- What an accepted text did. Its items are a lawful sequence, and the line of their tokens over the new names, well-formed, was put in, and
 -- the names that are new were added in order; or nothing but blanks stands after its number, and the line with that number was taken out.
 pub data Edited (text : List ℕ) (s : State) (e : Entered) : Type 0 where
-  line-put : (ts : List Token) (new : List (List ℕ)) → Lawful (items-in text) ts → names-of (e .after) ≡ names-with s ts → e .added ≡ length new → Kept s (e .after) new
+  line-put : (ts : List Token) (new : List (List ℕ)) → Lawful (items-in text) ts → names-of (e .after) ≡ names-with s ts → e .added ≡ length new → Carried s (e .after) new
       → PutIn (number-in text) (line-with s (number-in text) ts) (lines-of s) (lines-of (e .after)) → WellFormed (names-of (e .after)) (line-with s (number-in text) ts) → Edited text s e
-  line-gone : T (every blank? (past-number text)) → e .added ≡ 0 → Kept s (e .after) [] → TakenOut (number-in text) (lines-of s) (lines-of (e .after)) → Edited text s e
+  line-gone : T (every blank? (past-number text)) → e .added ≡ 0 → Carried s (e .after) [] → TakenOut (number-in text) (lines-of s) (lines-of (e .after)) → Edited text s e
 
 -- every line of the store is well-formed over the names
 abbrev pub HoldsWellFormed : State → Type 0
 HoldsWellFormed s = (l : List ℕ) → List·Memᴰ l (lines-of s) → WellFormed (names-of s) l
+
+-- every line of the store is well-formed over the names or an error line (document 02, §9)
+abbrev pub HoldsListable : State → Type 0
+HoldsListable s = (l : List ℕ) → List·Memᴰ l (lines-of s) → Listable lawful-number? (names-of s) l
+
+-- a text that is refused with 4 and can be kept
+unfoldable pub can-keep? : List ℕ → State → Bool
+can-keep? text s = let e = enter text s in eqb (e .number) 4 && keepable? (e .place .start) text
+
+-- What is left of a text that is refused with 4 and kept: the answer is that of a text that is not kept, and no name is added; its error line, which lists as its
+-- number, `ERROR-` and the text after the number's digits with the byte at the place flipped, was put in, and all else is carried over.
+pub record LineKept (text : List ℕ) (s : State) (e : Entered) : Type 0 where
+  pub number : e .number ≡ 4
+  pub place : e .place ≡ (enter text s) .place
+  pub added : e .added ≡ 0
+  pub carried : Carried s (e .after) []
+  pub put : PutIn (number-in text) (error-line-for text (e .place .start)) (lines-of s) (lines-of (e .after))
+  pub lawful : T (lawful-number? (number-in text))
+  pub error : T (error-line? (error-line-for text (e .place .start)))
+  pub lists : line-listing (names-of (e .after)) (error-line-for text (e .place .start)) ≡ decimal 5 (number-in text) ++ blank ∷ (bytes "ERROR- " ++ drop (number-end text) (marked-at (e .place .start) text))
+
+-- What the switch makes of a text, three cases: one that is not refused with 4, or cannot be kept, is answered as without it; one whose error line has room is
+-- kept; one whose error line has none is answered 8.
+pub data Switched (text : List ℕ) (s : State) : Entered → Type 0 where
+  as-without : can-keep? text s ≡ false → Switched text s (enter text s)
+  kept-there : T (can-keep? text s) → (LineLacksRoom s (number-in text) (error-line-for text ((enter text s) .place .start)) → ⊥) → (e : Entered) → LineKept text s e → Switched text s e
+  no-room-there : T (can-keep? text s) → LineLacksRoom s (number-in text) (error-line-for text ((enter text s) .place .start)) → Switched text s (refusal 8 no-span s)
 
 -- Bytes written at the front of a buffer: they stand there, and every other byte is as it was
 pub record AtFront (written old new : List ℕ) : Type 0 where
@@ -302,9 +355,13 @@ pub record AtFront (written old new : List ℕ) : Type 0 where
   pub past : drop (length written) new ≡ drop (length written) old
   pub same-size : length new ≡ length old
 
--- a text that is typed changed nothing and added no name
-abbrev pub Unchanged : State → List ℕ → Typed → Type 0
-Unchanged s buffer e = (e .entered .after ≡ s) × (e .entered .added ≡ 0) × (e .line ≡ buffer)
+-- a text changed nothing and added no name
+abbrev pub Unchanged : State → Entered → Type 0
+Unchanged s e = (e .after ≡ s) × (e .added ≡ 0)
+
+-- what a refused text leaves: all as it was; or with the switch on its error line, the one refusal that changes anything (document 02, §9)
+abbrev pub RefusedLeaves : Bool → List ℕ → State → Entered → Type 0
+RefusedLeaves keep text s e = Unchanged s e ⊎ (T keep × LineKept text s e)
 
 -- The store is untouched: its bytes, how many are used, and the record's pair.
 pub record SameStore (s after : State) : Type 0 where
@@ -332,7 +389,7 @@ pub record LineMade (text : List ℕ) (s : State) (buffer : List ℕ) (e : Typed
   pub lawful : Lawful (items 0 text) tokens
   pub names : names-of (e .entered .after) ≡ names-with s tokens
   pub added : e .entered .added ≡ length new
-  pub kept : Kept s (e .entered .after) new
+  pub carried : Carried s (e .entered .after) new
   pub same-store : SameStore s (e .entered .after)
   pub well-formed : WellFormedDirect (names-of (e .entered .after)) (line-with s direct-number tokens)
   pub line : AtFront (line-with s direct-number tokens) buffer (e .line)
@@ -344,13 +401,12 @@ pub record Written (text output : List ℕ) (e : Listed) : Type 0 where
 
 -- ---- the record
 
--- A record that is reached from an empty one by calls, whatever they answer. An empty record has no bytes used and two zeros; nothing is asked of
+-- A record that is reached from an empty one by calls, with wrong lines kept or not, whatever they answer. An empty record has no bytes used and two zeros; nothing is asked of
 -- its tables.
 pub data Reached : State → Type 0 where
   empty-record : (s : State) → s .used ≡ 0 → s .line-count ≡ 0 → s .greatest ≡ 0 → Reached s
-  after-text : (text : List ℕ) (s : State) → Reached s → Reached ((enter text s) .after)
-  after-typed : (text : List ℕ) (s : State) (buffer : List ℕ) → Reached s → Reached ((typed text s buffer) .entered .after)
-  after-batch : (text : List ℕ) (s : State) → Reached s → Reached ((batch text s) .after)
+  after-typed : (keep : Bool) (text : List ℕ) (s : State) (buffer : List ℕ) → Reached s → Reached ((typed keep text s buffer) .entered .after)
+  after-batch : (keep : Bool) (text : List ℕ) (s : State) → Reached s → Reached ((batch keep text s) .after)
 
 -- ---- constants
 
@@ -387,9 +443,9 @@ pub record Parting (lines : List ℕ → List (List ℕ)) : Type 0 where
   pub last : (b : ℕ) (l : List ℕ) → T (every raw-byte? (b ∷ l)) → lines (b ∷ l) ≡ (b ∷ l) ∷ []
 
 -- Answers to lines, a line each: its number is exactly that of the first condition that holds of the line, over the state that the lines before it left.
-pub data EachExactly : List (List ℕ) → State → List Entered → Type 1 where
-  no-answer : (s : State) → EachExactly [] s []
-  answer-and : {l : List ℕ} {ls : List (List ℕ)} {s : State} {e : Entered} {es : List Entered} → Exactly (text-refusals l s) (e .number) → EachExactly ls (e .after) es → EachExactly (l ∷ ls) s (e ∷ es)
+pub data EachExactly (keep : Bool) : List (List ℕ) → State → List Entered → Type 1 where
+  no-answer : (s : State) → EachExactly keep [] s []
+  answer-and : {l : List ℕ} {ls : List (List ℕ)} {s : State} {e : Entered} {es : List Entered} → Exactly (text-refusals keep l s) (e .number) → EachExactly keep ls (e .after) es → EachExactly keep (l ∷ ls) s (e ∷ es)
 
 -- an answer that takes its line
 unfoldable pub takes? : Entered → Bool
