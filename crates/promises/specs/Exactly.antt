@@ -14,7 +14,7 @@ use Rattle.paper.specs.Tokens.{Token}
 use Rattle.paper.specs.Names.{most-names, name-bytes}
 use Rattle.paper.specs.Items.{Item, Span, no-span, items}
 use Rattle.paper.specs.Line.{line-number, lawful-number?}
-use Rattle.paper.specs.WellFormed.{Lawful, well-formed?}
+use Rattle.paper.specs.WellFormed.{Lawful}
 use Rattle.paper.specs.Errors.{listable?, line-listing}
 use Rattle.paper.specs.Store.{whole-line?, rising-above, rising, sound-lines, room, lines-not-below, first-is?, first-line, stored?, line-at, put-line}
 use Rattle.paper.specs.Calls.{State, names-of, lines-of, sound-state, Entered, refusal, Translated, tokens, refused-at, translate, lacks-room, unless-short, accept, answered, delete, numbered, too-great, only-blanks, unnumbered, head-of, at-head, enter-sound, enter, Listed, not-listed, listed-if, list-sound, list}

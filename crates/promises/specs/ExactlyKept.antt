@@ -1,19 +1,19 @@
 -- Exactly when each number is answered to a text that is entered with wrong lines kept (document 02, §9).
 use Prim.Native.Nat.{ℕ}
 use native.Mathlib.Omega.{arith}
-use mathlib.Core.Path.{_≡_, refl, subst, sym, ap}
+use mathlib.Core.Path.{_≡_, refl, subst, sym}
 use mathlib.Core.Bool.{Bool, true, false}
 use mathlib.Core.Logic.{_⊎_, inl, inr}
-use mathlib.Core.List.{List, [], _∷_}
+use mathlib.Core.List.{List}
 use lib.Dec.{T, eqb}
 use borrow.Author.Tests.{eqb-true, eqb-false, eq-eqb}
 use Rattle.paper.specs.Bytes.{pick, blank?, every}
 use Rattle.paper.specs.Tokens.{Token}
 use Rattle.paper.specs.Items.{Span, no-span}
 use Rattle.paper.specs.Errors.{keepable?}
-use Rattle.paper.specs.Calls.{State, Entered, refusal, enter, enter-with}
+use Rattle.paper.specs.Calls.{State, Entered, enter, enter-with}
 use Rattle.laws.specs.Tests.{and-right, and-both, as-T}
-use Rattle.promises.specs.Terms.{number-in, past-number, items-in, NoReading, FirstHolding, none-holds, this-holds, later-holds, Exactly, Unsound, TextTooLong, NoLineNumber, Unread, TooFar, Giving, LawfulItems, StoreLacksRoom, LineLacksRoom, error-line-for, KeptLacksRoom, entry-list, entry-refusals, kept-refusals, deletion-refusals, text-refusals, can-keep?, LineKept, Switched, as-without, kept-there, no-room-there}
+use Rattle.promises.specs.Terms.{number-in, past-number, items-in, FirstHolding, none-holds, this-holds, later-holds, Exactly, Unsound, TextTooLong, NoLineNumber, Unread, TooFar, Giving, LawfulItems, StoreLacksRoom, LineLacksRoom, error-line-for, KeptLacksRoom, entry-list, entry-refusals, kept-refusals, deletion-refusals, text-refusals, can-keep?, Switched, as-without, kept-there, no-room-there}
 use Rattle.promises.specs.Answers.{refused-is, place-four}
 use Rattle.promises.specs.OnePlace.{not-both, one-4}
 use Rattle.promises.specs.Tested.{exactly}

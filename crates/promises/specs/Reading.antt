@@ -3,10 +3,9 @@ use Prim.Native.Nat.{ℕ, suc, _≤_}
 use native.Mathlib.Omega.{arith}
 use mathlib.Core.Path.{_≡_, refl, subst, sym, ap, ap₂, _∙_}
 use mathlib.Core.Bool.{Bool, true, false, not, _&&_, _||_}
-use mathlib.Core.List.{List, [], _∷_, _++_, append-assoc, append-nil, map}
+use mathlib.Core.List.{List, [], _∷_, _++_, append-nil, map}
 use lib.Dec.{T, T-not, eqb, leb, ltb, eqb→eq, leb→le, leb·suc-suc}
-use lib.ListN.{length, take, getD, length-append}
-use lib.Seq.{take-append-seam}
+use lib.ListN.{length, getD}
 use borrow.Author.Tests.{eqb-true, ne-eqb, eq-eqb}
 use Rattle.paper.specs.Bytes.{pick, digit?, letter?, blank?, run, same, every, among}
 use Rattle.paper.specs.Classes.{line-end, raw-end, unfit, number, quoted, numeric-variable, string-variable, array, first-numeric, first-string, first-array, open-sign, equals, comparison, raw-text, remark, function-of-string, function-of-number, string-function, colon}
@@ -14,14 +13,14 @@ use Rattle.paper.specs.Words.{Word, word-of, statements, operators, reserved?}
 use Rattle.paper.specs.Tokens.{Token, statement, assigned, operator, variable, constant, string, raw, out-of-range, unreadable, class, operator-class, by-kind}
 use Rattle.paper.specs.Constants.{constant-text}
 use Rattle.paper.specs.Names.{name?, less-open, known?, number-of, sound-names, all-different}
-use Rattle.paper.specs.Items.{item, item-at, string-at, string-byte?, raw-byte?, opens, scan, raw-from, variable-at}
+use Rattle.paper.specs.Items.{item, item-at, string-byte?, raw-byte?, opens, scan, raw-from, variable-at}
 use Rattle.paper.specs.Listing.{token-text, operator-text, body-text}
 use Rattle.paper.specs.WellFormed.{right-token?}
 use Rattle.paper.specs.Open.{all-Bytes, all-Words, all-Listing}
 use Rattle.laws.specs.Tests.{and-left, and-right, is-true, is-false, or-else, as-T, and-both}
 use Rattle.laws.specs.Classes.{at-kind}
 use Rattle.laws.specs.Names.{same-eq}
-use Rattle.laws.specs.Runs.{All, all-every, run-all, seam}
+use Rattle.laws.specs.Runs.{All, all-every}
 use Rattle.promises.specs.ConstantText.{ends-number, constant-reads, constant-starts}
 use Rattle.promises.specs.Lists.{or-right}
 use Rattle.promises.specs.Given.{at-word, at-class}

@@ -16,7 +16,7 @@ use Rattle.paper.specs.WellFormed.{Lawful, Formed, WellFormed, WellFormedDirect
 use Rattle.paper.specs.Listing.{decimal}
 use Rattle.paper.specs.Errors.{marked-at, error-line, keepable?, error-line?, line-text, line-listing}
 use Rattle.paper.specs.Store.{greatest-number, sound-lines, room, stored?, line-at, overwritten}
-use Rattle.paper.specs.Calls.{State, names-of, lines-of, sound-state, Entered, refusal, enter, enter-with, Listed}
+use Rattle.paper.specs.Calls.{State, names-of, lines-of, sound-state, Entered, refusal, enter, Listed}
 use Rattle.paper.specs.Direct.{Typed, typed, line-in}
 use Rattle.paper.specs.Batch.{RefusedLine, none-refused, Batched, no-lines, batch}
 
