@@ -2,7 +2,7 @@
  * Prints the greatest stack that entering, a batch and the two listings take, and the text that took it.
  * Each call runs on a stack of its own that was painted before; what is no longer paint was used. Many texts
  * are entered, of 1 to 20 parts and of as many as fit in 120 bytes, each with its number, without, and as a
- * batch of one line, and the lines that come of them are listed.
+ * batch of one line, wrong lines are kept, and the lines that come of all this are listed.
  *
  *   stack [ENTER LIST]      status 1 where entering or a batch, or a listing, takes more bytes than that
  */
@@ -97,7 +97,7 @@ static void nothing(void)
 static void enter(void)
 {
     virgontey_enter((const uint8_t *)entered, strlen(entered), names, sizeof names, values, sizeof values,
-                    store, sizeof store, line, sizeof line, record, VIRGONTEY_RECORD_LENGTH, answer,
+                    store, sizeof store, line, sizeof line, 1, record, VIRGONTEY_RECORD_LENGTH, answer,
                     VIRGONTEY_ENTER_LENGTH);
 }
 
@@ -105,7 +105,7 @@ static void enter(void)
 static void batch(void)
 {
     virgontey_batch((const uint8_t *)entered, strlen(entered), names, sizeof names, values, sizeof values,
-                    store, sizeof store, record, VIRGONTEY_RECORD_LENGTH, answer, VIRGONTEY_BATCH_LENGTH);
+                    store, sizeof store, 1, record, VIRGONTEY_RECORD_LENGTH, answer, VIRGONTEY_BATCH_LENGTH);
 }
 
 /* Lists line 1. */
@@ -152,14 +152,14 @@ static void measure(void (*call)(void), struct most *most)
     }
 }
 
-/* Measures the entry of the text with its number and without, and then the listing of the line, if one can come of it. */
+/* Measures the entry of the text with its number and without, and then the listing of the line: of a wrong text, too,
+   one is kept, but not in the line buffer. */
 static void measure_both(int whole)
 {
     entered = text;
     measure(enter, &entering);
     measure(batch, &sending);
-    if (whole)
-        measure(list, &listing);
+    measure(list, &listing);
     entered = text + 1;
     measure(enter, &entering);
     if (whole)

@@ -23,13 +23,14 @@ enum Task {
     Replace(usize),
     ReplaceEqual(usize),
     ReplaceLonger(usize),
+    KeepWrong(usize),
     Delete(usize),
     List(usize),
     EnterOneByOne(usize),
     EnterWhole(usize),
 }
 
-const TASKS: [Task; 15] = [
+const TASKS: [Task; 17] = [
     Task::EnterAlone,
     Task::Enter(200),
     Task::Enter(2000),
@@ -37,6 +38,8 @@ const TASKS: [Task; 15] = [
     Task::Replace(2000),
     Task::ReplaceEqual(2000),
     Task::ReplaceLonger(2000),
+    Task::KeepWrong(200),
+    Task::KeepWrong(2000),
     Task::Delete(200),
     Task::Delete(2000),
     Task::List(200),
@@ -57,6 +60,7 @@ impl Task {
             | Task::Replace(lines)
             | Task::ReplaceEqual(lines)
             | Task::ReplaceLonger(lines)
+            | Task::KeepWrong(lines)
             | Task::Delete(lines)
             | Task::List(lines) => lines,
         }
@@ -69,6 +73,7 @@ impl Task {
             Task::Replace(lines) => format!("replace in {lines}"),
             Task::ReplaceEqual(lines) => format!("replace by an equal length in {lines}"),
             Task::ReplaceLonger(lines) => format!("replace by a longer line in {lines}"),
+            Task::KeepWrong(lines) => format!("keep a wrong line in {lines}"),
             Task::Delete(lines) => format!("delete from {lines}"),
             Task::List(lines) => format!("list of {lines}"),
             Task::EnterOneByOne(lines) => format!("{lines} lines one by one"),
@@ -81,6 +86,20 @@ impl Task {
         match self {
             Task::EnterOneByOne(lines) | Task::EnterWhole(lines) => lines,
             _ => CALLS,
+        }
+    }
+
+    /// Whether wrong lines are kept.
+    fn keep(self) -> bool {
+        matches!(self, Task::KeepWrong(_))
+    }
+
+    /// The number that each call answers.
+    fn number(self) -> usize {
+        if self.keep() {
+            4
+        } else {
+            0
         }
     }
 }
@@ -114,6 +133,12 @@ fn job(task: Task, names: usize) -> Job {
             // The line that stands there, as it is or with a statement more.
             Task::ReplaceEqual(_) => text(names, number, place(call)),
             Task::ReplaceLonger(_) => [text(names, number, place(call)), b":END".to_vec()].concat(),
+            // Between two lines: one of the nine statements that do not run to the text's end, and GOTO without
+            // its number.
+            Task::KeepWrong(_) => {
+                let right = text(names, number + 1 + call % 8, call % 9 * 3);
+                [right, b":GOTO".to_vec()].concat()
+            }
             Task::Delete(_) => number.to_string().into_bytes(),
             Task::List(_) => Vec::new(),
             Task::EnterOneByOne(_) | Task::EnterWhole(_) => text(names, call * STEP + STEP, call),
@@ -165,11 +190,12 @@ fn round<S: Side>(job: &Job) -> f64 {
                     &mut work.names,
                     &mut work.values,
                     &mut work.store,
+                    job.task.keep(),
                     &mut work.record,
                 )
             }
         };
-        assert_eq!(number, 0);
+        assert_eq!(number, job.task.number());
     }
     let time = start.elapsed();
     black_box(&work.store);
@@ -194,9 +220,10 @@ fn moved(job: &Job) -> f64 {
             &mut work.values,
             &mut work.store,
             &mut [],
+            job.task.keep(),
             &mut work.record,
         );
-        assert_eq!(answer.number, 0);
+        assert_eq!(answer.number, job.task.number());
         if work.record.used != used {
             sum += used - (at + old);
         }

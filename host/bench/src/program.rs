@@ -100,6 +100,7 @@ pub fn program(names: usize, lines: usize) -> Program {
             &mut program.values,
             &mut program.store,
             &mut [],
+            false,
             &mut program.record,
         );
         assert_eq!((answer.number, answer.added), (0, 0));

@@ -4,12 +4,13 @@ use reference::Record;
 
 /// An implementation that can be timed.
 pub trait Side {
-    /// Enters a text with a number and gives the answer's number.
+    /// Enters a text with a number and gives the answer's number; a wrong line is kept or not.
     fn enter(
         text: &[u8],
         names: &mut [u8],
         values: &mut [u8],
         store: &mut [u8],
+        keep: bool,
         record: &mut Record,
     ) -> usize;
 
@@ -43,9 +44,10 @@ impl Side for Reference {
         names: &mut [u8],
         values: &mut [u8],
         store: &mut [u8],
+        keep: bool,
         record: &mut Record,
     ) -> usize {
-        reference::enter(text, names, values, store, &mut [], record).number
+        reference::enter(text, names, values, store, &mut [], keep, record).number
     }
 
     #[inline(never)]
@@ -56,7 +58,7 @@ impl Side for Reference {
         store: &mut [u8],
         record: &mut Record,
     ) -> usize {
-        reference::batch(text, names, values, store, record).refused
+        reference::batch(text, names, values, store, false, record).refused
     }
 
     #[inline(never)]
@@ -85,10 +87,11 @@ impl Side for Library {
         names: &mut [u8],
         values: &mut [u8],
         store: &mut [u8],
+        keep: bool,
         record: &mut Record,
     ) -> usize {
         let mut lent = lend(record);
-        let answer = virgontey::enter(text, names, values, store, &mut [], &mut lent);
+        let answer = virgontey::enter(text, names, values, store, &mut [], keep, &mut lent);
         *record = given_back(&lent);
         answer.number
     }
@@ -102,7 +105,7 @@ impl Side for Library {
         record: &mut Record,
     ) -> usize {
         let mut lent = lend(record);
-        let answer = virgontey::batch(text, names, values, store, &mut lent);
+        let answer = virgontey::batch(text, names, values, store, false, &mut lent);
         *record = given_back(&lent);
         answer.refused
     }

@@ -32,6 +32,7 @@ impl Program {
             &mut self.values,
             &mut self.store,
             &mut [],
+            false,
             &mut self.record,
         );
         let _ = writeln!(

@@ -5,7 +5,7 @@ use std::collections::{BTreeMap, VecDeque};
 use protocol::{run_reference, Answer, Call, Names, Tables};
 use reference::{BatchAnswer, Record};
 
-use crate::lines::{any_line, change, spoil_buffer};
+use crate::lines::{any_line, change, error_line, error_text, spoil_buffer};
 use crate::random::Random;
 use crate::texts::{any_text, bulky_text, delete_text, lawful_text, new_name, spoil};
 use crate::texts::{has_number, take_number_off};
@@ -31,8 +31,8 @@ pub enum Promise {
     SameDirect(Vec<u8>),
     /// Many lines at once: this is what single calls in the same order add up to.
     OneByOne(Box<Answer>),
-    /// The line was just entered: it must list.
-    WellFormed,
+    /// The line was just entered, or kept: it must list.
+    Lists,
 }
 
 /// Makes cases without end, the same ones for the same seed.
@@ -151,22 +151,30 @@ impl Cases {
         text
     }
 
-    /// A remark whose line just fills the store, or is one byte shorter or longer.
+    /// A remark, or a wrong text, whose line, if it is kept, just fills the store, or is one byte shorter or longer.
     fn fitting_text(&mut self) -> Vec<u8> {
         let tables = &self.world.tables;
         let room = tables.store.len().min(65535);
         let free = room.saturating_sub(tables.record.used);
-        let length = (free + self.random.below(3)).saturating_sub(7);
+        // What stands before the filler, and how long the line is without that.
+        let kinds = [(" REM ", 6, b'F'), (" )", 8, b'F'), (" GOTO", 12, b' ')];
+        let (start, size, filler) = self.random.pick(&kinds);
+        let length = (free + self.random.below(3)).saturating_sub(size + 1);
         let mut text = self.random.below(32768).to_string().into_bytes();
-        text.extend(b" REM ");
-        text.resize(text.len() + length.min(110), b'F');
+        text.extend(start.bytes());
+        text.resize(text.len() + length.min(110), filler);
         text
     }
 
-    /// An entry over these tables, with a line buffer.
+    /// An entry over these tables, with a line buffer; a wrong line is kept half the time.
     fn entry(&mut self, text: Vec<u8>, tables: Tables) -> Call {
         let line = self.buffer_for(&text, &tables);
-        Call::Enter { text, tables, line }
+        Call::Enter {
+            text,
+            tables,
+            line,
+            keep: self.random.chance(50),
+        }
     }
 
     /// A line buffer for a text: of any length, mostly about that of the line if the text has no number.
@@ -192,21 +200,32 @@ impl Cases {
         buffer
     }
 
-    /// Enters a text; sometimes the world goes on from what it leaves.
+    /// Enters a text; sometimes the world goes on from what it leaves. What is kept is gone on from as what is taken.
     fn enter_case(&mut self) -> Case {
         let text = self.text();
         let direct = !has_number(&text);
         let call = self.entry(text, self.world.tables.clone());
         let case = self.case(call, Promise::None);
         if let Answer::Enter {
-            number: 0,
+            number,
             added,
             tables,
             line,
             ..
         } = &case.expected
         {
+            let refused = *number != 0;
+            if refused && *tables == self.world.tables {
+                return case;
+            }
             let (tables, line, added) = (tables.clone(), line.clone(), *added);
+            if !direct && self.random.chance(if refused { 40 } else { 10 }) {
+                // Just room for what it leaves, or one byte less or more.
+                let room = tables.record.used + self.random.below(3);
+                let call = with_room(&case.call, room.saturating_sub(1));
+                let tight = self.case(call, Promise::None);
+                self.waiting.push_back(tight);
+            }
             if self.random.chance(30) {
                 let out = self.random.bytes(1024);
                 let call = if direct {
@@ -220,7 +239,7 @@ impl Cases {
                     })
                 };
                 if let Some(call) = call {
-                    let mut listed = self.case(call, Promise::WellFormed);
+                    let mut listed = self.case(call, Promise::Lists);
                     listed.table = if added == 0 { self.table } else { 0 };
                     self.waiting.push_back(listed);
                 }
@@ -252,8 +271,9 @@ impl Cases {
 
     /// Many lines at once over these tables, with what single calls add up to.
     fn batch_over(&mut self, text: Vec<u8>, tables: Tables) -> Case {
-        let promise = Promise::OneByOne(Box::new(one_by_one(&text, tables.clone())));
-        self.case(Call::Batch { text, tables }, promise)
+        let keep = self.random.chance(50);
+        let promise = Promise::OneByOne(Box::new(one_by_one(&text, tables.clone(), keep)));
+        self.case(Call::Batch { text, tables, keep }, promise)
     }
 
     /// A text of many lines: texts of any kind, a program in rising order, or the program that is there. A line
@@ -353,15 +373,21 @@ impl Cases {
                     text: out[..*written].to_vec(),
                     tables,
                     line: self.stale_buffer(line.len() + spare),
+                    keep: self.random.chance(50),
                 };
-                let again = self.case(call, Promise::SameDirect(line));
+                let promise = match error_text(&line) {
+                    Some(_) => Promise::None,
+                    None => Promise::SameDirect(line),
+                };
+                let again = self.case(call, promise);
                 self.waiting.push_back(again);
             }
         }
         case
     }
 
-    /// A line buffer to list: what the last call left, a stored line, or one of a foreign hand, sometimes spoilt.
+    /// A line buffer to list: what the last call left, a stored line, or one of a foreign hand, sometimes spoilt. An
+    /// error line comes into it by a foreign hand alone.
     fn some_buffer(&mut self) -> Vec<u8> {
         let mut buffer = self.world.buffer.clone();
         if self.random.chance(70) {
@@ -369,8 +395,9 @@ impl Cases {
                 let random = &mut self.random;
                 let (line, other) = (&self.world.lines[&number], &self.world.lines[&other]);
                 buffer = match random.below(10) {
-                    0..=5 => line.clone(),
-                    6..=8 => change(random, line, other),
+                    0..=4 => line.clone(),
+                    5..=7 => change(random, line, other),
+                    8 => error_line(random, number),
                     _ => any_line(random, number),
                 };
                 buffer[..2].copy_from_slice(&DIRECT_HEAD);
@@ -406,10 +433,10 @@ impl Cases {
         };
         let other = self.stored_line().unwrap_or(line);
         let random = &mut self.random;
-        let new = if random.chance(90) {
-            change(random, &self.world.lines[&line], &self.world.lines[&other])
-        } else {
-            any_line(random, line)
+        let new = match random.below(10) {
+            0..=6 => change(random, &self.world.lines[&line], &self.world.lines[&other]),
+            7 | 8 => error_line(random, line),
+            _ => any_line(random, line),
         };
         let mut lines = self.world.lines.clone();
         lines.insert(line, new);
@@ -425,7 +452,8 @@ impl Cases {
         self.list_over(line, tables)
     }
 
-    /// Lists a line over these tables; a short listing is sometimes entered again.
+    /// Lists a line over these tables; a short listing is sometimes entered again, which gives the same line if it is
+    /// no error line.
     fn list_over(&mut self, number: usize, tables: Tables) -> Case {
         let room = self.out_room();
         let call = Call::List {
@@ -441,8 +469,12 @@ impl Cases {
         } = &case.expected
         {
             if *written <= 120 && self.random.chance(70) {
+                let promise = match error_text(&lines_of(&tables)[&number]) {
+                    Some(_) => Promise::None,
+                    None => Promise::SameLine,
+                };
                 let call = self.entry(out[..*written].to_vec(), tables);
-                let again = self.case(call, Promise::SameLine);
+                let again = self.case(call, promise);
                 self.waiting.push_back(again);
             }
         }
@@ -564,7 +596,7 @@ impl Cases {
         let record = tables.record;
         let name_bytes = record.name_bytes.min(tables.names.len());
         let values = record.name_count.saturating_mul(8);
-        match self.random.below(14) {
+        match self.random.below(15) {
             0 => tables.record.used = self.wrong_count(record.used),
             1 => tables.record.name_count = self.wrong_count(record.name_count),
             2 => tables.record.name_bytes = self.wrong_count(record.name_bytes),
@@ -583,6 +615,7 @@ impl Cases {
             }
             9 if record.name_count > 0 => self.rename(tables),
             10 if record.used > 0 => self.shorten_line(tables),
+            11 => self.add_above(tables),
             _ if record.used > 0 && tables.store.len() >= 3 => {
                 let heads = head_places(tables);
                 let head = heads[self.random.below(heads.len())];
@@ -610,6 +643,16 @@ impl Cases {
         }
         let spare = self.random.below(9);
         tables.store = lines.values().flatten().copied().collect();
+        tables.record.used = tables.store.len();
+        tables.store.extend(self.random.bytes(spare));
+    }
+
+    /// Gives the tables a store that ends with an error line whose number is above 32767.
+    fn add_above(&mut self, tables: &mut Tables) {
+        let number = self.random.pick(&[32768, 32769, 40000, 65535]);
+        let spare = self.random.below(9);
+        tables.store = self.world.lines.values().flatten().copied().collect();
+        tables.store.extend(error_line(&mut self.random, number));
         tables.record.used = tables.store.len();
         tables.store.extend(self.random.bytes(spare));
     }
@@ -649,9 +692,18 @@ fn show_call(line: Vec<u8>, tables: &Tables, out: Vec<u8>) -> Call {
     }
 }
 
+/// The same entry with a store of so many bytes, or as many as its lines take.
+fn with_room(entry: &Call, room: usize) -> Call {
+    let mut entry = entry.clone();
+    if let Call::Enter { tables, .. } = &mut entry {
+        tables.store.truncate(room.max(tables.record.used));
+    }
+    entry
+}
+
 /// What the lines of a text add up to by single calls in their order, going on after a refused one, where a line
 /// without a number is refused with 3 in 3's place.
-fn one_by_one(text: &[u8], mut tables: Tables) -> Answer {
+fn one_by_one(text: &[u8], mut tables: Tables, keep: bool) -> Answer {
     let mut answer = BatchAnswer::default();
     let mut lines: Vec<&[u8]> = text.split(|byte| *byte == 0x9B).collect();
     if lines.last().is_some_and(|line| line.is_empty()) {
@@ -665,6 +717,7 @@ fn one_by_one(text: &[u8], mut tables: Tables) -> Answer {
             text,
             tables,
             line: Vec::new(),
+            keep,
         };
         let Answer::Enter {
             number,
@@ -719,6 +772,7 @@ fn direct_length(text: &[u8], tables: &Tables) -> usize {
         text: text.to_vec(),
         tables: tables.clone(),
         line: vec![0; 255],
+        keep: false,
     };
     match run_reference(call) {
         Answer::Enter {
@@ -862,7 +916,7 @@ fn new_world(random: &mut Random) -> World {
         }
     }
 
-    // Lines come from texts entered one by one into an empty store.
+    // Lines come from texts entered one by one into an empty store, wrong ones too.
     let mut tables = Tables {
         names: stored_names(&names),
         values: random.bytes(1024),
@@ -882,9 +936,16 @@ fn new_world(random: &mut Random) -> World {
     for _ in 0..wanted {
         tables.record.used = 0;
         agree(&mut tables);
-        let text = lawful_text(random, &names);
-        let line = Vec::new();
-        let call = Call::Enter { text, tables, line };
+        let mut text = lawful_text(random, &names);
+        if random.chance(15) {
+            spoil(random, &mut text);
+        }
+        let call = Call::Enter {
+            text,
+            tables,
+            line: Vec::new(),
+            keep: true,
+        };
         let Answer::Enter { tables: left, .. } = run_reference(call) else {
             unreachable!("an entry is answered as an entry");
         };
@@ -922,7 +983,7 @@ fn new_world(random: &mut Random) -> World {
     world
 }
 
-/// Lets a foreign hand change a few lines.
+/// Lets a foreign hand change a few lines, or put error lines there.
 fn make_foreign(random: &mut Random, lines: &mut BTreeMap<usize, Vec<u8>>) {
     if lines.is_empty() || random.chance(50) {
         return;
@@ -931,7 +992,11 @@ fn make_foreign(random: &mut Random, lines: &mut BTreeMap<usize, Vec<u8>>) {
     for _ in 0..random.between(1, 4) {
         let number = numbers[random.below(numbers.len())];
         let other = numbers[random.below(numbers.len())];
-        let new = change(random, &lines[&number], &lines[&other]);
+        let new = if random.chance(25) {
+            error_line(random, number)
+        } else {
+            change(random, &lines[&number], &lines[&other])
+        };
         lines.insert(number, new);
     }
 }
@@ -958,5 +1023,120 @@ fn fill_with_remarks(random: &mut Random, lines: &mut BTreeMap<usize, Vec<u8>>) 
         let old = lines.insert(number, line).map_or(0, |line| line.len());
         total = total + length - old;
         number += 1;
+    }
+}
+
+#[cfg(test)]
+mod tests {
+    use super::*;
+
+    /// What a wrong line meets when wrong lines are kept.
+    #[derive(Default, Debug)]
+    struct Met {
+        just_fits: usize,
+        lacks_one_byte: usize,
+        end_at_place: usize,
+        end_elsewhere: usize,
+        escape_at_place: usize,
+        escape_elsewhere: usize,
+        replaces: usize,
+    }
+
+    impl Met {
+        /// Notes what this call meets, if it enters a numbered text that is refused with 4 where none is kept.
+        fn take(&mut self, case: &Case) {
+            let mut off = case.call.clone();
+            let Call::Enter { text, keep, .. } = &mut off else {
+                return;
+            };
+            if !std::mem::replace(keep, false) || !has_number(text) {
+                return;
+            }
+            let text = text.clone();
+            let Answer::Enter {
+                number: 4,
+                place,
+                tables: before,
+                ..
+            } = run_reference(off)
+            else {
+                return;
+            };
+            let Answer::Enter { number, tables, .. } = &case.expected else {
+                return;
+            };
+            let here = text.get(place).copied();
+            self.end_at_place += (here == Some(0x9B)) as usize;
+            self.end_elsewhere += (here != Some(0x9B) && text.contains(&0x9B)) as usize;
+            self.escape_at_place += (here == Some(0x1B)) as usize;
+            if text.contains(&0x9B) || here == Some(0x1B) {
+                return;
+            }
+            self.escape_elsewhere += text.contains(&0x1B) as usize;
+            let room = tables.store.len().min(65535);
+            let changed = tables.record != before.record;
+            self.just_fits += (*number == 4 && changed && tables.record.used == room) as usize;
+            let same_count = tables.record.lines == before.record.lines;
+            self.replaces += (*number == 4 && changed && same_count) as usize;
+            if *number == 8 {
+                let mut wider = case.call.clone();
+                if let Call::Enter { tables, .. } = &mut wider {
+                    tables.store.push(0);
+                }
+                self.lacks_one_byte += (run_reference(wider).number() == 4) as usize;
+            }
+        }
+    }
+
+    /// Wrong lines are met at the limits of what is kept.
+    #[test]
+    fn wrong_lines_at_their_limits() {
+        let mut met = Met::default();
+        for case in Cases::new(9, 1 << 63).take(10_000) {
+            met.take(&case);
+        }
+        let counts = [
+            met.just_fits,
+            met.lacks_one_byte,
+            met.end_at_place,
+            met.end_elsewhere,
+            met.escape_at_place,
+            met.escape_elsewhere,
+            met.replaces,
+        ];
+        assert!(counts.iter().all(|count| *count > 10), "{met:?}");
+    }
+
+    /// The bytes from the start of the line that a call lists, and whether they are in a line buffer.
+    fn listed_from(call: &Call) -> Option<(&[u8], bool)> {
+        match call {
+            Call::List { number, tables, .. } => {
+                let head = [*number as u8, (*number >> 8) as u8];
+                let places = head_places(tables).into_iter();
+                let mut lines = places.filter_map(|at| tables.store.get(at..));
+                lines.find(|line| line.starts_with(&head)).zip(Some(false))
+            }
+            Call::Show { line, .. } => Some((line, true)),
+            _ => None,
+        }
+    }
+
+    /// Lines of a statement 37 are listed, and refused with 10, from the store and from a line buffer.
+    #[test]
+    fn error_lines_well_made_and_damaged() {
+        let mut counts = [[0; 2]; 2];
+        for case in Cases::new(9, 1 << 63).take(10_000) {
+            let Some((line, buffer)) = listed_from(&case.call) else {
+                continue;
+            };
+            let number = case.expected.number();
+            if line.get(4) == Some(&0x37) && (number == 0 || number == 10) {
+                counts[buffer as usize][(number == 10) as usize] += 1;
+            }
+        }
+        assert!(
+            counts.as_flattened().iter().all(|count| *count > 10),
+            "{counts:?}"
+        );
     }
 }

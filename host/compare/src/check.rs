@@ -6,6 +6,7 @@ use protocol::{Answer, Call, Tables};
 use reference::BatchAnswer;
 
 use crate::cases::{Case, Promise};
+use crate::lines::error_text;
 use crate::texts::has_number;
 
 /// Keeps what the demands compare between calls.
@@ -27,6 +28,9 @@ pub struct Checker {
     pub batches: u64,
     pub batch_taken: u64,
     pub batch_refused: u64,
+    /// Wrong lines that were kept by single entry, and error lines that were listed.
+    pub kept: u64,
+    pub errors_listed: u64,
     /// Records that disagree with a store of lines end to end.
     pub disagreeing: u64,
 }
@@ -42,7 +46,12 @@ impl Checker {
         }
         match (&case.call, answer) {
             (
-                Call::Enter { text, tables, line },
+                Call::Enter {
+                    text,
+                    tables,
+                    line,
+                    keep,
+                },
                 Answer::Enter {
                     number,
                     place,
@@ -69,7 +78,11 @@ impl Checker {
                     !direct || !matches!(number, 3 | 9),
                     "a line without a number was refused as one with a number",
                 )?;
-                if *number != 0 {
+                if *keep && *number == 4 && keepable(text, *place) {
+                    self.kept += 1;
+                    require(*added == 0, "a refusal added names")?;
+                    check_kept(text, *place, tables, after)?;
+                } else if *number != 0 {
                     require(tables == after, "a refusal changed something")?;
                     require(*added == 0, "a refusal added names")?;
                 } else if direct {
@@ -99,10 +112,13 @@ impl Checker {
                 },
             ) => {
                 self.check_record(tables, *number)?;
-                let Some(listing) = check_output(case, *number, out, *written, after)? else {
+                let listing = check_output(case, *number, out, *written, after)?;
+                let line = find(tables, *asked);
+                self.check_error(line, *number, &format!("{asked} "), listing)?;
+                let Some(listing) = listing else {
                     return Ok(());
                 };
-                let Some(bytes) = find(tables, *asked) else {
+                let Some(bytes) = line else {
                     return Err("a line that is not there was listed".into());
                 };
                 self.check_listing(case.table, listing, bytes)
@@ -115,11 +131,14 @@ impl Checker {
                     out: after,
                 },
             ) => {
-                let Some(listing) = check_output(case, *number, out, *written, after)? else {
+                let listing = check_output(case, *number, out, *written, after)?;
+                let line = direct_line(line);
+                self.check_error(line, *number, "", listing)?;
+                let Some(listing) = listing else {
                     return Ok(());
                 };
                 self.shown += 1;
-                let Some(bytes) = direct_line(line) else {
+                let Some(bytes) = line else {
                     return Err("a line buffer without a line was listed".into());
                 };
                 require(
@@ -129,7 +148,7 @@ impl Checker {
                 self.check_listing(case.table, listing, bytes)
             }
             (
-                Call::Batch { text, tables },
+                Call::Batch { text, tables, keep },
                 Answer::Batch {
                     answer: found,
                     tables: after,
@@ -150,7 +169,8 @@ impl Checker {
                 }
                 self.check_record(tables, found.number)?;
                 check_batch(text, found)?;
-                if found.taken == 0 {
+                // Lines refused with 1 are never kept.
+                if found.taken == 0 && (!keep || found.number == 1) {
                     return require(tables == after, "refused lines changed something");
                 }
                 let Some(lines) = lines(after) else {
@@ -165,6 +185,29 @@ impl Checker {
             }
             _ => Err("an answer of the other kind".into()),
         }
+    }
+
+    /// The listing of an error line, if it has one: what stands before its statement, `ERROR-`, a blank and its text.
+    /// It is never refused with 10.
+    fn check_error(
+        &mut self,
+        line: Option<&[u8]>,
+        number: usize,
+        before: &str,
+        listing: Option<&[u8]>,
+    ) -> Result<(), String> {
+        let Some(text) = line.and_then(error_text) else {
+            return Ok(());
+        };
+        require(number != 10, "an error line was refused with 10")?;
+        let Some(listing) = listing else {
+            return Ok(());
+        };
+        self.errors_listed += 1;
+        require(
+            listing == [before.as_bytes(), b"ERROR- ", text].concat(),
+            "an error line lists otherwise",
+        )
     }
 
     /// A record that disagrees with the store is refused with 1.
@@ -336,7 +379,7 @@ fn check_output<'a>(
     }
     require(written == 0, "a refused listing wrote")?;
     require(
-        case.promise != Promise::WellFormed,
+        case.promise != Promise::Lists,
         "an entered line does not list",
     )?;
     Ok(None)
@@ -359,6 +402,36 @@ fn check_direct(
     require(
         counts(before) == counts(after),
         "the counts of the store changed",
+    )
+}
+
+/// Says whether a text that was refused with 4 at a place can be kept: it has a number and no 9B, and the place no 1B.
+fn keepable(text: &[u8], place: usize) -> bool {
+    has_number(text) && !text.contains(&0x9B) && text.get(place) != Some(&0x1B)
+}
+
+/// A wrong line that was kept: an edit of the store that puts in its number, then one statement 37 of the text after
+/// the number's digits, the byte at the place with its top bit flipped; names and values are as they were.
+fn check_kept(text: &[u8], place: usize, before: &Tables, after: &Tables) -> Result<(), String> {
+    check_edit(before, after)?;
+    check_names(before, after, 0)?;
+    let mut marked = text.to_vec();
+    if place == text.len() {
+        marked.push(b' ');
+    }
+    marked[place] ^= 0x80;
+    let blanks = text.iter().take_while(|byte| **byte == b' ').count();
+    let digits = text[blanks..].iter().take_while(|b| b.is_ascii_digit());
+    let (number, rest) = marked.split_at(blanks + digits.count());
+    let number = number[blanks..]
+        .iter()
+        .fold(0, |number, digit| 10 * number + (digit - b'0') as usize);
+    let length = (rest.len() + 6) as u8;
+    let head = [number as u8, (number >> 8) as u8, length, length, 0x37];
+    let line = [&head, rest, &[0x9B]].concat();
+    require(
+        find(after, number) == Some(&line),
+        "a wrong line was not kept as it is",
     )
 }
 

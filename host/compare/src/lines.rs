@@ -1,4 +1,4 @@
-//! Foreign token lines: well-formed ones joined, changed and cut.
+//! Foreign token lines: well-formed ones joined, changed and cut, and error lines, well-made and damaged.
 
 use crate::random::Random;
 
@@ -167,6 +167,59 @@ pub fn change(random: &mut Random, line: &[u8], other: &[u8]) -> Vec<u8> {
     new[1] = line[1];
     new[2] = new.len() as u8;
     new
+}
+
+/// The text of an error line: of one statement 37, length and offset right, with 9B only at its end. None: the line
+/// is none.
+pub fn error_text(line: &[u8]) -> Option<&[u8]> {
+    let end = line.len().checked_sub(1)?;
+    let text = line.get(5..end)?;
+    let head = line[2] as usize == line.len() && line[3] == line[2] && line[4] == 0x37;
+    (head && line[end] == 0x9B && !text.contains(&0x9B)).then_some(text)
+}
+
+/// An error line with this number, of a text of any kind; half the time with one thing wrong.
+pub fn error_line(random: &mut Random, number: usize) -> Vec<u8> {
+    let size = match random.below(10) {
+        0 => 0,
+        1 => random.between(1, 3),
+        2 => random.pick(&[0x9B - 6, 255 - 6, 255 - 7]),
+        _ => random.between(2, 40),
+    };
+    let mut line = vec![number as u8, (number >> 8) as u8, 0, 0, 0x37];
+    line.extend((0..size).map(|_| match random.byte() {
+        0x9B => 0x1B,
+        byte if byte < 0x60 => token_byte(random) & 0x7F,
+        byte => byte,
+    }));
+    line.push(0x9B);
+    let length = line.len() as u8;
+    (line[2], line[3]) = (length, length);
+    if random.chance(50) {
+        damage(random, &mut line);
+    }
+    line
+}
+
+/// Makes one thing wrong with an error line: its offset, a 9B in its text, its end, its token, a statement behind it.
+/// Its length stays right.
+fn damage(random: &mut Random, line: &mut [u8]) {
+    let last = line.len() - 1;
+    let length = line[3];
+    match random.below(8) {
+        0 => line[3] = random.pick(&[length.wrapping_sub(1), length.wrapping_add(1)]),
+        1 => line[3] = random.byte(),
+        2 if last > 5 => line[random.between(5, last - 1)] = 0x9B,
+        3 if last > 5 => line[random.pick(&[5, last - 1])] = 0x9B,
+        4 | 5 => line[last] = random.pick(&[0x16, 0x14, 0x1B, 0x00, 0x9A]),
+        6 => line[4] = random.pick(&[0x36, 0x38, 0x00, 0x01, 0xB7]),
+        _ => {
+            // It ends early, and another statement stands behind it.
+            let end = random.between(5, last);
+            line[end] = random.pick(&[0x9B, 0x14]);
+            line[3] = (end + 1) as u8;
+        }
+    }
 }
 
 /// Spoils a line buffer that holds a line: cut, another number or length, another byte, bytes behind it.

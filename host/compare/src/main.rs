@@ -182,6 +182,10 @@ impl Run {
             self.checker.batches, self.checker.batch_taken, self.checker.batch_refused
         );
         println!(
+            "  wrong lines kept: {}, error lines listed: {}",
+            self.checker.kept, self.checker.errors_listed
+        );
+        println!(
             "  records that disagree with the store: {}",
             self.checker.disagreeing
         );
@@ -216,6 +220,7 @@ mod tests {
         assert!(run.checker.entered_again > 0 && run.checker.listed_again > 0);
         assert!(run.checker.direct > 0 && run.checker.shown > 0 && run.checker.direct_again > 0);
         assert!(run.checker.batch_taken > 0 && run.checker.batch_refused > 0);
+        assert!(run.checker.kept > 0 && run.checker.errors_listed > 0);
         assert!(run.checker.disagreeing > 0);
     }
 }

@@ -23,6 +23,7 @@ pub fn through_library(call: &Call) -> Option<Answer> {
             text,
             mut tables,
             mut line,
+            keep,
         } => {
             let mut record = lend(&tables.record);
             let answer = virgontey::enter(
@@ -31,6 +32,7 @@ pub fn through_library(call: &Call) -> Option<Answer> {
                 &mut tables.values,
                 &mut tables.store,
                 &mut line,
+                keep,
                 &mut record,
             );
             tables.record = given_back(&record);
@@ -84,13 +86,18 @@ pub fn through_library(call: &Call) -> Option<Answer> {
                 out,
             }
         }
-        Call::Batch { text, mut tables } => {
+        Call::Batch {
+            text,
+            mut tables,
+            keep,
+        } => {
             let mut record = lend(&tables.record);
             let answer = virgontey::batch(
                 &text,
                 &mut tables.names,
                 &mut tables.values,
                 &mut tables.store,
+                keep,
                 &mut record,
             );
             tables.record = given_back(&record);

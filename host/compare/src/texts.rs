@@ -98,7 +98,8 @@ const JOINERS: [&str; 13] = [
     "^", "*", "+", "-", "/", "<=", "<>", ">=", "<", ">", "=", "OR", "AND",
 ];
 /// Bytes that mean something to the grammar.
-const ALPHABET: &[u8] = b"          ,,::;;##<<>>==^*+-/(((()))??$$\"\"..EEEAABZ0123456789\x9Ba\t!";
+const ALPHABET: &[u8] =
+    b"          ,,::;;##<<>>==^*+-/(((()))??$$\"\"..EEEAABZ0123456789\x9B\x1Ba\t!";
 
 /// What a name holds, by its last byte.
 #[derive(Clone, Copy, PartialEq, Eq)]
@@ -205,7 +206,7 @@ pub fn delete_text(random: &mut Random) -> Vec<u8> {
 pub fn spoil(random: &mut Random, text: &mut Vec<u8>) {
     for _ in 0..random.between(1, 3) {
         let place = random.below(text.len() + 1);
-        match random.below(10) {
+        match random.below(11) {
             0 if place < text.len() => {
                 text.remove(place);
             }
@@ -227,6 +228,8 @@ pub fn spoil(random: &mut Random, text: &mut Vec<u8>) {
                 text.drain(place..end);
             }
             7 | 8 => spoil_separator(random, text),
+            // What keeps a wrong line from being kept.
+            9 => text.insert(place, random.pick(&[0x1B, 0x9B])),
             _ => text.insert(place, random.byte()),
         }
     }

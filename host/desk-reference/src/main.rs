@@ -21,6 +21,7 @@ fn main() -> io::Result<()> {
             &mut values,
             &mut store,
             &mut line,
+            false,
             &mut record,
         );
         writeln!(

@@ -39,6 +39,8 @@ pub enum Call {
         text: Vec<u8>,
         tables: Tables,
         line: Vec<u8>,
+        /// Whether a wrong line is kept.
+        keep: bool,
     },
     List {
         number: usize,
@@ -54,6 +56,8 @@ pub enum Call {
     Batch {
         text: Vec<u8>,
         tables: Tables,
+        /// Whether wrong lines are kept.
+        keep: bool,
     },
 }
 
@@ -117,7 +121,13 @@ pub fn read_call(line: &[u8]) -> Option<Call> {
             let text = fields.bytes(MOST_TEXT)?;
             let tables = fields.tables()?;
             let line = fields.bytes(MOST_LINE)?;
-            Call::Enter { text, tables, line }
+            let keep = fields.switch()?;
+            Call::Enter {
+                text,
+                tables,
+                line,
+                keep,
+            }
         }
         b"list" => {
             let number = fields.number()?;
@@ -144,7 +154,8 @@ pub fn read_call(line: &[u8]) -> Option<Call> {
         b"batch" => {
             let text = fields.bytes(MOST_LINES_TEXT)?;
             let tables = fields.tables()?;
-            Call::Batch { text, tables }
+            let keep = fields.switch()?;
+            Call::Batch { text, tables, keep }
         }
         _ => return None,
     };
@@ -155,11 +166,17 @@ pub fn read_call(line: &[u8]) -> Option<Call> {
 pub fn write_call(call: &Call) -> Vec<u8> {
     let mut row = Row::default();
     match call {
-        Call::Enter { text, tables, line } => {
+        Call::Enter {
+            text,
+            tables,
+            line,
+            keep,
+        } => {
             row.word("enter");
             row.bytes(text);
             row.tables(tables);
             row.bytes(line);
+            row.switch(*keep);
         }
         Call::List {
             number,
@@ -183,10 +200,11 @@ pub fn write_call(call: &Call) -> Vec<u8> {
             row.bytes(values);
             row.bytes(out);
         }
-        Call::Batch { text, tables } => {
+        Call::Batch { text, tables, keep } => {
             row.word("batch");
             row.bytes(text);
             row.tables(tables);
+            row.switch(*keep);
         }
     }
     row.text
@@ -281,6 +299,7 @@ pub fn run_reference(call: Call) -> Answer {
             text,
             mut tables,
             mut line,
+            keep,
         } => {
             let answer = reference::enter(
                 &text,
@@ -288,6 +307,7 @@ pub fn run_reference(call: Call) -> Answer {
                 &mut tables.values,
                 &mut tables.store,
                 &mut line,
+                keep,
                 &mut tables.record,
             );
             Answer::Enter {
@@ -339,12 +359,17 @@ pub fn run_reference(call: Call) -> Answer {
                 out,
             }
         }
-        Call::Batch { text, mut tables } => {
+        Call::Batch {
+            text,
+            mut tables,
+            keep,
+        } => {
             let answer = reference::batch(
                 &text,
                 &mut tables.names,
                 &mut tables.values,
                 &mut tables.store,
+                keep,
                 &mut tables.record,
             );
             Answer::Batch { answer, tables }
@@ -408,6 +433,15 @@ impl<'a> Fields<'a> {
             }
         }
         Some(number as usize)
+    }
+
+    /// Takes a switch: 1 for on, 0 for off.
+    fn switch(&mut self) -> Option<bool> {
+        match self.number()? {
+            0 => Some(false),
+            1 => Some(true),
+            _ => None,
+        }
     }
 
     /// Takes bytes, at most so many.
@@ -504,6 +538,10 @@ impl Row {
         self.word(&number.to_string());
     }
 
+    fn switch(&mut self, on: bool) {
+        self.number(on as usize);
+    }
+
     fn bytes(&mut self, bytes: &[u8]) {
         if bytes.is_empty() {
             return self.word("-");
@@ -553,38 +591,47 @@ mod tests {
 
     #[test]
     fn lines_that_are_no_call() {
-        let bad: [&[u8]; 31] = [
+        let bad: [&[u8]; 40] = [
             b"",
             b" ",
             b"enter",
-            b"Enter 31 - 0 0 - - 0 0 0 -",
-            b"enter 3 - 0 0 - - 0 0 0 -",
-            b"enter 3g - 0 0 - - 0 0 0 -",
-            b"enter 3A - 0 0 - - 0 0 0 -",
-            b"enter  - 0 0 - - 0 0 0 -",
-            b"enter 31 - 0 0 - - 0 0 0",
-            b"enter 31 - 0 0 - - 0 0 0 ",
+            b"Enter 31 - 0 0 - - 0 0 0 - 0",
+            b"enter 3 - 0 0 - - 0 0 0 - 0",
+            b"enter 3g - 0 0 - - 0 0 0 - 0",
+            b"enter 3A - 0 0 - - 0 0 0 - 0",
+            b"enter  - 0 0 - - 0 0 0 - 0",
             b"enter 31 - 0 0 - - 0 0 0 0",
+            b"enter 31 - 0 0 - - 0 0 0  0",
+            b"enter 31 - 0 0 - - 0 0 0 0 0",
+            b"enter 31 - 0 0 - - 0 0 0 - - 0",
+            b"enter 31 - 0 0 - - 0 - 0",
+            b"enter 31 - 0 0 - - 0 0 - 0",
+            b"enter 31 - 0 0 - - 9223372036854775808 0 0 - 0",
+            b"enter 31 - 0 0 - - 0 0 9223372036854775808 - 0",
+            b"enter 31 - 0 0 - - +1 0 0 - 0",
+            b"enter 31 - 0 0 - - - 0 0 - 0",
+            b"enter 31 - 0 0 - - 0 - 0 - 0",
+            b"enter 31 - 0 0 - - 0 0 0 -",
+            b"enter 31 - 0 0 - - 0 0 0 - ",
+            b"enter 31 - 0 0 - - 0 0 0 - 2",
+            b"enter 31 - 0 0 - - 0 0 0 - 10",
             b"enter 31 - 0 0 - - 0 0 0 - -",
-            b"enter 31 - 0 0 - - 0 -",
-            b"enter 31 - 0 0 - - 0 0 -",
-            b"enter 31 - 0 0 - - 9223372036854775808 0 0 -",
-            b"enter 31 - 0 0 - - 0 0 9223372036854775808 -",
-            b"enter 31 - 0 0 - - +1 0 0 -",
-            b"enter 31 - 0 0 - - - 0 0 -",
-            b"enter 31 - 0 0 - - 0 - 0 -",
+            b"enter 31 - 0 0 - - 0 0 0 - 0 0",
             b"list 1 - 0 0 - - 0 -",
             b"list 1 - 0 0 - - 0 0 0",
             b"list 1 - 0 0 - - 0 0 0 - -",
-            b"enter 31 - 0 0 - - 0 0 0 -\r",
+            b"list 1 - 0 0 - - 0 0 0 - 0",
+            b"enter 31 - 0 0 - - 0 0 0 - 0\r",
             b"show - - 0 0 -",
             b"show - - 0 0 - - -",
             b"show - - 0 0 - - 0 0 0 -",
             b"show 1 - 0 0 - -",
             b"show 0 - 0 0 - -",
-            b"batch - - 0 0 - - 0 0",
+            b"batch - - 0 0 - - 0 0 0",
             b"batch - - 0 0 - - 0 0 0 -",
-            b"batch 9 - 0 0 - - 0 0 0",
+            b"batch - - 0 0 - - 0 0 0 2",
+            b"batch - - 0 0 - - 0 0 0 - 0",
+            b"batch 9 - 0 0 - - 0 0 0 0",
         ];
         for line in bad {
             assert_eq!(
@@ -594,12 +641,16 @@ mod tests {
                 String::from_utf8_lossy(line)
             );
         }
-        let long_text = ["enter ", &"30".repeat(MOST_TEXT + 1), " - 0 0 - - 0 0 0 -"];
+        let long_text = [
+            "enter ",
+            &"30".repeat(MOST_TEXT + 1),
+            " - 0 0 - - 0 0 0 - 0",
+        ];
         let long_line = ["show ", &"30".repeat(MOST_LINE + 1), " - 0 0 - -"];
         let long_lines = [
             "batch ",
             &"9b".repeat(MOST_LINES_TEXT + 1),
-            " - 0 0 - - 0 0 0",
+            " - 0 0 - - 0 0 0 0",
         ];
         for long in [long_text, long_line, long_lines] {
             assert_eq!(answer_line(long.concat().as_bytes()), b"bad");
@@ -616,16 +667,33 @@ mod tests {
     #[test]
     fn calls_are_answered() {
         answers(
-            "enter 313020454e44 - 0 0 - 00000000000000 0 0 0 ff",
+            "enter 313020454e44 - 0 0 - 00000000000000 0 0 0 ff 0",
             "0 0 0 0 6 1 10 0 0 - - 0a000606151600 ff",
         );
         answers(
-            "enter 3130 - 0 0 - 0a0006061516 6 1 11 -",
+            "enter 3130 - 0 0 - 0a0006061516 6 1 11 - 1",
             "1 0 0 0 6 1 11 0 0 - - 0a0006061516 -",
         );
         answers(
-            "enter 454e44 - 0 0 - 0a0006061516 6 1 10 ffffffffffffff",
+            "enter 454e44 - 0 0 - 0a0006061516 6 1 10 ffffffffffffff 1",
             "0 0 0 0 6 1 10 0 0 - - 0a0006061516 008006061516ff",
+        );
+        // A wrong line, kept and not.
+        answers(
+            "enter 31302029 - 0 0 - ffffffffffffffff 0 0 0 - 1",
+            "4 3 4 0 8 1 10 0 0 - - 0a0008083720a99b -",
+        );
+        answers(
+            "enter 31302029 - 0 0 - ffffffffffffffff 0 0 0 - 0",
+            "4 3 4 0 0 0 0 0 0 - - ffffffffffffffff -",
+        );
+        answers(
+            "list 10 - 0 0 - 0a0008083720a99b 8 1 10 ffffffffffffffffffffffffff",
+            "0 12 3130204552524f522d2020a9ff",
+        );
+        answers(
+            "batch 313020299b - 0 0 - ffffffffffffffff 0 0 0 1",
+            "0 1 4 3 4 1 8 1 10 0 0 - - 0a0008083720a99b",
         );
         answers(
             "list 10 - 0 0 - 0a0006061516 6 1 10 ffffffffffffffff",
@@ -635,20 +703,20 @@ mod tests {
         answers("show 008006061516ff - 0 0 - ffffffffff", "0 4 454e4420ff");
         answers("show - - 1 0 - -", "1 0 -");
         answers(
-            "batch 313020454e449b9b454e449b3130 - 0 0 - ffffffffffffff 0 0 0",
+            "batch 313020454e449b9b454e449b3130 - 0 0 - ffffffffffffff 0 0 0 0",
             "2 2 3 0 0 2 0 0 0 0 0 - - 0a0006061516ff",
         );
-        answers("batch - - 1 0 - - 7 0 0", "0 0 0 0 0 0 7 0 0 1 0 - - -");
+        answers("batch - - 1 0 - - 7 0 0 1", "0 0 0 0 0 0 7 0 0 1 0 - - -");
     }
 
     #[test]
     fn written_calls_and_answers_are_read_back() {
         for line in [
             "list 10 c1 1 1 0000000000000000 0a0006061516 6 1 10 ff",
-            "enter 313020413d31 ff 0 0 ffffffffffffffff - 0 2 3 -",
-            "enter 413d31 ff 0 0 ffffffffffffffff - 0 0 0 ffffffffffffffffffffffffffffffff",
+            "enter 313020413d31 ff 0 0 ffffffffffffffff - 0 2 3 - 0",
+            "enter 413d31 ff 0 0 ffffffffffffffff - 0 0 0 ffffffffffffffffffffffffffffffff 1",
             "show 0080060615160a c1 1 1 0000000000000000 ffffff",
-            "batch 3130204242429b323020413d31 ff 0 0 ffffffffffffffff ffffffffffffffffffffffffffffffff 0 0 0",
+            "batch 3130204242429b323020413d31 ff 0 0 ffffffffffffffff ffffffffffffffffffffffffffffffff 0 0 0 1",
         ] {
             let call = read_call(line.as_bytes()).unwrap();
             assert_eq!(write_call(&call), line.as_bytes());

@@ -55,6 +55,7 @@ pub unsafe extern "C" fn virgontey_enter(
     store_len: usize,
     line: *mut u8,
     line_len: usize,
+    keep: bool,
     record: *mut usize,
     record_len: usize,
     answer: *mut usize,
@@ -68,6 +69,7 @@ pub unsafe extern "C" fn virgontey_enter(
         lent_mut(values, values_len),
         lent_mut(store, store_len),
         lent_mut(line, line_len),
+        keep,
         &mut record,
     );
     write_record(&record, lent_record);
@@ -91,6 +93,7 @@ pub unsafe extern "C" fn virgontey_batch(
     values_len: usize,
     store: *mut u8,
     store_len: usize,
+    keep: bool,
     record: *mut usize,
     record_len: usize,
     answer: *mut usize,
@@ -103,6 +106,7 @@ pub unsafe extern "C" fn virgontey_batch(
         lent_mut(names, names_len),
         lent_mut(values, values_len),
         lent_mut(store, store_len),
+        keep,
         &mut record,
     );
     write_record(&record, lent_record);

@@ -7,6 +7,7 @@
 #![forbid(unsafe_code)]
 
 mod constants;
+mod errors;
 mod items;
 mod listing;
 mod program;
@@ -14,7 +15,7 @@ mod tables;
 mod translate;
 mod words;
 
-use listing::{spell_line, well_formed, Count, Write};
+use listing::{listable, spell_line, Count, Write};
 use program::Program;
 use tables::{find_line, line_length, line_number, values_sound, walk_store};
 use tables::{Names, Starts, Walk, DIRECT_LINE, SHORTEST_LINE};
@@ -68,17 +69,21 @@ pub struct ListAnswer {
 }
 
 /// Enters a text: inserts, replaces or deletes a line, or puts a text without a number into the line
-/// buffer. The record is updated if it is accepted.
+/// buffer. The record is updated if it is accepted. With `keep` a numbered line that is refused with 4 is
+/// stored as an error line, if it can be; the answer is still 4, or 8 where it does not fit.
 pub fn enter(
     text: &[u8],
     names: &mut [u8],
     values: &mut [u8],
     store: &mut [u8],
     line: &mut [u8],
+    keep: bool,
     record: &mut Record,
 ) -> EnterAnswer {
     let result = match sound_tables(names, values, store, record) {
-        Some(starts) => Program::new(names, values, store, record, starts).enter(text, Some(line)),
+        Some(starts) => {
+            Program::new(names, values, store, keep, record, starts).enter(text, Some(line))
+        }
         None => Err((1, 0, 0)),
     };
     let (number, place, end) = result.err().unwrap_or((0, 0, 0));
@@ -92,17 +97,18 @@ pub fn enter(
 }
 
 /// Enters a text of many lines, each ended by 9B, the last perhaps by the text's end: as if each were
-/// entered by itself, in this order, but that one without a number is refused with 3.
+/// entered by itself, in this order and with this switch, but that one without a number is refused with 3.
 pub fn batch(
     text: &[u8],
     names: &mut [u8],
     values: &mut [u8],
     store: &mut [u8],
+    keep: bool,
     record: &mut Record,
 ) -> BatchAnswer {
     let mut answer = BatchAnswer::default();
     let mut program = sound_tables(names, values, store, record)
-        .map(|starts| Program::new(names, values, store, record, starts));
+        .map(|starts| Program::new(names, values, store, keep, record, starts));
     let lines = text.split_inclusive(|byte| *byte == TEXT_END);
     for line in lines.map(|line| line.strip_suffix(&[TEXT_END]).unwrap_or(line)) {
         let result = match &mut program {
@@ -188,7 +194,7 @@ fn show_or_refuse(buffer: &[u8], table: &Names, out: &mut [u8]) -> Result<usize,
 
 /// Lists a line; gives the count of bytes written, or refusal 10 or 11.
 fn list_line(line: &[u8], table: &Names, out: &mut [u8]) -> Result<usize, usize> {
-    if !well_formed(line, table) {
+    if !listable(line, table) {
         return Err(10);
     }
     let mut count = Count(0);

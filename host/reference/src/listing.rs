@@ -1,14 +1,20 @@
-//! From a token line to text: the test that it is well-formed, then its spelling.
+//! From a token line to text: the test that it can be listed, then its spelling.
 
 use crate::constants::{is_constant, spell_constant, Constant};
+use crate::errors::error_text;
 use crate::tables::{line_number, Names, Variable, DIRECT_LINE};
 use crate::words::{
     function, function_use, is_string_comparison, joins_terms, operator, statement, FunctionUse,
     FUNCTION_WORDS, STATEMENT_WORDS, TEXT_END, WORD_OPERATORS,
 };
 
+/// Says whether a line can be listed: an error line, or one that is well-formed over this name table.
+pub fn listable(line: &[u8], names: &Names) -> bool {
+    error_text(line).is_some() || well_formed(line, names)
+}
+
 /// Says whether some lawful sequence of items gives this line over this name table.
-pub fn well_formed(line: &[u8], names: &Names) -> bool {
+fn well_formed(line: &[u8], names: &Names) -> bool {
     let mut walk = Walk { line, at: 3, names };
     walk.statements().is_some()
 }
@@ -439,13 +445,18 @@ impl Sink for Write<'_> {
     }
 }
 
-/// Spells a well-formed line. One that was entered without a number has none, and no blank before its
-/// first statement.
+/// Spells a line that can be listed. One that was entered without a number has none, and no blank before
+/// its first statement.
 pub fn spell_line(line: &[u8], names: &Names, sink: &mut impl Sink) {
     let number = line_number(line, 0);
     if number != DIRECT_LINE {
         spell_number(number, sink);
         sink.put(b" ");
+    }
+    if let Some(text) = error_text(line) {
+        sink.put(b"ERROR- ");
+        sink.put(text);
+        return;
     }
     let mut at = 3;
     while at < line.len() {

@@ -1,9 +1,10 @@
 //! Edits of a program whose tables, store and record were found sound.
 
+use crate::errors::error_line;
 use crate::items::skip_blanks;
 use crate::tables::{find_line, store_room, Place, Starts, Variable};
 use crate::tables::{DIRECT_LINE, MOST_NAMES, VALUE_SIZE};
-use crate::translate::{read_head, translate, Head, NewNames, Translation};
+use crate::translate::{read_head, translate, Head, NewNames, Refusal, Translation};
 use crate::translate::{LONGEST_LINE, LONGEST_TEXT};
 use crate::Record;
 
@@ -15,6 +16,8 @@ pub struct Program<'a> {
     names: &'a mut [u8],
     values: &'a mut [u8],
     store: &'a mut [u8],
+    /// Whether wrong lines are kept.
+    keep: bool,
     record: &'a mut Record,
     starts: Starts,
     /// Where the last edit was, and the number of the line before that place, 0 if there is none.
@@ -29,6 +32,7 @@ impl<'a> Program<'a> {
         names: &'a mut [u8],
         values: &'a mut [u8],
         store: &'a mut [u8],
+        keep: bool,
         record: &'a mut Record,
         starts: Starts,
     ) -> Program<'a> {
@@ -36,6 +40,7 @@ impl<'a> Program<'a> {
             names,
             values,
             store,
+            keep,
             record,
             starts,
             last_at: 0,
@@ -83,7 +88,8 @@ impl<'a> Program<'a> {
         find_line(self.store, used, number, from, before)
     }
 
-    /// Puts the line of a text's statements, from `from` on, where it belongs, and adds its new names.
+    /// Puts the line of a text's statements, from `from` on, where it belongs, and adds its new names. A wrong
+    /// one is kept if it can be.
     #[inline(always)]
     fn put(
         &mut self,
@@ -93,9 +99,15 @@ impl<'a> Program<'a> {
         goal: Goal,
     ) -> Result<usize, Refused> {
         let names = self.starts.over(self.names);
-        let translation = translate(text, from, number, &names)
-            .map_err(|refusal| (refusal.number as usize, refusal.place, refusal.end))?;
-        let Translation { line, new_names } = translation;
+        let Translation { line, new_names } = match translate(text, from, number, &names) {
+            Ok(translation) => translation,
+            Err(refusal) => {
+                if let Goal::Store(place) = goal {
+                    self.keep_wrong(text, from, number, &place, &refusal)?;
+                }
+                return Err((refusal.number as usize, refusal.place, refusal.end));
+            }
+        };
         if self.lacks_name_room(text, &new_names) {
             return Err((6, 0, 0));
         }
@@ -111,6 +123,25 @@ impl<'a> Program<'a> {
         }
         self.add_names(text, &new_names);
         Ok(new_names.count())
+    }
+
+    /// Puts a numbered text that was refused into the store as an error line, if wrong lines are kept, it was
+    /// refused with 4 and it can be kept. Gives refusal 8 where it does not fit.
+    fn keep_wrong(
+        &mut self,
+        text: &[u8],
+        from: usize,
+        number: usize,
+        place: &Place,
+        refusal: &Refusal,
+    ) -> Result<(), Refused> {
+        if !self.keep || refusal.number != 4 {
+            return Ok(());
+        }
+        match error_line(text, from, number, refusal.place) {
+            Some(line) => self.put_line(place, number, line.bytes()),
+            None => Ok(()),
+        }
     }
 
     /// Says whether new names would pass 128 or lack name or value room.

@@ -82,7 +82,7 @@ pub struct TokenLine {
 
 impl TokenLine {
     /// The head of a line, its length still open.
-    fn new(number: usize) -> TokenLine {
+    pub fn new(number: usize) -> TokenLine {
         let mut line = TokenLine {
             bytes: [0; 256],
             length: 0,
@@ -94,7 +94,7 @@ impl TokenLine {
     }
 
     /// Adds a byte.
-    fn put(&mut self, byte: u8) {
+    pub fn put(&mut self, byte: u8) {
         if self.length < self.bytes.len() {
             self.bytes[self.length] = byte;
         }
@@ -102,14 +102,14 @@ impl TokenLine {
     }
 
     /// Adds several bytes.
-    fn put_all(&mut self, bytes: &[u8]) {
+    pub fn put_all(&mut self, bytes: &[u8]) {
         for byte in bytes {
             self.put(*byte);
         }
     }
 
     /// Writes the present length at a place left open before.
-    fn close(&mut self, place: usize) {
+    pub fn close(&mut self, place: usize) {
         if place < self.bytes.len() {
             self.bytes[place] = self.length as u8;
         }

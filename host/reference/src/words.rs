@@ -113,6 +113,8 @@ pub mod statement {
     pub const PUT: u8 = 0x2A;
     /// LET without the word.
     pub const SILENT_LET: u8 = 0x36;
+    /// A wrong line that was kept.
+    pub const ERROR: u8 = 0x37;
 }
 
 /// Operator tokens, and the two marks of values that lie in the line itself.

@@ -525,3 +525,264 @@ fn whole_listings_over_full_or_unsound_tables() {
     let text = lines.collect::<Vec<_>>().join(&0x9B);
     assert_eq!(batch(&mut Desk::new(), &text), [128, 1, 6, 0, 0, 129]);
 }
+
+/// Over this desk with wrong lines kept, a text is refused with 4 at this item, and the store has these lines; names
+/// and values are as they were, and the pair is what a walk of the store finds.
+#[track_caller]
+fn stays(desk: Desk, text: &[u8], item: (usize, usize), lines: &str) {
+    let shown = String::from_utf8_lossy(text);
+    let (mut desk, before) = (desk.clone().keeping(), desk);
+    let answer = desk.enter(text);
+    assert_eq!(
+        (answer.number, answer.place, answer.end),
+        (4, item.0, item.1),
+        "{shown}"
+    );
+    assert_eq!((answer.added, answer.used), (0, desk.record.used));
+    assert_eq!(desk.hex(), lines, "{shown}");
+    let walked = desk::pair(&desk.store, desk.record.used);
+    assert_eq!(desk.pair(), walked, "{shown}");
+    let end = desk.record.used;
+    assert_eq!(desk.store[end..], before.store[end..], "{shown}");
+    assert_eq!(desk.names, before.names, "{shown}");
+    assert_eq!(desk.values, before.values, "{shown}");
+    assert_eq!(desk.line, before.line, "{shown}");
+}
+
+/// Over this desk with wrong lines kept, a text is refused as it is where none are, and nothing changes.
+#[track_caller]
+fn goes(desk: Desk, text: &[u8], number: usize) {
+    let shown = String::from_utf8_lossy(text);
+    let answer = desk.clone().enter(text);
+    assert_eq!(answer.number, number, "{shown}");
+    let mut keeping = desk.clone().keeping();
+    assert_eq!(keeping.enter(text), answer, "{shown}");
+    assert_eq!(keeping, desk.keeping(), "{shown}");
+}
+
+#[test]
+fn wrong_lines_are_kept() {
+    // At the text's end a byte A0 is added; else the byte at the place is flipped.
+    let goto = "1E 00 0C 0C 37 20 47 4F 54 4F A0 9B";
+    stays(Desk::new(), b"30 GOTO", (7, 7), goto);
+    stays(
+        Desk::new(),
+        b"30 GOTO  ",
+        (9, 9),
+        "1E 00 0E 0E 37 20 47 4F 54 4F 20 20 A0 9B",
+    );
+    // What stands before the number's end is left out; blanks after it are kept.
+    stays(Desk::new(), b"  0030 GOTO", (11, 11), goto);
+    stays(Desk::new(), b"30=", (2, 3), "1E 00 07 07 37 BD 9B");
+    stays(
+        Desk::new(),
+        b"20  A=)B",
+        (6, 7),
+        "14 00 0C 0C 37 20 20 41 3D A9 42 9B",
+    );
+    // Of an item of several bytes the first is flipped; a byte above 7F loses its top bit.
+    stays(
+        Desk::new(),
+        b"40 IF A BORC",
+        (8, 12),
+        "28 00 10 10 37 20 49 46 20 41 20 C2 4F 52 43 9B",
+    );
+    stays(
+        Desk::new(),
+        b"10 A=\xFF",
+        (5, 6),
+        "0A 00 0A 0A 37 20 41 3D 7F 9B",
+    );
+    // The longest text.
+    let mut text = b"1".to_vec();
+    text.resize(120, b'-');
+    let mut line = "01 00 7D 7D 37 AD".to_string();
+    line.push_str(&" 2D".repeat(118));
+    line.push_str(" 9B");
+    stays(Desk::new(), &text, (1, 2), &line);
+    let mut text = b"1 GOTO".to_vec();
+    text.resize(120, b' ');
+    let mut line = "01 00 7E 7E 37 20 47 4F 54 4F".to_string();
+    line.push_str(&" 20".repeat(114));
+    line.push_str(" A0 9B");
+    stays(Desk::new(), &text, (120, 120), &line);
+    // 1B is kept unless it stands at the place.
+    stays(
+        Desk::new(),
+        b"40 ) \x1B",
+        (3, 4),
+        "28 00 0A 0A 37 20 A9 20 1B 9B",
+    );
+    stays(
+        Desk::new(),
+        b"1 ?\"\x1B\")",
+        (6, 7),
+        "01 00 0C 0C 37 20 3F 22 1B 22 A9 9B",
+    );
+    goes(Desk::new(), b"40 A=\x1B", 4);
+    // 9B is nowhere.
+    for text in [
+        &b"1 ) \x9B"[..],
+        b"1 \x9B)",
+        b"1 ?\"\x9B\"",
+        b"1 REM \x9B",
+        b"1 A=\x9B",
+        b"1\x9B",
+    ] {
+        goes(Desk::new(), text, 4);
+    }
+    // Only 4 is kept, and only of a numbered line.
+    goes(Desk::new(), b"1 A=1E98", 5);
+    goes(Desk::new(), b"GOTO", 4);
+    goes(Desk::new(), b"32768 GOTO", 3);
+    goes(Desk::new(), b"1", 9);
+    goes(Desk::new(), &[b'1'; 121], 2);
+    goes(Desk::with_rooms(0, 0, 99), b"1 A=1", 6);
+    goes(Desk::with_rooms(9, 99, 13), b"1 A=1", 8);
+    let mut desk = Desk::new();
+    desk.record.lines = 1;
+    goes(desk, b"1 GOTO", 1);
+}
+
+#[test]
+fn kept_lines_among_others() {
+    // A kept line replaces the one that had its number, is replaced and deleted as any; the pair is kept.
+    let mut desk = Desk::new().keeping();
+    keeps(&mut desk, "10 A=1", 0, 1, 10);
+    keeps(&mut desk, "30 )", 4, 2, 30);
+    keeps(&mut desk, "10 GOTO", 4, 2, 30);
+    assert_eq!(desk.list(10), Ok("10 ERROR-  GOTO\u{A0}".into()));
+    keeps(&mut desk, "20 B=", 4, 3, 30);
+    keeps(&mut desk, "30 GOTO 10", 0, 3, 30);
+    keeps(&mut desk, "40 PRINT(", 4, 4, 40);
+    keeps(&mut desk, "40", 0, 3, 30);
+    keeps(&mut desk, "20", 0, 2, 30);
+    keeps(&mut desk, "10 END", 0, 2, 30);
+    assert_eq!(desk.list(10), Ok("10 END ".into()));
+    // It brings in no name.
+    assert_eq!(desk.names_hex(), "C1");
+    // 8 where it does not fit, in place of 4; the room of the line that it replaces is free.
+    let line = "0A 00 08 08 37 20 A9 9B";
+    stays(Desk::with_rooms(0, 0, 8), b"10 )", (3, 4), line);
+    let small = |room| {
+        let mut desk = Desk::with_rooms(0, 0, room);
+        assert_eq!(desk.enter(b"10 END").number, 0);
+        desk
+    };
+    stays(small(8), b"10 )", (3, 4), line);
+    let both = "0A 00 06 06 15 16 0B 00 08 08 37 20 A9 9B";
+    stays(small(14), b"11 )", (3, 4), both);
+    for (mut desk, text) in [
+        (Desk::with_rooms(0, 0, 7), &b"10 )"[..]),
+        (small(7), b"10 )"),
+        (small(13), b"11 )"),
+        (small(11), b"10 GOTO"),
+    ] {
+        desk.keep = true;
+        let before = desk.clone();
+        let answer = desk.enter(text);
+        assert_eq!((answer.number, answer.place, answer.end), (8, 0, 0));
+        assert_eq!((answer.added, answer.used), (0, before.record.used));
+        assert_eq!(desk, before);
+    }
+    // What cannot be kept is 4 even where it would not fit.
+    goes(Desk::with_rooms(0, 0, 0), b"10 A=\x1B", 4);
+    goes(Desk::with_rooms(0, 0, 0), b"10 ) \x9B", 4);
+    // Many lines at once: a kept one counts as refused.
+    let mut desk = Desk::with_rooms(9, 99, 40).keeping();
+    let text = b"10 )\x9B20 A=1\x9B\x9B30 GOTO\x9B20 B=\x9B40 PRINT A\x9BPRINT )\x9B10 END";
+    assert_eq!(batch(&mut desk, text), [3, 5, 4, 3, 4, 1]);
+    assert_eq!(desk.pair(), (4, 40));
+    assert_eq!(desk.names_hex(), "C1");
+    let mut desk = Desk::with_rooms(0, 0, 8).keeping();
+    assert_eq!(
+        batch(&mut desk, b"10 GOTO\x9B10 )\x9B10 END"),
+        [1, 2, 8, 0, 0, 1]
+    );
+}
+
+#[test]
+fn error_lines_are_listed() {
+    // The only line of a store, without names.
+    let listed = |line: &[u8]| {
+        let mut desk = Desk::with_rooms(0, 0, 0);
+        desk.store = line.to_vec();
+        let number = line[0] as usize + 256 * line[1] as usize;
+        desk.record.used = line.len();
+        (desk.record.lines, desk.record.greatest) = (1, number);
+        desk.list(number)
+    };
+    for (line, listing) in [
+        (
+            &b"\x1E\0\x0C\x0C7 GOTO\xA0\x9B"[..],
+            "30 ERROR-  GOTO\u{A0}",
+        ),
+        (b"\x0A\0\x07\x077A\x9B", "10 ERROR- A"),
+        (b"\x0A\0\x08\x087\x14\x16\x9B", "10 ERROR- \x14\x16"),
+        // No text; a number with a byte 9B.
+        (b"\0\0\x06\x067\x9B", "0 ERROR- "),
+        (b"\x9B\x1B\x06\x067\x9B", "7067 ERROR- "),
+    ] {
+        assert_eq!(listed(line), Ok(listing.into()));
+    }
+    // A length with a byte 9B, and the longest.
+    for length in [0x9B, 0xFF] {
+        let mut line = vec![10, 0, length, length, 0x37];
+        line.resize(length as usize - 1, b'"');
+        line.push(0x9B);
+        let quotes = "\"".repeat(length as usize - 6);
+        assert_eq!(listed(&line), Ok(format!("10 ERROR- {quotes}")));
+    }
+    // A wrong offset, 9B in the text, another end, another token, another statement before or behind it.
+    for line in [
+        &b"\x0A\0\x08\x077AB\x9B"[..],
+        b"\x0A\0\x08\x097AB\x9B",
+        b"\x0A\0\x08\x067AB\x9B",
+        b"\x0A\0\x08\x087\x9BB\x9B",
+        b"\x0A\0\x08\x087A\x9B\x9B",
+        b"\x0A\0\x08\x087AB\x16",
+        b"\x0A\0\x08\x087AB\x14",
+        b"\x0A\0\x08\x088AB\x9B",
+        b"\x0A\0\x08\x086AB\x9B",
+        b"\x0A\0\x09\x067\x9B\x09\x15\x16",
+        b"\x0A\0\x0A\x06\x15\x14\x0A7A\x9B",
+    ] {
+        assert_eq!(listed(line), Err(10), "{line:?}");
+    }
+    // A number above 32767 is lawful in a line buffer alone, and only 32768.
+    assert_eq!(listed(b"\0\x80\x07\x077A\x9B"), Err(1));
+    let shown = |line: &[u8]| {
+        let mut desk = Desk::with_rooms(0, 0, 0);
+        desk.line = line.to_vec();
+        desk.show()
+    };
+    assert_eq!(shown(b"\0\x80\x07\x077A\x9B\x9B"), Ok("ERROR- A".into()));
+    assert_eq!(shown(b"\0\x80\x06\x067\x9B"), Ok("ERROR- ".into()));
+    for line in [
+        &b"\x01\x80\x07\x077A\x9B"[..],
+        b"\x0A\0\x07\x077A\x9B",
+        b"\0\x80\x07\x067A\x9B",
+        b"\0\x80\x08\x087A\x9B",
+        b"\0\x80\x07\x077\x9B\x9B",
+        b"\0\x80\x05\x057\x9B",
+        b"\0\x80\x06\x067",
+    ] {
+        assert_eq!(shown(line), Err(10), "{line:?}");
+    }
+    // The output has to hold it.
+    let mut desk = Desk::new().keeping();
+    desk.enter(b"30 GOTO");
+    for room in 0..18 {
+        let mut out = vec![0xEE; room];
+        let lent = (&desk.names, &desk.values, &desk.store, &desk.record);
+        let answer = reference::list(30, lent.0, lent.1, lent.2, lent.3, &mut out);
+        if room < 16 {
+            assert_eq!((answer.number, answer.written), (11, 0));
+            assert!(out.iter().all(|byte| *byte == 0xEE));
+        } else {
+            assert_eq!((answer.number, answer.written), (0, 16));
+            assert_eq!(&out[..16], b"30 ERROR-  GOTO\xA0");
+            assert!(out[16..].iter().all(|byte| *byte == 0xEE));
+        }
+    }
+}

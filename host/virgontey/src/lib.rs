@@ -74,6 +74,7 @@ mod linked {
             store_len: usize,
             line: *mut u8,
             line_len: usize,
+            keep: bool,
             record: *mut usize,
             record_len: usize,
             answer: *mut usize,
@@ -117,6 +118,7 @@ mod linked {
             values_len: usize,
             store: *mut u8,
             store_len: usize,
+            keep: bool,
             record: *mut usize,
             record_len: usize,
             answer: *mut usize,
@@ -127,12 +129,18 @@ mod linked {
     /// Enters a text: inserts, replaces or deletes a line of the store, or puts a text without a number
     /// into the line buffer. The record is updated if it is accepted. An empty line buffer has room for
     /// no line: a text without a number is then refused with 8.
+    ///
+    /// With `keep` a numbered line that is refused with 4 stays in the program as an error line, over the
+    /// line that had its number: the answer is still 4, and `used` and the record are those with that line;
+    /// or it is 8, and nothing changes, where the line does not fit. A text that has 9B, or 1B at the place,
+    /// is not kept.
     pub fn enter(
         text: &[u8],
         names: &mut [u8],
         values: &mut [u8],
         store: &mut [u8],
         line: &mut [u8],
+        keep: bool,
         record: &mut Record,
     ) -> EnterAnswer {
         let mut counts = counts_of(record);
@@ -151,6 +159,7 @@ mod linked {
                 store.len(),
                 line.as_mut_ptr(),
                 line.len(),
+                keep,
                 counts.as_mut_ptr(),
                 counts.len(),
                 answer.as_mut_ptr(),
@@ -170,12 +179,14 @@ mod linked {
 
     /// Enters a text of many lines, each ended by 9B, the last perhaps by the text's end: as if each were
     /// entered by itself, in this order, but that one without a number is refused with 3. A refused line
-    /// changes nothing, and those after it are entered. The tables are tested once.
+    /// changes nothing unless it is kept, as `enter` keeps it, and those after it are entered. The tables are
+    /// tested once.
     pub fn batch(
         text: &[u8],
         names: &mut [u8],
         values: &mut [u8],
         store: &mut [u8],
+        keep: bool,
         record: &mut Record,
     ) -> BatchAnswer {
         let mut counts = counts_of(record);
@@ -191,6 +202,7 @@ mod linked {
                 values.len(),
                 store.as_mut_ptr(),
                 store.len(),
+                keep,
                 counts.as_mut_ptr(),
                 counts.len(),
                 answer.as_mut_ptr(),
@@ -317,6 +329,8 @@ mod linked {
             values: [u8; 8],
             store: [u8; 32],
             line: [u8; 16],
+            /// Whether wrong lines are kept.
+            keep: bool,
         }
 
         fn lent() -> Lent {
@@ -327,6 +341,15 @@ mod linked {
                 values: [0; 8],
                 store,
                 line: [0xEE; 16],
+                keep: false,
+            }
+        }
+
+        /// The same with wrong lines kept.
+        fn keeping() -> Lent {
+            Lent {
+                keep: true,
+                ..lent()
             }
         }
 
@@ -345,6 +368,7 @@ mod linked {
                     lent.store.len(),
                     lent.line.as_mut_ptr(),
                     lent.line.len(),
+                    lent.keep,
                     record.as_mut_ptr(),
                     record.len(),
                     answer.as_mut_ptr(),
@@ -366,6 +390,7 @@ mod linked {
                     lent.values.len(),
                     lent.store.as_mut_ptr(),
                     lent.store.len(),
+                    lent.keep,
                     record.as_mut_ptr(),
                     record.len(),
                     answer.as_mut_ptr(),
@@ -421,8 +446,8 @@ mod linked {
         #[test]
         fn a_record_that_lacks_a_count_is_refused() {
             for length in 0..5 {
-                for text in [&b"20 END"[..], b"END"] {
-                    let (mut lent, before) = (self::lent(), self::lent());
+                for text in [&b"20 END"[..], b"END", b"20 GOTO"] {
+                    let (mut lent, before) = (keeping(), keeping());
                     let mut record = ONE_LINE;
                     let mut answer = [OTHER; 5];
                     enter(text, &mut lent, &mut record[..length], &mut answer);
@@ -542,6 +567,7 @@ mod linked {
                     &mut lent.values,
                     &mut lent.store,
                     &mut [],
+                    false,
                     &mut record,
                 );
                 assert_eq!(answer.number, if refused { 4 } else { 0 });
@@ -579,6 +605,7 @@ mod linked {
                     &mut lent.values,
                     &mut lent.store[..0],
                     &mut line,
+                    true,
                     &mut record,
                 );
                 let fits = room >= 6;
@@ -606,6 +633,7 @@ mod linked {
                     &mut single.values,
                     &mut single.store,
                     &mut [],
+                    false,
                     &mut counts,
                 );
             }
@@ -614,6 +642,7 @@ mod linked {
                 &mut lent.names,
                 &mut lent.values,
                 &mut lent.store,
+                false,
                 &mut record,
             );
             let expected = BatchAnswer {
@@ -632,14 +661,61 @@ mod linked {
         }
 
         #[test]
+        fn a_wrong_line_is_kept_where_that_is_asked_for() {
+            let mut lent = keeping();
+            let mut record = ONE_LINE;
+            let mut answer = [OTHER; 5];
+            enter(b"30 GOTO", &mut lent, &mut record, &mut answer);
+            assert_eq!(answer, [4, 7, 7, 0, 18]);
+            assert_eq!(record, [0, 0, 18, 2, 30]);
+            assert_eq!(&lent.store[6..19], b"\x1E\0\x0C\x0C7 GOTO\xA0\x9B\0");
+            let counts = super::record_of(record);
+            let mut out = [0xEE; 17];
+            let answer = super::list(30, &[], &[], &lent.store, &counts, &mut out);
+            assert_eq!((answer.number, answer.written), (0, 16));
+            assert_eq!(&out, b"30 ERROR-  GOTO\xA0\xEE");
+
+            // 14 bytes are left: one more is too much, and what cannot be kept is refused with 4.
+            for (text, expected) in [
+                (&b"40 ) 345678"[..], [8, 0, 0, 0, 18]),
+                (b"40 )\x9B", [4, 3, 4, 0, 18]),
+                (b"40 \x1B", [4, 3, 4, 0, 18]),
+                (b"40 ) 34567", [4, 3, 4, 0, 32]),
+            ] {
+                let mut answer = [OTHER; 5];
+                enter(text, &mut lent, &mut record, &mut answer);
+                assert_eq!(answer, expected);
+                assert_eq!(record[2], expected[4]);
+            }
+            assert_eq!(record, [0, 0, 32, 3, 40]);
+
+            let mut lent = keeping();
+            let mut record = ONE_LINE;
+            let mut answer = [OTHER; 6];
+            batch(b"20 )\x9B10 (", &mut lent, &mut record, &mut answer);
+            assert_eq!(answer, [0, 2, 4, 3, 4, 1]);
+            assert_eq!(record, [0, 0, 16, 2, 20]);
+            let store = b"\x0A\0\x08\x087 \xA8\x9B\x14\0\x08\x087 \xA9\x9B\0";
+            assert_eq!(&lent.store[..17], store);
+        }
+
+        #[test]
+        fn an_error_line_in_a_line_buffer_is_listed_without_a_number() {
+            let mut out = [0xEE; 10];
+            let answer = super::show(b"\0\x80\x07\x077A\x9B", &[], 0, 0, &[], &mut out);
+            assert_eq!((answer.number, answer.written), (0, 8));
+            assert_eq!(&out, b"ERROR- A\xEE\xEE");
+        }
+
+        #[test]
         fn no_line_is_no_refusal() {
             let mut record = Record {
                 name_bytes: OTHER,
                 ..Record::default()
             };
-            let answer = super::batch(b"", &mut [], &mut [], &mut [], &mut record);
+            let answer = super::batch(b"", &mut [], &mut [], &mut [], true, &mut record);
             assert_eq!(answer, BatchAnswer::default());
-            let answer = super::batch(b"\x9B10 END", &mut [], &mut [], &mut [], &mut record);
+            let answer = super::batch(b"\x9B10 END", &mut [], &mut [], &mut [], true, &mut record);
             assert_eq!((answer.refused, answer.number, answer.line), (2, 1, 1));
         }
     }

@@ -9,6 +9,8 @@ pub struct Desk {
     pub values: Vec<u8>,
     pub store: Vec<u8>,
     pub line: Vec<u8>,
+    /// Whether wrong lines are kept.
+    pub keep: bool,
     pub record: Record,
 }
 
@@ -25,8 +27,14 @@ impl Desk {
             values: vec![0; values],
             store: vec![0; store],
             line: vec![0; 255],
+            keep: false,
             record: Record::default(),
         }
+    }
+
+    /// This desk with wrong lines kept.
+    pub fn keeping(self) -> Desk {
+        Desk { keep: true, ..self }
     }
 
     pub fn enter(&mut self, text: &[u8]) -> EnterAnswer {
@@ -36,6 +44,7 @@ impl Desk {
             &mut self.values,
             &mut self.store,
             &mut self.line,
+            self.keep,
             &mut self.record,
         )
     }
@@ -46,6 +55,7 @@ impl Desk {
             &mut self.names,
             &mut self.values,
             &mut self.store,
+            self.keep,
             &mut self.record,
         )
     }
@@ -99,13 +109,17 @@ impl Desk {
     }
 }
 
-/// The text that a listing wrote, or its refusal.
+/// The text that a listing wrote, a character for each byte, or its refusal.
 fn text_of(answer: ListAnswer, out: &[u8]) -> Result<String, usize> {
     if answer.number != 0 {
         assert_eq!(answer.written, 0);
         return Err(answer.number);
     }
-    Ok(String::from_utf8(out[..answer.written].to_vec()).unwrap())
+    Ok(out[..answer.written]
+        .iter()
+        .copied()
+        .map(char::from)
+        .collect())
 }
 
 /// How many lines begin in the used bytes of a store, and the greatest of their numbers, 0 if there are none.
