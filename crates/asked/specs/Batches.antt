@@ -2,7 +2,7 @@
 use Prim.Native.Nat.{ℕ, suc}
 use Prim.Native.String.{String}
 use mathlib.Core.Path.{_≡_, refl}
-use mathlib.Core.Bool.{Bool, _&&_}
+use mathlib.Core.Bool.{Bool, true, false, _&&_}
 use mathlib.Core.List.{List, [], _∷_, _++_}
 use lib.Dec.{eqb}
 use lib.ListN.{replicate}
@@ -30,17 +30,17 @@ unfoldable pub sends : List ℕ → State → ℕ → ℕ → ℕ → ℕ → �
 sends text over taken refused number place end line leaves =
     record { text = text; over = over; taken = taken; refused = refused; number = number; place = place; end = end; line = line; leaves = leaves }
 
--- the definitions give the answer
-unfoldable pub answers? : Sent → Bool
-answers? c =
-    let b = batch (c .text) (c .over) in
+-- the definitions give the answer, with wrong lines kept or not
+unfoldable pub answers? : Bool → Sent → Bool
+answers? keep c =
+    let b = batch keep (c .text) (c .over) in
     eqb (b .taken) (c .taken) && (eqb (b .refused) (c .refused) && (eqb (b .first .number) (c .number) && (eqb (b .first .place .start) (c .place)
     && (eqb (b .first .place .end) (c .end) && (eqb (b .first .line) (c .line) && same-state (b .after) (c .leaves))))))
 
 -- the places in a table, from i on, of the texts that they do not answer so
-unfoldable pub unanswered : ℕ → List Sent → List ℕ
-unanswered i [] = []
-unanswered i (c ∷ cs) = let more = unanswered (suc i) cs in pick (answers? c) more (i ∷ more)
+unfoldable pub unanswered : Bool → ℕ → List Sent → List ℕ
+unanswered keep i [] = []
+unanswered keep i (c ∷ cs) = let more = unanswered keep (suc i) cs in pick (answers? keep c) more (i ∷ more)
 
 -- lines, each with a 9B at its end
 unfoldable pub ended : List String → List ℕ
@@ -64,8 +64,8 @@ unfoldable pub unsound : State
 unsound = holding "C1 C1 00 00" 2 2 "00 00 00 00 00 00 00 00  00 00 00 00 00 00 00 00" "00 00 00 00 00 00 00 00 00 00 00 00" 0
 
 -- `10 END`, `20 CLR` and `30 POP` with room for one line more, under a record with this count of lines and this greatest number
-unfoldable pub kept-so : ℕ → ℕ → State
-kept-so lines greatest =
+unfoldable pub recorded-as : ℕ → ℕ → State
+recorded-as lines greatest =
     record { names = []; name-size = 0; name-count = 0; values = []; store = hex "0A 00 06 06 15 16  14 00 06 06 12 16  1E 00 06 06 27 16  00 00 00 00 00 00"; used = 18; line-count = lines; greatest = greatest }
 
 -- a text over what is refused as a whole: every line with 1
@@ -135,13 +135,29 @@ of-unsound =
     ∷ all-refused (padded 121 "X") unsound 1
     ∷ sends [] unsound 0 0 0 0 0 0 unsound
     -- so it is under a record that disagrees with the store, and not under one that agrees
-    ∷ all-refused (ended ("30" ∷ "40 END" ∷ [])) (kept-so 2 30) 2
-    ∷ all-refused (ended ("30" ∷ "40 END" ∷ [])) (kept-so 3 20) 2
-    ∷ sends (ended ("PRINT" ∷ "40 END" ∷ "50 END" ∷ [])) (kept-so 3 30) 1 2 3 0 0 1
+    ∷ all-refused (ended ("30" ∷ "40 END" ∷ [])) (recorded-as 2 30) 2
+    ∷ all-refused (ended ("30" ∷ "40 END" ∷ [])) (recorded-as 3 20) 2
+    ∷ sends (ended ("PRINT" ∷ "40 END" ∷ "50 END" ∷ [])) (recorded-as 3 30) 1 2 3 0 0 1
     (record { names = []; name-size = 0; name-count = 0; values = []; store = hex "0A 00 06 06 15 16  14 00 06 06 12 16  1E 00 06 06 27 16  28 00 06 06 15 16"; used = 24; line-count = 4; greatest = 40 })
     ∷ []
 
+-- With wrong lines kept (§9): one that is kept counts as refused, and may be the first; one that would not fit is 8, and one that is too far 5; a line that is kept
+-- takes the place of a good one, and a good line its place.
+unfoldable pub of-kept : List Sent
+of-kept =
+    sends (ended ("10 )" ∷ "20 END" ∷ [])) blank-state 1 1 4 3 4 1 (with-store "0A 00 08 08 37 20 A9 9B  14 00 06 06 15 16 00 00 00 00 00 00 00 00 00 00" 14)
+    ∷ sends (ended ("10 END" ∷ "10 )" ∷ "20 A=1E98" ∷ "A" ∷ [])) blank-state 1 3 4 3 4 2 (with-store "0A 00 08 08 37 20 A9 9B 00 00 00 00 00 00 00 00 00 00 00 00 00 00 00 00" 8)
+    ∷ sends (ended ("10 )" ∷ "10 END" ∷ "10" ∷ [])) blank-state 2 1 4 3 4 1 (with-store "0A 00 06 06 15 16 A9 9B 00 00 00 00 00 00 00 00 00 00 00 00 00 00 00 00" 0)
+    ∷ sends (ended ("10 CLR:CLR:CLR" ∷ "20 GOSUB" ∷ "30 )" ∷ [])) blank-state 1 2 8 0 0 2 (with-store "0A 00 0C 06 12 14 09 12 14 0C 12 16  1E 00 08 08 37 20 A9 9B 00 00 00 00" 20)
+    ∷ all-refused (ended ("30 )" ∷ "40 END" ∷ [])) (recorded-as 2 30) 2
+    ∷ []
+
 -- the definitions give each of them so
-pub batches : unanswered 0 (of-partings ++ of-answers ++ of-unsound) ≡ []
-unfolding everything sends answers? unanswered ended blank-state with-store holding unsound kept-so all-refused of-partings of-answers of-unsound roomy padded agreeing same-state
+pub batches : unanswered false 0 (of-partings ++ of-answers ++ of-unsound) ≡ []
+unfolding everything sends answers? unanswered ended blank-state with-store holding unsound recorded-as all-refused of-partings of-answers of-unsound roomy padded agreeing same-state
 batches = refl
+
+-- and with wrong lines kept
+pub batches-kept : unanswered true 0 of-kept ≡ []
+unfolding everything sends answers? unanswered ended blank-state with-store recorded-as all-refused of-kept roomy agreeing same-state
+batches-kept = refl

@@ -4,3 +4,4 @@ pub mod Pairs
 pub mod Typed
 pub mod Batches
 pub mod Devices
+pub mod Kept

@@ -1,12 +1,12 @@
 -- Calls with their whole answers, and the test that the definitions give them.
 use Prim.Native.Nat.{ℕ, suc}
-use mathlib.Core.Bool.{Bool, _&&_}
+use mathlib.Core.Bool.{Bool, true, false, _&&_}
 use mathlib.Core.List.{List, [], _∷_}
 use lib.Dec.{eqb}
 use lib.ListN.{length, take}
 use Rattle.paper.specs.Bytes.{pick, same}
 use Rattle.paper.specs.Store.{lines-in, greatest-number}
-use Rattle.paper.specs.Calls.{State, Entered, enter, Listed, list}
+use Rattle.paper.specs.Calls.{State, Entered, enter, enter-with, Listed, list}
 use Rattle.paper.specs.Direct.{typed, show}
 
 pub data Call : Type 0 where
@@ -18,6 +18,8 @@ pub data Call : Type 0 where
   types : List ℕ → State → List ℕ → ℕ → ℕ → ℕ → ℕ → State → List ℕ → Call
   -- a line buffer listed over the names and values of a state into a buffer; the answer's number and bytes written, and the buffer afterwards
   shows : List ℕ → State → List ℕ → ℕ → ℕ → List ℕ → Call
+  -- a text entered with wrong lines kept; the answer's number, place and its end, no name added, and the state afterwards
+  keeps : List ℕ → State → ℕ → ℕ → ℕ → State → Call
 
 -- names, their bytes and count, values, store and the bytes used; the count of lines and the greatest number are what a walk of the store finds
 unfoldable pub agreeing : List ℕ → ℕ → ℕ → List ℕ → List ℕ → ℕ → State
@@ -44,8 +46,9 @@ writes l number written after = eqb (l .number) number && (eqb (l .written) writ
 unfoldable pub meets : Call → Bool
 meets (enters text s number place end added after) = answers (enter text s) number place end added after
 meets (lists n s output number written after) = writes (list n s output) number written after
-meets (types text s buffer number place end added after line) = let e = typed text s buffer in answers (e .entered) number place end added after && same (e .line) line
+meets (types text s buffer number place end added after line) = let e = typed false text s buffer in answers (e .entered) number place end added after && same (e .line) line
 meets (shows buffer s output number written after) = writes (show buffer (s .names) (s .name-size) (s .name-count) (s .values) output) number written after
+meets (keeps text s number place end after) = answers (enter-with true text s) number place end 0 after
 
 -- the places in a table, from i on, of the calls that they do not meet
 unfoldable pub failing : ℕ → List Call → List ℕ
