@@ -1,12 +1,13 @@
 -- Bytes written one after the other: laws of `sets`.
 use Prim.Native.Nat.{ℕ, zero, suc, _+_, _≤_, _<_}
-use native.Mathlib.Nat.{add-zero, add-suc, suc-add}
+use native.Mathlib.Nat.{add-zero, zero-add, add-suc, suc-add}
 use native.Mathlib.Numerals.{add-one}
 use native.Mathlib.Omega.{arith}
 use mathlib.Core.Path.{_≡_, refl, sym, ap, _∙_}
 use mathlib.Core.List.{List, [], _∷_, _++_}
 use lib.ListN.{length, take, drop, getD, set, length-set, length-append}
 use lib.Seq.{sets, sets-eq, set-out, take-suc, take-append-le, take-length, length-take-le}
+use Rattle.paper.specs.Store.{overwritten}
 
 -- some bytes, and then others after them
 pub sets-append : (l : List ℕ) (i : ℕ) (a b : List ℕ) → sets l i (a ++ b) ≡ sets (sets l i a) (i + length a) b
@@ -47,3 +48,8 @@ written l n xs h =
 pub front : (l xs : List ℕ) → length xs ≤ length l → take (length xs) (sets l 0 xs) ≡ xs
 front l xs h =
     ap (take (length xs)) (sets-eq xs l 0 (omega arith)) ∙ take-append-le (length xs) xs (drop (0 + length xs) l) (omega arith) ∙ take-length xs
+
+-- bytes at the front of a buffer that has room for them
+pub overwrites : (buffer part : List ℕ) → length part ≤ length buffer → sets buffer 0 part ≡ overwritten part buffer
+unfolding overwritten
+overwrites buffer part h = sets-eq part buffer 0 (omega arith) ∙ ap (λ (k : ℕ). part ++ drop k buffer) (zero-add (length part))

@@ -15,7 +15,7 @@ use Rattle.paper.specs.Constants.{constant-text}
 use Rattle.paper.specs.Names.{names-in, less-open}
 use Rattle.paper.specs.Listing.{operator-text, token-text, body-text}
 use Rattle.paper.specs.Open.{all-Bytes, all-Words}
-use Rattle.buffers.specs.Sets.{sets-append, sets-out, sets-more}
+use Rattle.buffers.specs.Sets.{sets-out, sets-more}
 use Rattle.constant_text.specs.Texts.{six-here}
 use Rattle.constant_text.specs.Laws.{here-six}
 use Rattle.tokens.specs.Tables.{fixed-words, end-to-end, read-words}
@@ -33,6 +33,7 @@ use Rattle.list_pieces.specs.declared.Piece.{Piece}
 use Rattle.list_pieces.specs.declared.Piece.the-variants as Piece′
 use Rattle.list_pieces.specs.Pieces.{tokens-of-piece}
 use Rattle.list_text.specs.Texts.{piece-text, Writes}
+use Rattle.list_text.specs.InTurn.{then, as-text, one-text, writes-then}
 use Rattle.laws.specs.Classes.{word-passes}
 use Rattle.laws.specs.Names.{same-eq}
 use Rattle.laws.specs.Tests.{is-true}
@@ -81,24 +82,6 @@ statement-text names t = ap all-cleared (statement-spelling names t) ∙ same-eq
 pub operator-word : (names : List ℕ) (t : ℕ) → all-cleared (bytes-at fixed-words names (operator-part t)) ≡ (word-of operators t) .spelling
 unfolding clear-word?
 operator-word names t = ap all-cleared (operator-spelling names t) ∙ same-eq _ _ (is-true _ (word-passes clear-word? operators t clear-operators (clear-unknown t)))
-
--- ---- one text after another
-
-module _ {a : List ℕ} {n : ℕ} {old : List ℕ} {r : ℕ} {mid : List ℕ} (w : Writes a n old r mid) where
-  pub then : (b : List ℕ) {new : List ℕ} {k : ℕ} → new ≡ sets mid (n + r) b → k ≡ r + length b → Writes (a ++ b) n old k new
-  then b e f = record {
-    size = f ∙ ap (λ (z : ℕ). z + length b) (w .size) ∙ sym (length-append a b);
-    bytes = e ∙ ap₂ (λ (m : List ℕ) (z : ℕ). sets m (n + z) b) (w .bytes) (w .size) ∙ sym (sets-append old n a b);
-  }
-
-  pub as-text : {b : List ℕ} → a ≡ b → Writes b n old r mid
-  as-text e = record { size = w .size ∙ ap length e; bytes = w .bytes ∙ ap (sets old n) e }
-
-pub one-text : {b n : ℕ} {old new : List ℕ} → new ≡ set old n b → Writes (b ∷ []) n old 1 new
-one-text e = record { size = refl; bytes = e }
-
-pub writes-then : {a b : List ℕ} {n r s k : ℕ} {old mid new : List ℕ} → Writes a n old r mid → Writes b (n + r) mid s new → k ≡ r + s → Writes (a ++ b) n old k new
-writes-then {a} {b} {n} {r} w v e = then w b (v .bytes) (e ∙ ap (λ (z : ℕ). r + z) (v .size))
 
 -- ---- single tokens
 

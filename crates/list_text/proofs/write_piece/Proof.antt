@@ -3,7 +3,8 @@ use mathlib.Core.Path.{ap}
 use lib.ListN.{take, drop}
 use Rattle.paper.specs.Names.{names-in}
 use Rattle.list_pieces.specs.Pieces.{size-of}
-use Rattle.list_text.proofs.TextLaws.{as-text, word-piece, text-writes, target-piece, variable-piece, constant-writes, quoted-writes, operator-piece}
+use Rattle.list_text.specs.InTurn.{as-text}
+use Rattle.list_text.proofs.TextLaws.{word-piece, text-writes, target-piece, variable-piece, constant-writes, quoted-writes, operator-piece}
 use borrow.Author.Needs.{needs}
 use Rattle.list_text.proofs.write_piece.Statement.{statement}
 use Rattle.list_text.proofs.write_piece.Tie as tie
