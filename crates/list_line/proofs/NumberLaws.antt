@@ -1,13 +1,15 @@
--- The number that a line of a kind has, told by its two bytes; and what stands before a direct line's first statement.
-use Prim.Native.Nat.{ℕ, _+_, _*_, _<_}
+-- The number that a line of a kind has, told by its two bytes; and what stands at the front of a listing.
+use Prim.Native.Nat.{ℕ, zero, suc, _+_, _*_, _/_, _%_, _≤_, _<_}
 use native.Mathlib.Omega.{arith}
 use mathlib.Core.Path.{_≡_, refl, sym, _∙_}
 use mathlib.Core.Bool.{Bool, true, false}
-use mathlib.Core.List.{List}
+use mathlib.Core.List.{List, [], _∷_, _++_}
 use lib.Dec.{eqb, leb, ltb}
-use lib.ListN.{getD}
+use lib.ListN.{length, getD, length-append}
 use borrow.Author.Tests.{lt-leb, le-leb, eq-eqb, ne-eqb, ltb-true, ltb-false, eqb-true, eqb-false}
+use Rattle.paper.specs.Bytes.{blank, pick}
 use Rattle.paper.specs.Line.{line-number, lawful-number?, direct-number?}
+use Rattle.paper.specs.Listing.{decimal}
 use Rattle.list_text.specs.Texts.{Writes}
 use Rattle.list_line.specs.Listed.{lawful-for, head-for}
 
@@ -42,3 +44,17 @@ direct-head direct n out k = rw k (record { size = refl; bytes = refl })
 -- a stored line's with its number
 pub stored-head : (direct : Bool) (n : ℕ) (old new : List ℕ) (r : ℕ) → direct ≡ false → Writes (head-for false n) 0 old r new → Writes (head-for direct n) 0 old r new
 stored-head direct n old new r k w = rw k w
+
+decimal-short : (k n : ℕ) → length (decimal k n) ≤ k
+unfolding decimal
+decimal-short zero n = omega arith
+decimal-short (suc k) n = go (ltb n 10) (decimal-short k (n / 10))
+  where
+    go : (b : Bool) → length (decimal k (n / 10)) ≤ k → length (pick b ((48 + n) ∷ []) (decimal k (n / 10) ++ (48 + n % 10) ∷ [])) ≤ suc k
+    go true h = omega arith
+    go false h = omega (arith, length-append (decimal k (n / 10)) ((48 + n % 10) ∷ []))
+
+-- five digits and a blank at most
+pub head-short : (direct : Bool) (n : ℕ) → length (head-for direct n) ≤ 6
+head-short true n = omega arith
+head-short false n = omega (arith, length-append (decimal 5 n) (blank ∷ []), decimal-short 5 n)

@@ -1,6 +1,7 @@
 -- The two passes: what holds before each piece of a line.
 use Prim.Native.Nat.{ℕ, zero, suc, _+_, _-_, _*_, _≤_, _<_}
 use native.Mathlib.Omega.{arith}
+use native.Mathlib.Nat.{zero-add}
 use native.Mathlib.Numerals.{add-one}
 use mathlib.Core.Path.{_≡_, refl, subst, sym, ap, ap₂, _∙_}
 use mathlib.Core.Bool.{Bool, true, false, not}
@@ -8,20 +9,17 @@ use mathlib.Core.Logic.{_⊎_, inl, inr, ⊎-elim}
 use mathlib.Core.List.{List, [], _∷_, _++_, append-nil, append-assoc}
 use lib.Dec.{T, leb}
 use lib.ListN.{length, drop, getD, length-append, length-drop, drop-of-length-le}
-use lib.Seq.{sets, sets-eq, drop-drop}
-use borrow.Author.Tests.{le-leb, lt-leb, lt-ltb, le-ltb, leb-true, leb-false}
+use lib.Seq.{sets, drop-drop}
+use borrow.Author.Tests.{le-leb, lt-leb, leb-true, leb-false}
 use Rattle.paper.specs.Bytes.{blank, every}
 use Rattle.paper.specs.Tokens.{Token}
 use Rattle.paper.specs.Grammar.{start}
 use Rattle.paper.specs.Line.{line-number, token-bytes, to-next, tokens-from, line-tokens}
 use Rattle.paper.specs.WellFormed.{formed?}
 use Rattle.paper.specs.Listing.{decimal, token-text, body-text, listing-text, listing, direct-listing}
-use Rattle.paper.specs.Store.{overwritten}
-use Rattle.paper.specs.Calls.{not-listed, listed-if}
 use Rattle.laws.specs.Tests.{is-true, as-T}
 use Rattle.buffers.specs.Sets.{sets-append}
 use Rattle.list_pieces.specs.declared.Piece.{Piece}
-use Rattle.list_line.specs.declared.Outcome.the-variants as Outcome′
 use Rattle.list_line.specs.declared.first.Measure.{Measure}
 use Rattle.list_line.specs.declared.first.Measure.the-variants as Measure′
 use Rattle.list_pieces.specs.Pieces.{piece-at, tokens-of-piece, size-of, end-after, Holds}
@@ -29,7 +27,8 @@ use Rattle.list_pieces.specs.Rest.{Takes, Written, Rest, Whole, Head}
 use Rattle.grammar.specs.Stack.{stack}
 use Rattle.list_check.specs.Passes.{Onward}
 use Rattle.list_text.specs.Texts.{piece-text, Writes}
-use Rattle.list_line.specs.Listed.{lawful-for, listing-for, head-for, capped, found, measured, answer, lists}
+use Rattle.list_text.specs.InTurn.{then, as-text}
+use Rattle.list_line.specs.Listed.{lawful-for, formed-listing, head-for, capped, found, measured}
 use Rattle.list_pieces.specs.WellFormed.{passes-whole, whole-passes}
 use Rattle.list_pieces.specs.Decoded.{pieces}
 use Rattle.list_pieces.specs.RestLaws.{later, written-here}
@@ -88,7 +87,7 @@ text-first ns l at end c h e =
     ∙ body-append (tokens-of-piece ns (drop at l) c) (later ns at end (drop at l) c)
     ∙ ap (λ (z : List ℕ). body-text (tokens-of-piece ns (drop at l) c) ++ body-text (tokens-from ns 0 (at + size-of c) (end-after end (drop at l) c) z)) m
 
-head-listing : (direct : Bool) (ns : List (List ℕ)) (l : List ℕ) → head-for direct (line-number l) ++ body-text (tokens-at ns l 3 3) ≡ listing-for direct ns l
+head-listing : (direct : Bool) (ns : List (List ℕ)) (l : List ℕ) → head-for direct (line-number l) ++ body-text (tokens-at ns l 3 3) ≡ formed-listing direct ns l
 unfolding listing listing-text direct-listing line-tokens
 head-listing true ns l = refl
 head-listing false ns l = append-assoc (decimal 5 (line-number l)) (blank ∷ []) (body-text (tokens-at ns l 3 3))
@@ -101,7 +100,7 @@ not-formed false n = refl
 
 not-measured : (direct : Bool) (ns : List (List ℕ)) (l : List ℕ) (room : ℕ) → (T (formed? (lawful-for direct) ns l) → ⊥) → Measure′.NotWellFormed ≡ measured direct ns l room
 unfolding measured found
-not-measured direct ns l room n = sym (ap (λ (b : Bool). found b (capped room (length (listing-for direct ns l)))) (not-formed (formed? (lawful-for direct) ns l) n))
+not-measured direct ns l room n = sym (ap (λ (b : Bool). found b (capped room (length (formed-listing direct ns l)))) (not-formed (formed? (lawful-for direct) ns l) n))
 
 -- ---- the first pass
 
@@ -113,7 +112,7 @@ pub record Measuring (direct : Bool) (ns : List (List ℕ)) (l : List ℕ) (room
   pub up : Rest ns (stack frames depth) at end (drop at l) → T (formed? (lawful-for direct) ns l)
   pub before : ℕ
   pub count : total ≡ capped room before
-  pub sum : before + length (body-text (tokens-at ns l at end)) ≡ length (listing-for direct ns l)
+  pub sum : before + length (body-text (tokens-at ns l at end)) ≡ length (formed-listing direct ns l)
 
 one-frame : (frames : List ℕ) → getD frames 0 0 ≡ 0 → stack frames 1 ≡ start
 unfolding stack start
@@ -186,8 +185,8 @@ module _ {direct : Bool} {ns : List (List ℕ)} {l : List ℕ} {room : ℕ} {fra
       let r : Rest ns (stack frames depth) at end (drop at l) = subst (λ (fs : List ℕ). Rest ns fs at end (drop at l)) (sym s) (subst (Rest ns [] at end) (sym (ended h)) (nothing-left (sym e))) in
       let t : formed? (lawful-for direct) ns l ≡ true = is-true (formed? (lawful-for direct) ns l) (m .up r) in
       let z : body-text (tokens-at ns l at end) ≡ [] = ap (λ (u : List ℕ). body-text (tokens-from ns 0 at end u)) (ended h) in
-      let k : m .before ≡ length (listing-for direct ns l) = omega (arith, m .sum, ap length z) in
-      ap Measure′.Length (m .count ∙ ap (capped room) k) ∙ sym (ap (λ (b : Bool). found b (capped room (length (listing-for direct ns l)))) t)
+      let k : m .before ≡ length (formed-listing direct ns l) = omega (arith, m .sum, ap length z) in
+      ap Measure′.Length (m .count ∙ ap (capped room) k) ∙ sym (ap (λ (b : Bool). found b (capped room (length (formed-listing direct ns l)))) t)
 
 -- ---- a line whose head is not right
 
@@ -284,14 +283,13 @@ module _ {ns : List (List ℕ)} {l old : List ℕ} {n₀ at end n : ℕ} {out : 
       let z : body-text (tokens-at ns l at end) ≡ [] = ap (λ (u : List ℕ). body-text (tokens-from ns 0 at end u)) (drop-of-length-le l h) in
       m .bytes ∙ ap (sets old n₀) (sym (append-nil (m .text)) ∙ ap (λ (u : List ℕ). m .text ++ u) (sym z) ∙ m .whole)
 
-  pub writing-done : (direct : Bool) {first : List ℕ} → Writes (head-for direct (line-number l)) 0 first n₀ old → length l ≤ at → out ≡ sets first 0 (listing-for direct ns l)
-  writing-done direct {first} w h =
-      let z : n₀ ≡ 0 + length (head-for direct (line-number l)) = omega (arith, w .size) in
-      writing-body h ∙ ap₂ (λ (o : List ℕ) (i : ℕ). sets o i (body-text (tokens-at ns l 3 3))) (w .bytes) z
-      ∙ sym (sets-append first 0 (head-for direct (line-number l)) (body-text (tokens-at ns l 3 3))) ∙ ap (sets first 0) (head-listing direct ns l)
+  pub writing-done : (direct : Bool) {first : List ℕ} → Writes (head-for direct (line-number l)) 0 first n₀ old → length l ≤ at → out ≡ sets first 0 (formed-listing direct ns l)
+  writing-done direct w h =
+      let body : List ℕ = body-text (tokens-at ns l 3 3) in
+      as-text (then w body (writing-body h ∙ ap (λ (i : ℕ). sets old i body) (sym (zero-add n₀))) refl) (head-listing direct ns l) .bytes
 
 -- the text of all pieces fits after the head where the listing fits
-pub body-fits : (direct : Bool) (ns : List (List ℕ)) (l : List ℕ) {first old : List ℕ} {n : ℕ} → Writes (head-for direct (line-number l)) 0 first n old → length old ≡ length first → length (listing-for direct ns l) ≤ length first
+pub body-fits : (direct : Bool) (ns : List (List ℕ)) (l : List ℕ) {first old : List ℕ} {n : ℕ} → Writes (head-for direct (line-number l)) 0 first n old → length old ≡ length first → length (formed-listing direct ns l) ≤ length first
     → n + length (body-text (tokens-at ns l 3 3)) ≤ length old
 body-fits direct ns l w e h = omega (arith, w .size, ap length (head-listing direct ns l), length-append (head-for direct (line-number l)) (body-text (tokens-at ns l 3 3)))
 
@@ -300,7 +298,7 @@ body-fits direct ns l w e h = omega (arith, w .size, ap length (head-listing dir
 -- what the first pass says of the line and of the length of its listing
 pub record Says (direct : Bool) (ns : List (List ℕ)) (l : List ℕ) (room n : ℕ) : Type 0 where
   pub formed : formed? (lawful-for direct) ns l ≡ true
-  pub count : n ≡ capped room (length (listing-for direct ns l))
+  pub count : n ≡ capped room (length (formed-listing direct ns l))
 
 found-length : (b : Bool) (k n : ℕ) → found b k ≡ Measure′.Length n → (b ≡ true) × (n ≡ k)
 unfolding found
@@ -315,40 +313,18 @@ found-none false k e = refl
 pub says-length : {direct : Bool} {ns : List (List ℕ)} {l : List ℕ} {room n : ℕ} {r : Measure} → r ≡ measured direct ns l room → r ≡ Measure′.Length n → Says direct ns l room n
 unfolding measured
 says-length {direct} {ns} {l} {room} {n} e f =
-    let w = found-length (formed? (lawful-for direct) ns l) (capped room (length (listing-for direct ns l))) n (sym e ∙ f) in
+    let w = found-length (formed? (lawful-for direct) ns l) (capped room (length (formed-listing direct ns l))) n (sym e ∙ f) in
     record { formed = w .0; count = w .1 }
 
 -- a line that is found not to be well-formed
 pub says-none : (direct : Bool) (ns : List (List ℕ)) (l : List ℕ) (room : ℕ) {r : Measure} → r ≡ measured direct ns l room → r ≡ Measure′.NotWellFormed → formed? (lawful-for direct) ns l ≡ false
 unfolding measured
-says-none direct ns l room e f = found-none (formed? (lawful-for direct) ns l) (capped room (length (listing-for direct ns l))) (sym e ∙ f)
+says-none direct ns l room e f = found-none (formed? (lawful-for direct) ns l) (capped room (length (formed-listing direct ns l))) (sym e ∙ f)
 
--- not well-formed
-pub lists-not : (direct : Bool) (ns : List (List ℕ)) (l out : List ℕ) (room : ℕ) {r : Measure} → r ≡ measured direct ns l room → r ≡ Measure′.NotWellFormed → answer Outcome′.NotWellFormed out ≡ lists direct ns l out
-unfolding measured answer listed-if not-listed
-lists-not direct ns l out room e f = rw (says-none direct ns l room e f)
-
--- longer than the buffer
-pub lists-long : (direct : Bool) (ns : List (List ℕ)) (l out : List ℕ) (n : ℕ) → Says direct ns l (length out) n → length out < n → answer Outcome′.TooLong out ≡ lists direct ns l out
-unfolding answer listed-if not-listed
-lists-long direct ns l out n s h =
-    let k : length out < length (listing-for direct ns l) = ⊎-elim (λ w. omega (arith, s .count, w .0)) (λ w. w .1) (capped-go (length out) (length (listing-for direct ns l)) (leb (length (listing-for direct ns l)) (length out)) refl) in
-    rw (s .formed, lt-ltb (length out) (length (listing-for direct ns l)) k)
+-- longer than the room
+pub lists-long : (direct : Bool) (ns : List (List ℕ)) (l : List ℕ) (room n : ℕ) → Says direct ns l room n → room < n → room < length (formed-listing direct ns l)
+lists-long direct ns l room n s h = ⊎-elim (λ w. omega (arith, s .count, w .0)) (λ w. w .1) (capped-go room (length (formed-listing direct ns l)) (leb (length (formed-listing direct ns l)) room) refl)
 
 -- as long as it is
-pub lists-fits : (direct : Bool) (ns : List (List ℕ)) (l : List ℕ) (room n : ℕ) → Says direct ns l room n → n ≤ room → (n ≡ length (listing-for direct ns l)) × (length (listing-for direct ns l) ≤ room)
-lists-fits direct ns l room n s h = ⊎-elim (λ w. (s .count ∙ w .0, w .1)) (λ w. absurd (omega (arith, s .count, w .0))) (capped-go room (length (listing-for direct ns l)) (leb (length (listing-for direct ns l)) room) refl)
-
-overwrites : (text old : List ℕ) → length text ≤ length old → sets old 0 text ≡ overwritten text old
-unfolding overwritten
-overwrites text old h =
-    let z : 0 + length text ≡ length text = omega arith in
-    sets-eq text old 0 (omega arith) ∙ ap (λ (i : ℕ). text ++ drop i old) z
-
--- written
-pub lists-written : (direct : Bool) (ns : List (List ℕ)) (l out new : List ℕ) (n : ℕ) → Says direct ns l (length out) n → n ≤ length out → new ≡ sets out 0 (listing-for direct ns l) → answer (Outcome′.Written n) new ≡ lists direct ns l out
-unfolding answer listed-if
-lists-written direct ns l out new n s h e =
-    let f = lists-fits direct ns l (length out) n s h in
-    rw (s .formed, le-ltb (length out) (length (listing-for direct ns l)) (f .1))
-    (ap₂ (λ (k : ℕ) (o : List ℕ). record { number = 0; written = k; output = o }) (f .0) (e ∙ overwrites (listing-for direct ns l) out (f .1)))
+pub lists-fits : (direct : Bool) (ns : List (List ℕ)) (l : List ℕ) (room n : ℕ) → Says direct ns l room n → n ≤ room → (n ≡ length (formed-listing direct ns l)) × (length (formed-listing direct ns l) ≤ room)
+lists-fits direct ns l room n s h = ⊎-elim (λ w. (s .count ∙ w .0, w .1)) (λ w. absurd (omega (arith, s .count, w .0))) (capped-go room (length (formed-listing direct ns l)) (leb (length (formed-listing direct ns l)) room) refl)

@@ -1,13 +1,14 @@
--- What comes of listing a line, with document 01's numbers: a stored line, or a direct one (document 02, §1).
+-- What comes of listing a line, with document 01's numbers: a stored line, or a direct one (document 02, §1), well-formed or an error line (§9).
 use Prim.Native.Nat.{ℕ, suc}
 use mathlib.Core.Bool.{Bool, true, false}
 use mathlib.Core.List.{List, [], _∷_, _++_}
 use lib.Dec.{leb}
 use lib.ListN.{length}
-use Rattle.paper.specs.Bytes.{blank, pick}
-use Rattle.paper.specs.Line.{lawful-number?, direct-number?}
+use Rattle.paper.specs.Bytes.{blank, bytes, pick}
+use Rattle.paper.specs.Line.{line-number, lawful-number?, direct-number?}
 use Rattle.paper.specs.WellFormed.{formed?}
 use Rattle.paper.specs.Listing.{decimal, listing, direct-listing}
+use Rattle.paper.specs.Errors.{error-text, listable?, line-text, line-listing}
 use Rattle.paper.specs.Calls.{Listed, listed-if}
 use Rattle.list_line.specs.declared.Outcome.{Outcome}
 use Rattle.list_line.specs.declared.Outcome.the-variants as Outcome′
@@ -18,13 +19,21 @@ use Rattle.list_line.specs.declared.first.Measure.the-variants as Measur
 abbrev pub lawful-for : Bool → ℕ → Bool
 lawful-for direct = pick direct direct-number? lawful-number?
 
--- the listing of a line, direct or stored
+-- the listing of a line that can be listed, direct or stored
 abbrev pub listing-for : Bool → List (List ℕ) → List ℕ → List ℕ
-listing-for direct ns l = pick direct (direct-listing ns l) (listing ns l)
+listing-for direct ns l = pick direct (line-text ns l) (line-listing ns l)
 
--- what stands in it before the first statement: nothing, or the number and a blank
+-- what stands at its front: nothing, or the number and a blank
 abbrev pub head-for : Bool → ℕ → List ℕ
 head-for direct n = pick direct [] (decimal 5 n ++ blank ∷ [])
+
+-- the listing of a well-formed line
+abbrev pub formed-listing : Bool → List (List ℕ) → List ℕ → List ℕ
+formed-listing direct ns l = pick direct (direct-listing ns l) (listing ns l)
+
+-- the listing of an error line
+abbrev pub error-listing : Bool → List ℕ → List ℕ
+error-listing direct l = head-for direct (line-number l) ++ (bytes "ERROR- " ++ error-text l)
 
 -- a length, or the first that is longer than the room
 unfoldable pub capped : ℕ → ℕ → ℕ
@@ -37,9 +46,9 @@ found false n = Measure′.NotWellFormed
 
 -- what the first pass finds of the line l over the names ns
 unfoldable pub measured : Bool → List (List ℕ) → List ℕ → ℕ → Measure
-measured direct ns l room = found (formed? (lawful-for direct) ns l) (capped room (length (listing-for direct ns l)))
+measured direct ns l room = found (formed? (lawful-for direct) ns l) (capped room (length (formed-listing direct ns l)))
 
--- the number of an outcome, the bytes written, and the buffer afterwards: 10 not well-formed; 11 longer than the buffer; 0 written
+-- the number of an outcome, the bytes written, and the buffer afterwards: 10 neither well-formed nor an error line; 11 longer than the buffer; 0 written
 unfoldable pub answer : Outcome → List ℕ → Listed
 answer Outcome′.NotWellFormed out = record { number = 10; written = 0; output = out }
 answer Outcome′.TooLong out = record { number = 11; written = 0; output = out }
@@ -47,4 +56,4 @@ answer (Outcome′.Written n) out = record { number = 0; written = n; output = o
 
 -- the listing of the line l over the names ns into a buffer
 abbrev pub lists : Bool → List (List ℕ) → List ℕ → List ℕ → Listed
-lists direct ns l out = listed-if (formed? (lawful-for direct) ns l) (listing-for direct ns l) out
+lists direct ns l out = listed-if (listable? (lawful-for direct) ns l) (listing-for direct ns l) out

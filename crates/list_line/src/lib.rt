@@ -1,4 +1,5 @@
-// From token line to text: whether a line is well-formed, and its listing.
+// From token line to text: whether a line is well-formed, and the listing of such a line or of an error line.
+mod errors;
 mod first;
 mod head;
 mod second;
@@ -11,7 +12,7 @@ ghost use Rattle.paper.specs.WellFormed.{well-formed?};
 ghost use Rattle.list_pieces.specs.Rest.{Sound};
 ghost use Rattle.list_line.specs.Listed.{answer, lists};
 
-// What comes of listing a line: it is not well-formed; its listing is longer than the buffer; it is written, so many bytes long.
+// What comes of listing a line: it is neither well-formed nor an error line; its listing is longer than the buffer; it is written, so many bytes long.
 pub enum Outcome {
     NotWellFormed,
     TooLong,
@@ -35,6 +36,9 @@ pub fn list(line: &[u8], direct: bool, names: &[u8], size: usize, out: &mut [u8]
     requires { ⌜ Sound (now names) size ⌝ }
     ensures { λ r. ⌜ answer r (now (out .exit)) ≡ lists direct (names-in (take size (now (names .entry)))) (now (line .entry)) (now (out .entry)) ⌝ }
 {
+    if list_error::is_error_line(line) {
+        return errors::list_error(line, direct, out);
+    }
     let room = out.len();
     match first::measure_line(line, direct, names, size, room) {
         Measure::NotWellFormed => Outcome::NotWellFormed,
