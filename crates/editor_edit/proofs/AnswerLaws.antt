@@ -17,6 +17,7 @@ use Rattle.paper.specs.Store.{lines-in, put-line, take-out, overwritten}
 use Rattle.paper.specs.Calls.{State, names-of, lines-of, sound-state, refusal, delete}
 use Rattle.paper.specs.Direct.{line-kept}
 use Rattle.laws.specs.Names.{closed?, Sound}
+use Rattle.buffers.specs.Sets.{overwrites}
 use Rattle.names_numbered.specs.Answers.{lacks, Room}
 use Rattle.store.specs.Answers.{place-of}
 use Rattle.store_edit.specs.Answers.{counts-of, stored-answer, stored-bytes, removed-answer, removed-bytes}
@@ -32,7 +33,7 @@ use Rattle.editor_edit.specs.declared.Entered.{Entered}
 use Rattle.editor_edit.specs.States.{state, counts-in, entered, refusing, accepting, short-of, Lies}
 use Rattle.editor_edit.specs.Sound.{lines-kept}
 use Rattle.editor_edit.specs.Lines.{Written, Accepts, AcceptsDirect}
-use Rattle.editor_edit.proofs.EditLaws.{taken-out, not-there, roomy, number-is, short-stored, room-decides, overwrites, short-direct, buffer-decides}
+use Rattle.editor_edit.proofs.EditLaws.{taken-out, not-there, roomy, number-is, short-stored, room-decides, short-direct, buffer-decides}
 
 module _ (names values store : List ℕ) (e : Editor) where
   abbrev S : State

@@ -1,13 +1,13 @@
 -- What the edits of a sound store give, in the words of `paper`.
 use Prim.Native.Nat.{ℕ, _+_, _-_, _*_, _≤_}
-use native.Mathlib.Nat.{add-zero, zero-add}
+use native.Mathlib.Nat.{add-zero}
 use native.Mathlib.Omega.{arith}
 use mathlib.Core.Path.{_≡_, refl, sym, ap, _∙_}
 use mathlib.Core.Bool.{Bool, true, false}
 use mathlib.Core.List.{List, [], _++_, append-nil}
 use lib.Dec.{T, ltb}
 use lib.ListN.{length, take, drop, length-append, take-append-drop}
-use lib.Seq.{sets, sets-eq, drop-append-seam, length-take-le, drop-length}
+use lib.Seq.{drop-append-seam, length-take-le, drop-length}
 use borrow.Author.Tests.{ltb-false}
 use Rattle.paper.specs.Bytes.{pick, joined}
 use Rattle.paper.specs.Tokens.{Token}
@@ -191,11 +191,6 @@ module _ (s : State) (t : Sound (s .names) (s .name-size) (s .name-count)) (v : 
           (place-decides lack size (λ k. refusal k no-span s) (take size line) (w .length-is ∙ ap length (sym (line-is h))) _ _ h)
 
 -- ---- in a line buffer
-
--- bytes at the front of a buffer that has room for them
-pub overwrites : (buffer part : List ℕ) → length part ≤ length buffer → sets buffer 0 part ≡ overwritten part buffer
-unfolding overwritten
-overwrites buffer part h = sets-eq part buffer 0 (omega arith) ∙ ap (λ (k : ℕ). part ++ drop k buffer) (zero-add (length part))
 
 module _ (s : State) (t : Sound (s .names) (s .name-size) (s .name-count)) (v : 8 * s .name-count ≤ length (s .values)) (line : List ℕ) (size : ℕ) (fresh : List ℕ)
     (ts : List Token) (w : Written (names-of s) direct-number ts line size fresh) (buffer : List ℕ) where
