@@ -1,16 +1,17 @@
 -- What reading a text gives, from the definitions of document 01.
 use Prim.Native.Nat.{ℕ, _+_, _≤_}
 use mathlib.Core.Path.{_≡_}
-use mathlib.Core.Bool.{Bool}
+use mathlib.Core.Bool.{Bool, true, not, _&&_}
 use mathlib.Core.List.{List}
 use lib.Dec.{eqb}
-use lib.ListN.{length, drop}
+use lib.ListN.{length, take, drop}
 use lib.Seq.{sets}
 use Rattle.paper.specs.Bytes.{pick, blank?, run}
 use Rattle.paper.specs.Tokens.{Token}
-use Rattle.paper.specs.Items.{size-at}
+use Rattle.paper.specs.Items.{Span, span, size-at}
 use Rattle.paper.specs.Names.{names-in, name-bytes, add-names}
-use Rattle.paper.specs.Line.{line-bytes, direct-number}
+use Rattle.paper.specs.Line.{line-bytes, direct-number, direct-number?}
+use Rattle.paper.specs.Errors.{marked-at, error-line, keepable?}
 use Rattle.paper.specs.Calls.{Translated, tokens, refused-at, translate, Head, numbered, too-great, only-blanks, unnumbered, head-of}
 use Rattle.laws.specs.Names.{names-added}
 use Rattle.enter_item.specs.Draft.{written-line}
@@ -19,7 +20,7 @@ use Rattle.enter_line.specs.declared.Head.the-variants.{Numbered, TooGre
 use Rattle.enter_line.specs.declared.Start.{Start as Begun}
 use Rattle.enter_line.specs.declared.Start.the-variants.{Statements, NumberAlone, Nothing}
 use Rattle.enter_line.specs.declared.Reading.{Reading}
-use Rattle.enter_line.specs.declared.Reading.the-variants.{Read, Delete, Refused}
+use Rattle.enter_line.specs.declared.Reading.the-variants.{Read, Delete, Refused, Kept}
 
 -- what the reader of a line's number answers, as the definitions have it
 abbrev pub as-head : List ℕ → Found → Head
@@ -48,20 +49,43 @@ as-start (Statements n p) = statements n p
 as-start (NumberAlone n) = number-alone n
 as-start Nothing = nothing
 
--- a refusal at a place of a text, with the end of the item that stands there
-unfoldable pub ending-there : List ℕ → ℕ → ℕ → Reading
-ending-there text k p = Refused k p (p + size-at (drop p text))
+-- the item that stands at a place of a text
+abbrev pub standing : List ℕ → ℕ → Span
+standing text place = span place (place + size-at (drop place text))
 
--- a translation over the names ks, of the line with number n
-unfoldable pub of-translated : List (List ℕ) → ℕ → Translated → Reading
-of-translated ks n (tokens ts) = Read (record { number = n; size = length (line-bytes (add-names ks ts) n ts); named = length (name-bytes (names-added ks ts)) })
-of-translated ks n (refused-at k p) = Refused k (p .start) (p .end)
+-- whether the line n, refused with k at a place of its text, is kept: where wrong lines are, if it has a number, with 4, and if its text can be
+unfoldable pub keeps? : Bool → List ℕ → ℕ → ℕ → ℕ → Bool
+keeps? keep text n k place = keep && (not (direct-number? n) && (eqb k 4 && keepable? place text))
+
+-- the error line of the text of the line n, whose digits end at p, refused at a place
+abbrev pub error-of : List ℕ → ℕ → ℕ → ℕ → List ℕ
+error-of text n p place = error-line n (drop p (marked-at place text))
+
+-- the line n, whose digits end at p, refused with k: kept or not
+unfoldable pub of-refused : Bool → List ℕ → ℕ → ℕ → ℕ → Span → Reading
+of-refused keep text n p k there =
+    let line-kept = Kept (record { number = n; size = length (error-of text n p (there .start)); named = 0 }) (there .start) (there .end) in
+    pick (keeps? keep text n k (there .start)) line-kept (Refused k (there .start) (there .end))
+
+-- a line that is kept stands at the front of a buffer
+abbrev pub KeptThere : Bool → List ℕ → ℕ → ℕ → ℕ → ℕ → List ℕ → Type 0
+KeptThere keep text n p k place line′ = keeps? keep text n k place ≡ true → take (length (error-of text n p place)) line′ ≡ error-of text n p place
+
+-- what comes of such a line that is refused at a place, and what it leaves in the buffer
+pub record Refuses (keep : Bool) (text : List ℕ) (n p k place : ℕ) (line′ : List ℕ) (r : Reading) : Type 0 where
+  pub answer : r ≡ of-refused keep text n p k (standing text place)
+  pub there : KeptThere keep text n p k place line′
+
+-- a translation over the names ks, of the line with number n, whose digits end at p
+unfoldable pub of-translated : Bool → List (List ℕ) → List ℕ → ℕ → ℕ → Translated → Reading
+of-translated keep ks text n p (tokens ts) = Read (record { number = n; size = length (line-bytes (add-names ks ts) n ts); named = length (name-bytes (names-added ks ts)) })
+of-translated keep ks text n p (refused-at k there) = of-refused keep text n p k there
 
 -- by what a text is to be read as: its statements are translated, a number alone deletes
-unfoldable pub of-start : List (List ℕ) → List ℕ → Start → Reading
-of-start ks text (statements n p) = of-translated ks n (translate p (drop p text))
-of-start ks text (number-alone n) = Delete n
-of-start ks text nothing = Refused 3 0 0
+unfoldable pub of-start : Bool → List (List ℕ) → List ℕ → Start → Reading
+of-start keep ks text (statements n p) = of-translated keep ks text n p (translate p (drop p text))
+of-start keep ks text (number-alone n) = Delete n
+of-start keep ks text nothing = Refused 3 0 0
 
 -- An accepted line: it and the names new in it stand at the front of the two buffers; the names can be told apart, and have at most 240
 -- bytes. The line's bytes are those of the definitions if there are at most 255 of them and at most 128 names (`line-fits`).
@@ -71,7 +95,8 @@ pub record Accepted (ks : List (List ℕ)) (n : ℕ) (ts : List Token) (line fre
   pub told-apart : names-in (name-bytes (names-added ks ts)) ≡ names-added ks ts
   pub few : length (name-bytes (names-added ks ts)) ≤ 240
 
--- The answer is the definitions'; and what an accepted text leaves in the two buffers.
-pub record Told (ks : List (List ℕ)) (direct : Bool) (text line fresh line′ fresh′ : List ℕ) (r : Reading) : Type 0 where
-  pub answer : r ≡ of-start ks text (start-at direct (head-of text))
+-- The answer is the definitions'; and what an accepted text, or one that is kept, leaves in the two buffers.
+pub record Told (ks : List (List ℕ)) (keep direct : Bool) (text line fresh line′ fresh′ : List ℕ) (r : Reading) : Type 0 where
+  pub answer : r ≡ of-start keep ks text (start-at direct (head-of text))
   pub accepted : (n p : ℕ) (ts : List Token) → start-at direct (head-of text) ≡ statements n p → translate p (drop p text) ≡ tokens ts → Accepted ks n ts line fresh line′ fresh′
+  pub kept : (n p k : ℕ) (there : Span) → start-at direct (head-of text) ≡ statements n p → translate p (drop p text) ≡ refused-at k there → KeptThere keep text n p k (there .start) line′

@@ -13,14 +13,14 @@ use Rattle.paper.specs.Bytes.{pick, digit?, blank?, run}
 use Rattle.paper.specs.Tokens.{Token}
 use Rattle.paper.specs.Constants.{value}
 use Rattle.paper.specs.Names.{names-in, name-bytes, add-names}
-use Rattle.paper.specs.Items.{Item as Scanned, item, span, size-at, scan, items}
+use Rattle.paper.specs.Items.{Item as Scanned, item, Span, span, size-at, scan, items}
 use Rattle.paper.specs.Machine.{bad, read}
 use Rattle.paper.specs.Grammar.{look-in-range, start}
 use Rattle.paper.specs.Line.{line-bytes, lawful-number?, direct-number}
 use Rattle.paper.specs.WellFormed.{tokens-of}
 use Rattle.paper.specs.Calls.{tokens, refused-at, place-of, outcome, translate, Head, numbered, too-great, only-blanks, unnumbered, head-of}
 use Rattle.laws.specs.Names.{names-added, closed?}
-use Rattle.laws.specs.Ends.{refused-ends, end-in}
+use Rattle.laws.specs.Ends.{Ends, refused-ends, end-in}
 use Rattle.buffers.specs.Runs.{run-within}
 use Rattle.buffers.specs.Sets.{front}
 use Rattle.enter_scan.specs.declared.Item.{Item}
@@ -33,7 +33,8 @@ use Rattle.enter_item.specs.declared.Spot.{Spot}
 use Rattle.enter_statement.specs.Ends.{Halts}
 use Rattle.enter_line.specs.Lines.{Finishes}
 use Rattle.enter_line.specs.LineLaws.{sets-set}
-use Rattle.enter_line.specs.Reading.{as-head, statements, number-alone, nothing, start-at, ending-there, of-translated, of-start, Accepted, Told}
+use Rattle.enter_line.specs.Reading.{as-head, statements, number-alone, nothing, start-at, standing, of-refused, KeptThere, Refuses, of-translated, of-start, Accepted, Told}
+use Rattle.enter_line.specs.Places.{refused-within}
 use Rattle.enter_line.specs.declared.Head.{Head as Found}
 use Rattle.enter_line.specs.declared.Head.the-variants.{Numbered, TooGreat, OnlyBlanks, Unnumbered}
 use Rattle.enter_line.specs.declared.Reading.{Reading}
@@ -158,59 +159,72 @@ module _ {r : Found} (direct : Bool) (text : List ℕ) (h : head-of text ≡ as-
 
 -- ---- the answer
 
-module _ {ks : List (List ℕ)} {direct : Bool} {text line fresh line′ fresh′ : List ℕ} where
+module _ {ks : List (List ℕ)} {keep direct : Bool} {text line fresh line′ fresh′ : List ℕ} where
   -- nothing
-  pub told-nothing : start-at direct (head-of text) ≡ nothing → Told ks direct text line fresh line′ fresh′ (Refused 3 0 0)
+  pub told-nothing : start-at direct (head-of text) ≡ nothing → Told ks keep direct text line fresh line′ fresh′ (Refused 3 0 0)
   unfolding of-start
   told-nothing h = record {
-    answer = sym (ap (of-start ks text) h);
+    answer = sym (ap (of-start keep ks text) h);
     accepted = λ n p ts e t. let z : _≡_ {A = ℕ} 0 1 = cc in absurd (omega arith);
+    kept = λ n p k there e t. let z : _≡_ {A = ℕ} 0 1 = cc in absurd (omega arith);
   }
 
   -- a number alone
-  pub told-delete : {n : ℕ} → start-at direct (head-of text) ≡ number-alone n → Told ks direct text line fresh line′ fresh′ (Delete n)
+  pub told-delete : {n : ℕ} → start-at direct (head-of text) ≡ number-alone n → Told ks keep direct text line fresh line′ fresh′ (Delete n)
   unfolding of-start
   told-delete h = record {
-    answer = sym (ap (of-start ks text) h);
+    answer = sym (ap (of-start keep ks text) h);
     accepted = λ n p ts e t. let z : _≡_ {A = ℕ} 0 1 = cc in absurd (omega arith);
+    kept = λ n p k there e t. let z : _≡_ {A = ℕ} 0 1 = cc in absurd (omega arith);
   }
 
   module _ {n p : ℕ} (h : start-at direct (head-of text) ≡ statements n p) where
     -- statements, one of which is refused
-    pub told-refused : {k q : ℕ} {r : Reading} → translate p (drop p text) ≡ refused-at k (span q (q + size-at (drop q text))) → r ≡ ending-there text k q → Told ks direct text line fresh line′ fresh′ r
-    unfolding of-start of-translated ending-there
+    pub told-refused : {k q : ℕ} {r : Reading} → translate p (drop p text) ≡ refused-at k (standing text q) → Refuses keep text n p k q line′ r → Told ks keep direct text line fresh line′ fresh′ r
+    unfolding of-start of-translated
     told-refused {k} {q} t w = record {
-      answer = w ∙ sym (ap (of-start ks text) h ∙ ap (of-translated ks n) t);
+      answer = w .answer ∙ sym (ap (of-start keep ks text) h ∙ ap (of-translated keep ks text n p) t);
       accepted = λ n′ p′ ts e u.
           let i : p ≡ p′ = cc in
-          let y : refused-at k (span q (q + size-at (drop q text))) ≡ tokens ts = sym t ∙ ap (λ (x : ℕ). translate x (drop x text)) i ∙ u in
+          let y : refused-at k (standing text q) ≡ tokens ts = sym t ∙ ap (λ (x : ℕ). translate x (drop x text)) i ∙ u in
           let z : _≡_ {A = ℕ} 0 1 = cc in absurd (omega arith);
+      kept = λ n′ p′ k′ there e u.
+          let i : p ≡ p′ = cc in
+          let o : n ≡ n′ = cc in
+          let y : refused-at k (standing text q) ≡ refused-at k′ there = sym t ∙ ap (λ (x : ℕ). translate x (drop x text)) i ∙ u in
+          let j : k ≡ k′ = cc in
+          let v : standing text q ≡ there = cc in
+          rw (← o, ← i, ← j, ← v) (w .there);
     }
 
     -- statements that are accepted
     pub told-read : {size named : ℕ} {us : List Token} → translate p (drop p text) ≡ tokens us
         → (Accepted ks n us line fresh line′ fresh′) × (size ≡ length (line-bytes (add-names ks us) n us)) × (named ≡ length (name-bytes (names-added ks us)))
-        → Told ks direct text line fresh line′ fresh′ (Read (record { number = n; size = size; named = named }))
+        → Told ks keep direct text line fresh line′ fresh′ (Read (record { number = n; size = size; named = named }))
     unfolding of-start of-translated
     told-read {size} {named} {us} t w = record {
       answer =
           ap (λ (x : ℕ). Read (record { number = n; size = x; named = named })) (w .1)
           ∙ ap (λ (x : ℕ). Read (record { number = n; size = length (line-bytes (add-names ks us) n us); named = x })) (w .2)
-          ∙ sym (ap (of-start ks text) h ∙ ap (of-translated ks n) t);
+          ∙ sym (ap (of-start keep ks text) h ∙ ap (of-translated keep ks text n p) t);
       accepted = λ n′ p′ ts e u.
           let i : p ≡ p′ = cc in
           let o : n ≡ n′ = cc in
           let y : tokens us ≡ tokens ts = sym t ∙ ap (λ (x : ℕ). translate x (drop x text)) i ∙ u in
           let v : us ≡ ts = cc in
           subst (λ (x : ℕ). Accepted ks x ts line fresh line′ fresh′) o (subst (λ (x : List Token). Accepted ks n x line fresh line′ fresh′) v (w .0));
+      kept = λ n′ p′ k there e u.
+          let i : p ≡ p′ = cc in
+          let y : tokens us ≡ refused-at k there = sym t ∙ ap (λ (x : ℕ). translate x (drop x text)) i ∙ u in
+          let z : _≡_ {A = ℕ} 0 1 = cc in absurd (omega arith);
     }
 
 -- ---- where a refused item ends
 
 -- past the item that the item reader sees at its place
-pub ends-seen : {place : ℕ} {it : Item} {number : ℕ} (text : List ℕ) → it ≡ item-with (shape-at false (drop place text)) place → Refused number place (it .end) ≡ ending-there text number place
-unfolding ending-there item-with shape-at size-at item
-ends-seen {place} {it} {number} text h = ap (λ (i : Item). Refused number place (i .end)) h ∙ ap (λ (n : ℕ). Refused number place (place + n)) (go (drop place text))
+pub ends-seen : {place end : ℕ} {it : Item} (text : List ℕ) → it ≡ item-with (shape-at false (drop place text)) place → end ≡ it .end → span place end ≡ standing text place
+unfolding item-with shape-at size-at item
+ends-seen {place} {end} {it} text h e = ap (span place) (e ∙ ap (λ (i : Item). i .end) h ∙ ap (λ (n : ℕ). place + n) (go (drop place text)))
   where
     go : (s : List ℕ) → shape-at false s .size ≡ size-at s
     go [] = refl
@@ -226,12 +240,23 @@ pub translated-left : {m m′ : Mem} {q′ : Spot} (text n : List ℕ) (e w f : 
 unfolding translate outcome start
 translated-left text n e w f x = ap outcome (ap (read look-in-range start) (items-from text n e) ∙ x .ran)
 
-pub translated-bad : {k p : ℕ} (text n : List ℕ) (e : ℕ) → Halts start (items-at (env text 0 n) true e) k p → translate e (drop e text) ≡ refused-at k (span p (p + size-at (drop p text)))
-unfolding translate outcome place-of
-translated-bad {k} {p} text n e x =
-    let ran : read look-in-range start (items e (drop e text)) ≡ bad k (x .ts) (x .item ∷ x .rest) = ap (read look-in-range start) (items-from text n e) ∙ x .ran in
-    let end = end-in text e (drop e text) (x .item) refl (refused-ends e (drop e text) k (x .ts) (x .item) (x .rest) ran) in
-    ap outcome ran ∙ ap (λ (z : ℕ). refused-at k (span (x .item .place) z)) end ∙ ap (λ (z : ℕ). refused-at k (span z (z + size-at (drop z text)))) (sym (x .place))
+module _ {k p : ℕ} (text n : List ℕ) (e : ℕ) (x : Halts start (items-at (env text 0 n) true e) k p) where
+  ran-bad : read look-in-range start (items e (drop e text)) ≡ bad k (x .ts) (x .item ∷ x .rest)
+  ran-bad = ap (read look-in-range start) (items-from text n e) ∙ x .ran
+
+  ends-so : Ends e (drop e text) (x .item)
+  ends-so = refused-ends e (drop e text) k (x .ts) (x .item) (x .rest) ran-bad
+
+  pub translated-bad : translate e (drop e text) ≡ refused-at k (standing text p)
+  unfolding translate outcome place-of
+  translated-bad =
+      let end = end-in text e (drop e text) (x .item) refl ends-so in
+      ap outcome ran-bad ∙ ap (λ (z : ℕ). refused-at k (span (x .item .place) z)) end ∙ ap (λ (z : ℕ). refused-at k (standing text z)) (sym (x .place))
+
+  -- the place of the refusal stands in the statements or at their end
+  pub place-within : e ≤ length text → (e ≤ p) × (p ≤ length text)
+  place-within h =
+      (omega (arith, x .place, ends-so .stands), omega (arith, x .place, refused-within e (drop e text) k (x .ts) (x .item) (x .rest) ran-bad, length-drop e text))
 
 no-names : (names fresh : List ℕ) (q : Spot) (m : Mem) → q .named ≡ 0 → names-in names ++ names-in (take (q .named) (m .fresh)) ≡ names-in names
 unfolding names-in

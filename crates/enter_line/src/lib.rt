@@ -1,4 +1,5 @@
 // From text to token line: the line's number, its statements, and their offsets.
+mod errors;
 mod statements;
 
 use buffers::Run;
@@ -9,7 +10,7 @@ use enter_item::LINE_ROOM;
 use enter_item::NAMES_ROOM;
 use enter_item::Spot;
 use enter_item::Step;
-use enter_scan::item_at;
+use errors::refused;
 use statements::low_byte;
 use statements::statements;
 use store::GREATEST_NUMBER;
@@ -18,7 +19,7 @@ ghost use Prim.Native.Nat.{_-_, _≤_, _<_};
 ghost use lib.ListN.{length, take};
 ghost use Rattle.paper.specs.Names.{names-in};
 ghost use Rattle.paper.specs.Calls.{head-of};
-ghost use Rattle.enter_line.specs.Reading.{as-head, start-at, as-start, ending-there, Told};
+ghost use Rattle.enter_line.specs.Reading.{as-head, start-at, as-start, Told};
 
 // The number of a line that is read without one.
 pub const DIRECT_NUMBER: usize = 32768;
@@ -30,11 +31,13 @@ pub struct Line {
     pub named: usize,
 }
 
-// What reading a text gives: a line, the number alone of a line to delete, or a refusal's number, its place and that place's end.
+// What reading a text gives: a line, the number alone of a line to delete, a refusal's number, its place and that place's end; or the error line that is
+// kept of a text refused with 4, with the place and its end.
 pub enum Reading {
     Read(Line),
     Delete(usize),
     Refused(u8, usize, usize),
+    Kept(Line, usize, usize),
 }
 
 // How a text begins: its number and the place past its digits; digits worth too much for a line; no digit, in a text of blanks alone or in another.
@@ -95,18 +98,12 @@ fn start_of(text: &[u8], direct: bool) -> Start
     }
 }
 
-// A refusal with 4 or 5 at a place of a text: it ends with the item that stands there.
-fn refused(text: &[u8], number: u8, place: usize) -> Reading
-    ensures { λ r. ⌜ r ≡ ending-there (now (text .entry)) number place ⌝ }
-{
-    let refused = item_at(text, place, false);
-    Reading::Refused(number, place, refused.end)
-}
-
-// Reads a text of at most 120 bytes over the first `size` bytes of a name table; one without a number only if `direct` says so. An accepted line is
-// written to the front of `line`, and the names that are new in it to the front of `fresh`; what they hold after any other answer is scratch.
+// Reads a text of at most 120 bytes over the first `size` bytes of a name table; one without a number only if `direct` says so. An accepted line, or the
+// error line of a wrong one that is kept, which `keep` says, is written to the front of `line`, and the names that are new in an accepted line to the
+// front of `fresh`; what they hold after any other answer is scratch.
 pub fn read(
     text: &[u8],
+    keep: bool,
     direct: bool,
     names: &[u8],
     size: usize,
@@ -114,7 +111,7 @@ pub fn read(
     fresh: &mut [u8; NAMES_ROOM],
 ) -> Reading
     requires { ⌜ (length (now text) ≤ 120) × (size ≤ length (now names)) × (240 ≤ length (now fresh)) ⌝ }
-    ensures { λ r. ⌜ Told (names-in (take size (now (names .entry)))) direct (now (text .entry)) (now (line .entry)) (now (fresh .entry)) (now (line .exit)) (now (fresh .exit)) r ⌝ }
+    ensures { λ r. ⌜ Told (names-in (take size (now (names .entry)))) keep direct (now (text .entry)) (now (line .entry)) (now (fresh .entry)) (now (line .exit)) (now (fresh .exit)) r ⌝ }
 {
     match start_of(text, direct) {
         Start::Statements(number, from) => {
@@ -134,7 +131,7 @@ pub fn read(
                         named: p.named,
                     })
                 }
-                Step::Refused(k, p) => refused(text, k, p),
+                Step::Refused(k, place) => refused(text, keep, number, from, k, place, line),
             }
         }
         Start::NumberAlone(number) => Reading::Delete(number),

@@ -4,7 +4,7 @@ use lib.Seq.{length-take-le}
 use Rattle.paper.specs.Grammar.{start as start-frames}
 use Rattle.enter_item.specs.Draft.{low}
 use Rattle.enter_line.specs.Reading.{as-start}
-use Rattle.enter_line.specs.ReadingLaws.{statements-within, high-byte, told-nothing, told-delete, told-refused, told-read, translated-left, translated-bad, first-asks, line-whole}
+use Rattle.enter_line.specs.ReadingLaws.{statements-within, high-byte, told-nothing, told-delete, told-refused, told-read, translated-left, translated-bad, place-within, first-asks, line-whole}
 use borrow.Author.Needs.{needs}
 use Rattle.enter_line.proofs.read.Statement.{statement}
 use Rattle.enter_line.proofs.read.Tie as tie
@@ -50,7 +50,13 @@ enum-known-k : tie.Need-enum-known-k
 enum-known-k c = search needs
 
 refused-requires : tie.Need-refused-requires
-refused-requires c κs = search needs
+unfolding start-frames
+refused-requires c κs =
+    let args = c .before .before .before .before .before .before .before .before .before .before .before .before .before .before .before .before .before .before .before .before .args in
+    let start = c .before .before .before .before .before .before .before .before .before .before .before .before .before .before .before .before .before .start-of .ensures ∙ ap as-start (c .before .before .before .before .before .before .before .before .before .before .before .before .before .before .before .number .given .1) in
+    let fits = statements-within (args .direct) (args .text .now) start in
+    let within = place-within (args .text .now) (take (args .size) (args .names .now)) _ (c .before .before .before .before .statements .ensures .stop _ _ (c .before .before .k .given .1)) (fits .1) in
+    (fits .0, within .0, within .1, c .before .before .before .before .before .before .before .before .before .before .before .before .before .before .before .before .before .before .before .before .pre .0)
 
 enum-known-number-2 : tie.Need-enum-known-number-2
 enum-known-number-2 c = search needs
@@ -72,10 +78,10 @@ returns c =
 returns-2 : tie.Need-returns-2
 unfolding start-frames
 returns-2 c =
-    let args = c .before .before .before .before .before .before .before .before .before .before .before .before .before .before .before .before .before .before .before .before .args in
-    let start = c .before .before .before .before .before .before .before .before .before .before .before .before .before .before .before .before .before .start-of .ensures ∙ ap as-start (c .before .before .before .before .before .before .before .before .before .before .before .before .before .before .before .number .given .1) in
+    let args = c .before .before .before .before .before .before .before .before .before .before .before .before .before .before .before .before .before .before .before .before .before .args in
+    let start = c .before .before .before .before .before .before .before .before .before .before .before .before .before .before .before .before .before .before .start-of .ensures ∙ ap as-start (c .before .before .before .before .before .before .before .before .before .before .before .before .before .before .before .before .number .given .1) in
     let names = take (args .size) (args .names .now) in
-    told-refused start (translated-bad (args .text .now) names _ (c .before .before .before .before .statements .ensures .stop _ _ (c .before .before .k .given .1))) (c .refused .ensures)
+    told-refused start (translated-bad (args .text .now) names _ (c .before .before .before .before .before .statements .ensures .stop _ _ (c .before .before .before .k .given .1))) (c .refused .ensures)
 
 returns-3 : tie.Need-returns-3
 returns-3 c = told-delete (c .before .before .before .start-of .ensures ∙ ap as-start (c .before .number2 .given .1))
