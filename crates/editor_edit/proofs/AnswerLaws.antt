@@ -10,17 +10,17 @@ use lib.Seq.{sets}
 use borrow.Author.Tests.{lt-ltb, le-ltb}
 use Rattle.paper.specs.Bytes.{joined}
 use Rattle.paper.specs.Tokens.{Token}
-use Rattle.paper.specs.Items.{no-span}
+use Rattle.paper.specs.Items.{Span, no-span}
 use Rattle.paper.specs.Names.{names-in, name-bytes, value-entries}
 use Rattle.paper.specs.Line.{line-number, direct-number}
 use Rattle.paper.specs.Store.{lines-in, put-line, take-out, overwritten}
-use Rattle.paper.specs.Calls.{State, names-of, lines-of, sound-state, refusal, delete}
-use Rattle.paper.specs.Direct.{line-kept}
+use Rattle.paper.specs.Calls.{State, names-of, lines-of, sound-state, refusal, delete, keep-line}
+use Rattle.paper.specs.Direct.{same-buffer}
 use Rattle.laws.specs.Names.{closed?, Sound}
 use Rattle.buffers.specs.Sets.{overwrites}
 use Rattle.names_numbered.specs.Answers.{lacks, Room}
 use Rattle.store.specs.Answers.{place-of}
-use Rattle.store_edit.specs.Answers.{counts-of, stored-answer, stored-bytes, removed-answer, removed-bytes}
+use Rattle.store_edit.specs.Answers.{counts-of, too-long, stored-answer, stored-bytes, removed-answer, removed-bytes}
 use Rattle.store_edit.specs.Answered.{stored-done, stored-no-room, removed-done, removed-not-there}
 use Rattle.store.specs.declared.Counts.{Counts}
 use Rattle.store.specs.declared.Place.{Place}
@@ -30,10 +30,10 @@ use Rattle.store_edit.specs.declared.Removed.{Removed}
 use Rattle.store_edit.specs.declared.Removed.the-variants.{Done as Gone, NotThere}
 use Rattle.editor_edit.specs.declared.Editor.{Editor}
 use Rattle.editor_edit.specs.declared.Entered.{Entered}
-use Rattle.editor_edit.specs.States.{state, counts-in, entered, refusing, accepting, short-of, Lies}
+use Rattle.editor_edit.specs.States.{state, counts-in, counting, entered, refusing, accepting, short-of, Lies}
 use Rattle.editor_edit.specs.Sound.{lines-kept}
 use Rattle.editor_edit.specs.Lines.{Written, Accepts, AcceptsDirect}
-use Rattle.editor_edit.proofs.EditLaws.{taken-out, not-there, roomy, number-is, short-stored, room-decides, short-direct, buffer-decides}
+use Rattle.editor_edit.proofs.EditLaws.{tables-stay, taken-out, not-there, roomy, number-is, short-stored, room-decides, short-direct, buffer-decides}
 
 module _ (names values store : List ℕ) (e : Editor) where
   abbrev S : State
@@ -60,13 +60,13 @@ module _ (names values store : List ℕ) (e : Editor) where
       left-so = b ∙ ap (removed-bytes n store) (lines-kept S kept is)
 
       -- the line is gone
-      pub gone : T (sound-state S) → (left : Counts) → r ≡ Gone left
-          → entered (record { number = 0; place = 0; end = 0; added = 0; editor = record { used = left .used; lines = left .lines; greatest = left .greatest; «name_count» = e .«name_count»; «name_bytes» = e .«name_bytes» } }) names values store′ ≡ delete S n
+      pub gone : T (sound-state S) → (left : Counts) (x : Editor) → r ≡ Gone left → x ≡ counting e left
+          → entered (record { number = 0; place = 0; end = 0; added = 0; editor = x }) names values store′ ≡ delete S n
       unfolding removed-bytes counts-of
-      gone o left g =
+      gone o left x g q =
           let d = removed-done n (lines-of S) left (sym answered ∙ g) in
           let st : store′ ≡ overwritten (joined (take-out n (lines-of S))) store = left-so ∙ rw (d .0) in
-          rw (st, d .1) (taken-out S o n (d .0))
+          rw (q, st, d .1) (taken-out S o n (d .0))
 
       -- the line is not there
       pub absent : (x : Entered) → r ≡ NotThere → x ≡ refusing 9 no-span e → entered x names values store′ ≡ delete S n
@@ -75,6 +75,37 @@ module _ (names values store : List ℕ) (e : Editor) where
           let d = removed-not-there n (lines-of S) (sym answered ∙ g) in
           let st : store′ ≡ store = left-so ∙ rw (d) in
           rw (st, q) (not-there S n d)
+
+    -- ---- keeping a wrong line
+
+    module _ (o : T (sound-state S)) (line : List ℕ) (size : ℕ) (there : Span) (part : List ℕ) (p : part ≡ take size line) where
+      -- the place of its number
+      pub place-kept : (q : Place) → Lies q (line-number (take size line)) S → q ≡ place-of (line-number part) lines-counted
+      place-kept q h = lies-counted (line-number (take size line)) q h ∙ ap (λ (l : List ℕ). place-of (line-number l) lines-counted) (sym p)
+
+      module _ (r : Stored) (store′ : List ℕ) (a : r ≡ stored-answer store (put-line part lines-counted)) (z : store′ ≡ stored-bytes store (put-line part lines-counted)) where
+        abbrev with-kept : List (List ℕ)
+        with-kept = put-line (take size line) (lines-of S)
+
+        same-kept : put-line part lines-counted ≡ with-kept
+        same-kept = ap (put-line part) (lines-kept S kept is) ∙ ap (λ (l : List ℕ). put-line l (lines-of S)) p
+
+        -- 8
+        pub kept-8 : (x : Entered) → r ≡ NoRoom → x ≡ refusing 8 no-span e → entered x names values store′ ≡ keep-line S (take size line) there
+        unfolding stored-bytes keep-line refusal too-long
+        kept-8 x g q =
+            let no = stored-no-room store with-kept (ap (stored-answer store) (sym same-kept) ∙ sym a ∙ g) in
+            let st : store′ ≡ store = z ∙ ap (stored-bytes store) same-kept ∙ rw (no) in
+            rw (st, q) (sym (rw (no)))
+
+        -- 4
+        pub kept-4 : (after : Counts) (x : Editor) → r ≡ Done after → x ≡ counting e after
+            → entered (record { number = 4; place = there .start; end = there .end; added = 0; editor = x }) names values store′ ≡ keep-line S (take size line) there
+        unfolding stored-bytes keep-line counts-of too-long
+        kept-4 after x g q =
+            let yes = stored-done store with-kept after (ap (stored-answer store) (sym same-kept) ∙ sym a ∙ g) in
+            let st : store′ ≡ overwritten (joined with-kept) store = z ∙ ap (stored-bytes store) same-kept ∙ rw (yes .0) in
+            rw (q, st, yes .1) (sym (rw (yes .0, tables-stay S o with-kept)))
 
   -- ---- accepting a line
 
@@ -137,13 +168,13 @@ module _ (names values : List ℕ) (e : Editor) (t : Sound names (e .«name_byte
     (k : ℕ) (l : k ≡ short names values [] e t v direct-number line size fresh) where
   -- 6, 7
   pub direct-short : (x : Entered) → (k ≡ 0 → ⊥) → x ≡ refusing k no-span e → AcceptsDirect names values e buffer line size fresh x names values buffer
-  unfolding refusal line-kept
+  unfolding refusal same-buffer
   direct-short x d q store ts w = rw (q, l) (short-direct (state names values store e) t v line size fresh ts w buffer (λ z. d (l ∙ z)))
 
   module _ (d : k ≡ 0) where
     -- 8
     pub direct-8 : (x : Entered) → length buffer < size → x ≡ refusing 8 no-span e → AcceptsDirect names values e buffer line size fresh x names values buffer
-    unfolding refusal line-kept
+    unfolding refusal same-buffer
     direct-8 x h q store ts w = rw (q) (sym (rw (lt-ltb (length buffer) size h)) ∙ buffer-decides (state names values store e) t v line size fresh ts w buffer (sym l ∙ d))
 
     -- 0

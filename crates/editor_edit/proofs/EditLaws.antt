@@ -17,7 +17,7 @@ use Rattle.paper.specs.Line.{line-bytes, line-number, direct-number}
 use Rattle.paper.specs.Store.{greatest-number, stored?, put-line, take-out, overwritten}
 use Rattle.paper.specs.Calls.{State, names-of, lines-of, sound-state, refusal, with-names, stored, lacks-room, unless-short, accept, delete}
 use Rattle.paper.specs.Calls.{Entered as Outcome}
-use Rattle.paper.specs.Direct.{Typed, line-kept, accept-direct}
+use Rattle.paper.specs.Direct.{Typed, same-buffer, accept-direct}
 use Rattle.laws.specs.Names.{closed?, adds-front, Sound}
 use Rattle.names_numbered.specs.Answers.{lacks, Room}
 use Rattle.names_numbered.specs.Uses.{length-bytes, lacks-is, room-left}
@@ -34,12 +34,12 @@ same-over k l h =
     ap (λ (z : List ℕ). z ++ drop (length z) l) (append-nil (take k l)) ∙ ap (λ (z : ℕ). take k l ++ drop z l) (length-take-le k l h) ∙ take-append-drop k l
 
 -- the state with other lines
-abbrev with-lines : State → List (List ℕ) → State
+abbrev pub with-lines : State → List (List ℕ) → State
 with-lines s ls =
     record { names = s .names; name-size = s .name-size; name-count = s .name-count; values = s .values; store = overwritten (joined ls) (s .store); used = length (joined ls); line-count = length ls; greatest = greatest-number ls }
 
 -- where no name is new the tables stay
-tables-stay : (s : State) → T (sound-state s) → (ls : List (List ℕ)) → stored s (names-of s) ls ≡ with-lines s ls
+pub tables-stay : (s : State) → T (sound-state s) → (ls : List (List ℕ)) → stored s (names-of s) ls ≡ with-lines s ls
 unfolding stored with-names name-bytes value-entries names-of
 tables-stay s o ls =
     let t = table-sound s o in
@@ -198,10 +198,10 @@ module _ (s : State) (t : Sound (s .names) (s .name-size) (s .name-count)) (v : 
   lacking = lack s t v direct-number line size fresh
 
   -- 6, 7
-  pub short-direct : (short-of lacking size ≡ 0 → ⊥) → line-kept buffer (refusal (short-of lacking size) no-span s) ≡ accept-direct s buffer ts
+  pub short-direct : (short-of lacking size ≡ 0 → ⊥) → same-buffer buffer (refusal (short-of lacking size) no-span s) ≡ accept-direct s buffer ts
   unfolding accept-direct
   short-direct h = rw (lack-is s t v direct-number line size fresh ts w)
-      (refused-short lacking size (λ k. line-kept buffer (refusal k no-span s)) (line-bytes (add-names (names-of s) ts) direct-number ts) (w .length-is) _ _ h)
+      (refused-short lacking size (λ k. same-buffer buffer (refusal k no-span s)) (line-bytes (add-names (names-of s) ts) direct-number ts) (w .length-is) _ _ h)
 
   module _ (h : short-of lacking size ≡ 0) where
     abbrev typed-so : Typed
@@ -214,8 +214,8 @@ module _ (s : State) (t : Sound (s .names) (s .name-size) (s .name-count)) (v : 
     size-is = ap length (line-is s t v direct-number line size fresh ts w h) ∙ sym (w .length-is)
 
     -- 8, or 0
-    pub buffer-decides : pick (ltb (length buffer) size) (line-kept buffer (refusal 8 no-span s)) typed-so ≡ accept-direct s buffer ts
+    pub buffer-decides : pick (ltb (length buffer) size) (same-buffer buffer (refusal 8 no-span s)) typed-so ≡ accept-direct s buffer ts
     unfolding accept-direct
     buffer-decides =
         rw (lack-is s t v direct-number line size fresh ts w, ← line-is s t v direct-number line size fresh ts w h, added-is s t v direct-number line size fresh ts w, names-are w, with-names-is s t v direct-number line size fresh, size-is)
-        (place-decides lacking size (λ k. line-kept buffer (refusal k no-span s)) (take size line) (sym size-is) _ _ h)
+        (place-decides lacking size (λ k. same-buffer buffer (refusal k no-span s)) (take size line) (sym size-is) _ _ h)

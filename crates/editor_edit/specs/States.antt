@@ -30,6 +30,10 @@ empty-record = record { used = 0; lines = 0; greatest = 0; «name_count» = 0; �
 abbrev pub counts-in : Editor → Counts
 counts-in e = record { used = e .used; lines = e .lines; greatest = e .greatest }
 
+-- a record with other counts of the store
+abbrev pub counting : Editor → Counts → Editor
+counting e after = record { used = after .used; lines = after .lines; greatest = after .greatest; «name_count» = e .«name_count»; «name_bytes» = e .«name_bytes» }
+
 -- what a call answered, with what it left in names, values and store
 abbrev pub entered : Entered → List ℕ → List ℕ → List ℕ → Outcome
 entered r names values store = record { number = r .number; place = span (r .place) (r .end); added = r .added; after = state names values store (r .editor) }

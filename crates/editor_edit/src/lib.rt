@@ -12,12 +12,12 @@ ghost use lib.Dec.{T};
 ghost use lib.ListN.{length, take};
 ghost use Rattle.paper.specs.Items.{span, no-span};
 ghost use Rattle.paper.specs.Names.{names-in, name-bytes, value-entries};
-ghost use Rattle.paper.specs.Line.{direct-number};
+ghost use Rattle.paper.specs.Line.{line-number, direct-number};
 ghost use Rattle.paper.specs.Store.{overwritten};
-ghost use Rattle.paper.specs.Calls.{sound-state, delete};
+ghost use Rattle.paper.specs.Calls.{sound-state, delete, keep-line};
 ghost use Rattle.laws.specs.Names.{Sound};
 ghost use Rattle.names_numbered.specs.Answers.{lacks, Room};
-ghost use Rattle.editor_edit.specs.States.{state, empty-record, counts-in, entered, refusing, accepting, short-of, Lies};
+ghost use Rattle.editor_edit.specs.States.{state, empty-record, counts-in, counting, entered, refusing, accepting, short-of, Lies};
 ghost use Rattle.editor_edit.specs.Lines.{Readable, Accepts, AcceptsDirect};
 
 // The editor's record: the bytes of the store that are used, how many lines they are and the greatest number of these, 0 if there is none, how many
@@ -66,6 +66,19 @@ pub fn store_counts(e: Editor) -> Counts
     }
 }
 
+// A record with other counts of the store.
+fn with_counts(e: Editor, after: Counts) -> Editor
+    ensures { λ r. ⌜ r ≡ counting e after ⌝ }
+{
+    Editor {
+        used: after.used,
+        lines: after.lines,
+        greatest: after.greatest,
+        name_count: e.name_count,
+        name_bytes: e.name_bytes,
+    }
+}
+
 // A refusal of the item from a place to its end: nothing is added, and the record is as it was.
 pub fn refused_at(number: u8, place: usize, end: usize, e: Editor) -> Entered
     ensures { λ r. ⌜ r ≡ refusing number (span place end) e ⌝ }
@@ -97,13 +110,7 @@ pub fn take_out(place: Place, names: &[u8], values: &[u8], store: &mut [u8], e: 
             place: 0,
             end: 0,
             added: 0,
-            editor: Editor {
-                used: left.used,
-                lines: left.lines,
-                greatest: left.greatest,
-                name_count: e.name_count,
-                name_bytes: e.name_bytes,
-            },
+            editor: with_counts(e, left),
         },
         Removed::NotThere => refused(9, e),
     }
@@ -181,6 +188,34 @@ pub fn accept(
     match store_edit::put_in(store, store_counts(e), place, front(line, size)) {
         Stored::NoRoom => refused(8, e),
         Stored::Done(after) => accepted(fresh, names, values, after, e),
+    }
+}
+
+// Puts the first `size` bytes of a buffer, the error line of a text, at the place of its number into a sound store, and answers 4 all the same, with the
+// place in the text and its end; or refuses it with 8. The tables stay as they are.
+pub fn keep(
+    place: Place,
+    line: &[u8],
+    size: usize,
+    at: usize,
+    end: usize,
+    names: &[u8],
+    values: &[u8],
+    store: &mut [u8],
+    e: Editor,
+) -> Entered
+    requires { ⌜ (T (sound-state (state (now names) (now values) (now store) e))) × (Lies place (line-number (take size (now line))) (state (now names) (now values) (now store) e)) ⌝ }
+    ensures { λ r. ⌜ entered r (now (names .entry)) (now (values .entry)) (now (store .exit)) ≡ keep-line (state (now (names .entry)) (now (values .entry)) (now (store .entry)) e) (take size (now (line .entry))) (span at end) ⌝ }
+{
+    match store_edit::put_in(store, store_counts(e), place, front(line, size)) {
+        Stored::NoRoom => refused(8, e),
+        Stored::Done(after) => Entered {
+            number: 4,
+            place: at,
+            end,
+            added: 0,
+            editor: with_counts(e, after),
+        },
     }
 }
 

@@ -16,6 +16,9 @@ take-out-requires c κs =
 enum-known-left : tie.Need-enum-known-left
 enum-known-left c = search needs
 
+with-counts-requires : tie.Need-with-counts-requires
+with-counts-requires c κs = search needs
+
 enum-told : tie.Need-enum-told
 enum-told c = search needs
 
@@ -27,8 +30,8 @@ same-length c = search needs
 
 returns : tie.Need-returns
 returns c =
-    let args = c .before .before .before .before .before .before .before .before .before .before .before .args in
-    gone (args .names .now) (args .values .now) (args .store .now) (args .e) _ (c .before .before .before .before .before .before .store-counts .ensures) (args .place .number) _ _ (c .before .before .before .before .before .take-out .ensures .0) (c .before .before .before .before .before .take-out .ensures .1) (c .before .before .before .before .before .before .before .before .before .before .before .pre .0) _ (c .before .left .given .1)
+    let args = c .before .before .before .before .before .before .before .before .before .before .before .before .args in
+    gone (args .names .now) (args .values .now) (args .store .now) (args .e) _ (c .before .before .before .before .before .before .before .store-counts .ensures) (args .place .number) _ _ (c .before .before .before .before .before .before .take-out .ensures .0) (c .before .before .before .before .before .before .take-out .ensures .1) (c .before .before .before .before .before .before .before .before .before .before .before .before .pre .0) _ _ (c .before .before .left .given .1) (c .with-counts .ensures)
 
 same-length-2 : tie.Need-same-length-2
 same-length-2 c = search needs
@@ -45,6 +48,7 @@ take-out-spec =
     store-counts-requires
     take-out-requires
     enum-known-left
+    with-counts-requires
     enum-told
     refused-requires
     same-length
