@@ -9,9 +9,9 @@ use lib.ListN.{length, take}
 use Rattle.paper.specs.Items.{no-span}
 use Rattle.paper.specs.Names.{names-in, sound-table}
 use Rattle.paper.specs.Store.{sound-store}
-use Rattle.paper.specs.Calls.{State, lines-of, sound-tables, agrees, sound-state, refusal, enter, not-listed, list-sound, list}
+use Rattle.paper.specs.Calls.{State, lines-of, sound-tables, agrees, sound-state, refusal, head-of, enter, enter-with, not-listed, list-sound, list}
 use Rattle.paper.specs.Calls.{Listed as Written-out}
-use Rattle.paper.specs.Direct.{line-kept, typed, show-sound, show}
+use Rattle.paper.specs.Direct.{same-buffer, typed, show-sound, show}
 use Rattle.laws.specs.Tests.{and-left, as-T, is-true}
 use Rattle.laws.specs.Names.{sound-facts}
 use Rattle.store.specs.declared.Counts.{Counts}
@@ -26,6 +26,7 @@ use Rattle.editor_edit.specs.States.{state, typed-outcome, refusing, Lies}
 use Rattle.editor_edit.specs.Sound.{counts-kept, lines-kept}
 use Rattle.editor_list.specs.declared.Listed.{Listed}
 use Rattle.editor_list.specs.Answers.{unlisted, listed}
+use Rattle.editor.proofs.EnterLaws.{not-four}
 use Rattle.list_pieces.specs.NameLaws.{sound-own}
 use Rattle.list_pieces.specs.Rest.{Sound}
 
@@ -76,10 +77,11 @@ module _ (s : State) (b : Bool) (e : b ≡ sound-table (s .names) (s .name-size)
 -- ---- entering
 
 -- 1
-pub typed-refused : (names values store buffer : List ℕ) (e : Editor) (text : List ℕ) (x : Entered) → false ≡ sound-state (state names values store e) → x ≡ refusing 1 no-span e
-    → typed-outcome x names values store buffer ≡ typed text (state names values store e) buffer
-unfolding typed line-kept enter refusal
-typed-refused names values store buffer e text x t q = rw q (sym (rw (sym t)))
+pub typed-refused : (names values store buffer : List ℕ) (e : Editor) (keep : Bool) (text : List ℕ) (x : Entered) → false ≡ sound-state (state names values store e) → x ≡ refusing 1 no-span e
+    → typed-outcome x names values store buffer ≡ typed keep text (state names values store e) buffer
+unfolding typed same-buffer enter-with enter refusal
+typed-refused names values store buffer e keep text x t q =
+    let s = state names values store e in rw q (sym (rw (sym t) (ap (same-buffer buffer) (not-four s keep text (head-of text) (refusal 1 no-span s) refl))))
 
 -- ---- listing
 

@@ -17,7 +17,7 @@ use readings::read;
 use store::Found;
 ghost use mathlib.Core.Path.{_≡_};
 ghost use lib.Dec.{T};
-ghost use Rattle.paper.specs.Calls.{sound-state, enter-sound, list as list-call};
+ghost use Rattle.paper.specs.Calls.{sound-state, enter-with, list as list-call};
 ghost use Rattle.paper.specs.Direct.{typed, show as show-call};
 ghost use Rattle.editor_edit.specs.States.{state, entered, typed-outcome};
 ghost use Rattle.editor_list.specs.Answers.{listed};
@@ -33,21 +33,22 @@ pub fn sound(names: &[u8], values: &[u8], store: &[u8], e: Editor) -> bool
     }
 }
 
-// Enters a text over sound tables and a sound store, or refuses it with 2 to 9; one without a number with 3.
+// Enters a text over sound tables and a sound store, or refuses it with 2 to 9; one without a number with 3. `keep` says whether a wrong line is kept.
 pub fn enter_sound(
     text: &[u8],
+    keep: bool,
     names: &mut [u8],
     values: &mut [u8],
     store: &mut [u8],
     e: Editor,
 ) -> Entered
     requires { ⌜ T (sound-state (state (now names) (now values) (now store) e)) ⌝ }
-    ensures { λ r. ⌜ entered r (now (names .exit)) (now (values .exit)) (now (store .exit)) ≡ enter-sound (now (text .entry)) (state (now (names .entry)) (now (values .entry)) (now (store .entry)) e) ⌝ }
+    ensures { λ r. ⌜ entered r (now (names .exit)) (now (values .exit)) (now (store .exit)) ≡ enter-with keep (now (text .entry)) (state (now (names .entry)) (now (values .entry)) (now (store .entry)) e) ⌝ }
 {
     let mut line = [0u8; LINE_ROOM];
     let mut fresh = [0u8; NAMES_ROOM];
     let mut buffer = [0u8; 0];
-    let reading = read(text, false, names, e, &mut line, &mut fresh);
+    let reading = read(text, keep, false, names, e, &mut line, &mut fresh);
     let place = store::find_sound(store, store_counts(e), asked(reading));
     edit(
         reading,
@@ -63,22 +64,24 @@ pub fn enter_sound(
 }
 
 // Enters a text: a line is put in or takes the place of the one with its number, a number alone deletes. A line without a number is written to the
-// front of the line buffer, and the store stays as it is. A refusal, 1 to 9, changes nothing. The text is read first, so that one walk over the store
-// tests it and finds the place.
+// front of the line buffer, and the store stays as it is. A refusal, 1 to 9, changes nothing, but for a wrong line that is kept: where `keep` says so, a
+// line with a number that is refused with 4 is put in as an error line. The text is read first, so that one walk over the store tests it and finds the
+// place.
 pub fn enter(
     text: &[u8],
+    keep: bool,
     names: &mut [u8],
     values: &mut [u8],
     store: &mut [u8],
     line: &mut [u8],
     e: Editor,
 ) -> Entered
-    ensures { λ r. ⌜ typed-outcome r (now (names .exit)) (now (values .exit)) (now (store .exit)) (now (line .exit)) ≡ typed (now (text .entry)) (state (now (names .entry)) (now (values .entry)) (now (store .entry)) e) (now (line .entry)) ⌝ }
+    ensures { λ r. ⌜ typed-outcome r (now (names .exit)) (now (values .exit)) (now (store .exit)) (now (line .exit)) ≡ typed keep (now (text .entry)) (state (now (names .entry)) (now (values .entry)) (now (store .entry)) e) (now (line .entry)) ⌝ }
 {
     if names_sound::sound(names, e.name_bytes, e.name_count, values.len()) {
         let mut bytes = [0u8; LINE_ROOM];
         let mut fresh = [0u8; NAMES_ROOM];
-        let reading = read(text, true, names, e, &mut bytes, &mut fresh);
+        let reading = read(text, keep, true, names, e, &mut bytes, &mut fresh);
         match store::find(store, store_counts(e), asked(reading)) {
             Found::Unsound => refused(1, e),
             Found::At(place) => edit(

@@ -21,9 +21,10 @@ ghost use Rattle.editor.specs.Readings.{asked-number, Ready, Edits, Prep
 const LONGEST_TEXT: usize = 120;
 
 // What a text of any length is read as over sound names, with scratch for its line and for the names that are new in it. `direct` says whether one
-// without a number is a line.
+// without a number is a line, `keep` whether a wrong line is kept.
 pub(crate) fn read(
     text: &[u8],
+    keep: bool,
     direct: bool,
     names: &[u8],
     e: Editor,
@@ -31,12 +32,12 @@ pub(crate) fn read(
     fresh: &mut [u8; NAMES_ROOM],
 ) -> Reading
     requires { ⌜ (e .«name_bytes» ≤ length (now names)) × (255 ≤ length (now line)) × (240 ≤ length (now fresh)) ⌝ }
-    ensures { λ r. ⌜ Prepared direct (now (names .entry)) e (now (text .entry)) (now (line .exit)) (now (fresh .exit)) r ⌝ }
+    ensures { λ r. ⌜ Prepared keep direct (now (names .entry)) e (now (text .entry)) (now (line .exit)) (now (fresh .exit)) r ⌝ }
 {
     if LONGEST_TEXT < text.len() {
         return Reading::Refused(2, 0, 0);
     }
-    enter_line::read(text, direct, names, e.name_bytes, line, fresh)
+    enter_line::read(text, keep, direct, names, e.name_bytes, line, fresh)
 }
 
 // The number of the line that a text is about, as it was read; 0 of a text that is refused.
@@ -47,11 +48,12 @@ pub(crate) fn asked(reading: Reading) -> usize
         Reading::Refused(_, _, _) => 0,
         Reading::Delete(number) => number,
         Reading::Read(l) => l.number,
+        Reading::Kept(l, _, _) => l.number,
     }
 }
 
 // What comes of a text that was read, over a sound state and with the place of the number that it asks for: its refusal, or the edit. A line without a
-// number goes to the line buffer.
+// number goes to the line buffer, a wrong line that is kept to the store.
 pub(crate) fn edit(
     reading: Reading,
     place: Place,
@@ -78,5 +80,16 @@ pub(crate) fn edit(
                 editor_edit::accept(place, line, l.size, new, names, values, store, e)
             }
         }
+        Reading::Kept(l, at, end) => editor_edit::keep(
+            place,
+            line,
+            l.size,
+            at,
+            end,
+            names,
+            values,
+            store,
+            e,
+        ),
     }
 }

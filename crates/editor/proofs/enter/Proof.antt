@@ -54,7 +54,7 @@ returns : tie.Need-returns
 returns c =
     let args = c .before .before .before .before .before .before .before .before .before .before .before .before .before .before .before .before .before .before .before .args in
     let s = state (args .names .now) (args .values .now) (args .store .now) (args .e) in
-    typed-refused (args .names .now) (args .values .now) (args .store .now) (args .line .now) (args .e) (args .text .now) _
+    typed-refused (args .names .now) (args .values .now) (args .store .now) (args .line .now) (args .e) (args .keep) (args .text .now) _
     (unsound-store s _ (c .before .before .before .before .before .before .before .before .before .before .before .before .sound .ensures) (c .before .before .before .before .before .before .before .before .before .before .before .if1 .taken) _ (c .before .before .before .before .before .store-counts .ensures) _ _ (c .before .before .before .find .ensures ∙ ap (found-answer (args .store .now) _) (c .before .before .before .before .asked .ensures)) (c .before .enum-told .given .1)) (c .refused .ensures)
 
 same-length-3 : tie.Need-same-length-3
@@ -83,7 +83,7 @@ returns-3 : tie.Need-returns-3
 returns-3 c =
     let args = c .before .before .before .before .before .before .before .before .before .args in
     let s = state (args .names .now) (args .values .now) (args .store .now) (args .e) in
-    typed-refused (args .names .now) (args .values .now) (args .store .now) (args .line .now) (args .e) (args .text .now) _ (unsound-tables s _ (c .before .before .sound .ensures) (c .before .if1 .left)) (c .refused2 .ensures)
+    typed-refused (args .names .now) (args .values .now) (args .store .now) (args .line .now) (args .e) (args .keep) (args .text .now) _ (unsound-tables s _ (c .before .before .sound .ensures) (c .before .if1 .left)) (c .refused2 .ensures)
 
 pub enter-spec : {M : Type 1} → statement M
 enter-spec =

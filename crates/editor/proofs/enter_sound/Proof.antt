@@ -2,7 +2,7 @@ use mathlib.Core.Path.{ap, _∙_}
 use native.Mathlib.Omega.{arith}
 use Prim.Native.Nat.{ℕ}
 use Rattle.paper.specs.Calls.{lines-of}
-use Rattle.paper.specs.Direct.{Typed, line-kept}
+use Rattle.paper.specs.Direct.{Typed, same-buffer}
 use Rattle.store.specs.Answers.{place-of}
 use Rattle.editor_edit.specs.States.{state}
 use Rattle.editor_edit.specs.Sound.{table-sound, lines-kept, counts-sound}
@@ -48,7 +48,7 @@ same-length-3 : tie.Need-same-length-3
 same-length-3 c = search needs
 
 returns : tie.Need-returns
-unfolding line-kept
+unfolding same-buffer
 returns c =
     let args = c .before .before .before .before .before .before .before .before .before .before .before .before .before .before .before .before .before .before .before .before .before .before .before .before .before .before .args in
     let s = state (args .names .now) (args .values .now) (args .store .now) (args .e) in

@@ -1,6 +1,6 @@
 use Rattle.editor_edit.specs.States.{state}
 use Rattle.editor_edit.specs.Sound.{table-sound, values-fit}
-use Rattle.editor.proofs.ReadingLaws.{own-lies, edits-refused, readable-direct, edits-direct, edits-delete, readable, edits-line}
+use Rattle.editor.proofs.ReadingLaws.{own-lies, edits-refused, readable-direct, edits-direct, edits-delete, readable, edits-line, lies-kept, edits-kept}
 use borrow.Author.Needs.{needs}
 use Rattle.editor.proofs.readings.edit.Statement.{statement}
 use Rattle.editor.proofs.readings.edit.Tie as tie
@@ -37,6 +37,14 @@ accept-requires c κs =
     let args = c .before .before .before .before .before .before .before .before .before .before .before .before .before .before .before .args in
     let s = state (args .names .now) (args .values .now) (args .store .now) (args .e) in
     (c .before .before .before .before .before .before .before .before .before .before .before .before .before .before .before .pre .0, own-lies s (args .place) (args .reading) (c .before .before .before .before .before .before .before .before .before .before .before .before .before .before .before .pre .1), readable (args .names .now) (args .values .now) (args .store .now) (args .e) (args .buffer .now) (args .line .now) (args .fresh .now) (args .reading) (args .place) (c .before .before .before .before .before .before .before .before .before .before .before .before .before .before .before .pre .1) (c .before .before .before .before .before .before .before .before .before .reading2 .given .0 .0) (c .before .before .before .before .before .before .before .before .before .reading2 .given .1) _ (c .before .before .before .before .before .before .front .ensures) (c .before .before .before .before .before .before .before .before .before .before .before .before .before .before .before .pre .2))
+
+enum-known-reading-3 : tie.Need-enum-known-reading-3
+enum-known-reading-3 c = search needs
+
+keep-requires : tie.Need-keep-requires
+keep-requires c κs =
+    let args = c .before .before .before .before .before .before .before .before .before .before .before .args in
+    (c .before .before .before .before .before .before .before .before .before .before .before .pre .0, lies-kept (args .names .now) (args .values .now) (args .store .now) (args .e) (args .buffer .now) (args .line .now) (args .fresh .now) (args .reading) (args .place) (c .before .before .before .before .before .before .before .before .before .before .before .pre .1) _ _ _ (c .before .before .before .before .before .reading3 .given .1) (c .before .before .before .before .before .before .before .before .before .before .before .pre .2))
 
 returns : tie.Need-returns
 returns c =
@@ -85,6 +93,20 @@ returns-4 c =
     let args = c .before .before .before .before .before .before .before .before .before .before .before .before .before .before .before .before .before .before .before .before .before .before .args in
     edits-line (args .names .now) (args .values .now) (args .store .now) (args .e) (args .buffer .now) (args .line .now) (args .fresh .now) (args .reading) (args .place) (c .before .before .before .before .before .before .before .before .before .before .before .before .before .before .before .before .before .before .before .before .before .before .pre .1) (c .before .before .before .before .before .before .before .before .before .before .before .before .before .before .before .before .reading2 .given .0 .0) (c .before .before .before .before .before .before .before .before .before .before .before .before .before .before .before .before .reading2 .given .1) _ (c .before .before .before .before .before .before .before .before .before .before .before .before .before .front .ensures) _ _ _ _ (c .before .before .before .before .before .before .before .before .before .before .before .if1 .left) (c .before .before .before .before .before .before .accept .ensures)
 
+same-length-10 : tie.Need-same-length-10
+same-length-10 c = search needs
+
+same-length-11 : tie.Need-same-length-11
+same-length-11 c = search needs
+
+same-length-12 : tie.Need-same-length-12
+same-length-12 c = search needs
+
+returns-5 : tie.Need-returns-5
+returns-5 c =
+    let args = c .before .before .before .before .before .before .before .before .before .before .before .before .before .before .args in
+    edits-kept (args .names .now) (args .values .now) (args .store .now) (args .e) (args .buffer .now) (args .line .now) (args .fresh .now) (args .reading) _ _ _ _ _ (c .before .before .before .before .before .before .before .before .reading3 .given .1) (c .before .before .keep .ensures)
+
 pub edit-spec : {M : Type 1} → statement M
 edit-spec =
     tie.close
@@ -97,6 +119,8 @@ edit-spec =
     front-requires
     accept-direct-requires
     accept-requires
+    enum-known-reading-3
+    keep-requires
     returns
     same-length
     same-length-2
@@ -109,4 +133,8 @@ edit-spec =
     same-length-7
     same-length-8
     same-length-9
-    returns-4)
+    returns-4
+    same-length-10
+    same-length-11
+    same-length-12
+    returns-5)
