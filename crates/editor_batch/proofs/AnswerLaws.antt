@@ -3,12 +3,12 @@ use Prim.Native.Nat.{ℕ, zero, suc, _+_}
 use native.Mathlib.Numerals.{add-one}
 use native.Mathlib.Nat.{add-zero}
 use mathlib.Core.Path.{_≡_, refl, sym, ap, _∙_}
-use mathlib.Core.Bool.{false}
+use mathlib.Core.Bool.{Bool, false}
 use mathlib.Core.List.{List, []}
 use lib.ListN.{length}
 use borrow.Author.Tests.{eq-eqb, ne-eqb}
 use Rattle.paper.specs.Items.{no-span}
-use Rattle.paper.specs.Calls.{State, sound-state, refusal, enter}
+use Rattle.paper.specs.Calls.{State, sound-state, refusal, enter-with}
 use Rattle.paper.specs.Batch.{Batched as Outcome, text-lines, no-lines, with-answer, batch}
 use Rattle.paper.specs.Open.{everything}
 use Rattle.promises.specs.Terms.{all-unsound}
@@ -37,10 +37,10 @@ module _ (b : Batched) (e : Entered) where
   also-refused h k n v s n′ v′ s′ = rw (ne-eqb (e .number) 0 h, ne-eqb (b .refused) 0 k, add-one (b .refused))
 
 -- a line refused because the tables are unsound
-pub refused-unsound : (line names values store : List ℕ) (e : Editor) (r : Entered) → r ≡ refusing 1 no-span e → sound-state (state names values store e) ≡ false
-    → entered r names values store ≡ enter line (state names values store e)
+pub refused-unsound : (keep : Bool) (line names values store : List ℕ) (e : Editor) (r : Entered) → r ≡ refusing 1 no-span e → sound-state (state names values store e) ≡ false
+    → entered r names values store ≡ enter-with keep line (state names values store e)
 unfolding refusal
-refused-unsound line names values store e r q u = ap (λ (z : Entered). entered z names values store) q ∙ sym (unsound-entered line (state names values store e) u)
+refused-unsound keep line names values store e r q u = ap (λ (z : Entered). entered z names values store) q ∙ sym (unsound-entered keep line (state names values store e) u)
 
 -- ---- every line refused
 
@@ -62,7 +62,7 @@ unfolding everything
 wrong-unsound = refl
 
 -- over it every line of a text is refused, and so the answer is, with any record in its place
-pub all-refused : (text n′ v′ s′ : List ℕ) (r : Batched) (e : Editor) → batched r n′ v′ s′ ≡ batch text (state [] [] [] wrong-record) → (n v s : List ℕ)
+pub all-refused : (text n′ v′ s′ : List ℕ) (r : Batched) (e : Editor) → batched r n′ v′ s′ ≡ batch false text (state [] [] [] wrong-record) → (n v s : List ℕ)
     → batched (record { taken = r .taken; refused = r .refused; number = r .number; place = r .place; end = r .end; line = r .line; editor = e }) n v s ≡ all-unsound (length (text-lines text)) (state n v s e)
 all-refused text n′ v′ s′ r e h n v s =
-    ap (leaving (state n v s e)) (h ∙ batch-unsound text (state [] [] [] wrong-record) wrong-unsound) ∙ left-unsound (length (text-lines text)) (state [] [] [] wrong-record) (state n v s e)
+    ap (leaving (state n v s e)) (h ∙ batch-unsound false text (state [] [] [] wrong-record) wrong-unsound) ∙ left-unsound (length (text-lines text)) (state [] [] [] wrong-record) (state n v s e)

@@ -10,7 +10,7 @@ use lib.Seq.{take-all}
 use borrow.Author.Tests.{leb-true, leb-false}
 use Rattle.paper.specs.Bytes.{run}
 use Rattle.paper.specs.Items.{raw-byte?}
-use Rattle.paper.specs.Calls.{State, Entered, sound-state, enter}
+use Rattle.paper.specs.Calls.{State, Entered, sound-state, enter-with}
 use Rattle.paper.specs.Batch.{text-lines, answers-to, none-refused, Batched, no-lines, with-answer, with-answers, batch}
 use Rattle.promises.specs.Batches.{first-line, answer-after, answer-counted, same-soundness}
 use Rattle.buffers.specs.Runs.{run-within}
@@ -20,19 +20,19 @@ use Rattle.editor_batch.specs.declared.Batched.{Batched as Answer}
 use Rattle.editor_batch.specs.Answers.{batched, nothing-entered}
 
 -- the call going on with a text
-abbrev pub going-on : Batched → List ℕ → Batched
-going-on b text = with-answers b (answers-to (text-lines text) (b .after))
+abbrev pub going-on : Bool → Batched → List ℕ → Batched
+going-on keep b text = with-answers b (answers-to keep (text-lines text) (b .after))
 
 -- from no line on
-pub begins : (b : Answer) (e : Editor) (names values store text : List ℕ) → b ≡ nothing-entered e → going-on (batched b names values store) text ≡ batch text (state names values store e)
+pub begins : (keep : Bool) (b : Answer) (e : Editor) (names values store text : List ℕ) → b ≡ nothing-entered e → going-on keep (batched b names values store) text ≡ batch keep text (state names values store e)
 unfolding batch no-lines none-refused
-begins b e names values store text h = ap (λ (z : Answer). going-on (batched z names values store) text) h
+begins keep b e names values store text h = ap (λ (z : Answer). going-on keep (batched z names values store) text) h
 
 -- with no more text it is done
-pub done : (b : Batched) (text : List ℕ) → length text ≤ 0 → going-on b text ≡ b
+pub done : (keep : Bool) (b : Batched) (text : List ℕ) → length text ≤ 0 → going-on keep b text ≡ b
 unfolding with-answers answers-to text-lines
-done b [] h = refl
-done b (x ∷ text) h = absurd (omega arith)
+done keep b [] h = refl
+done keep b (x ∷ text) h = absurd (omega arith)
 
 -- to leave out more than there is leaves nothing
 drop-most : (n : ℕ) (xs : List ℕ) → drop (min n (length xs)) xs ≡ drop n xs
@@ -76,16 +76,16 @@ module _ (b c : Batched) (e : Entered) (is : c ≡ with-answer b e) where
   pub one-counted : c .taken + c .refused ≡ suc (b .taken + b .refused)
   one-counted = ap (λ (z : Batched). z .taken + z .refused) is ∙ answer-counted b e
 
-  module _ (line : List ℕ) (so : e ≡ enter line (b .after)) where
+  module _ (keep : Bool) (line : List ℕ) (so : e ≡ enter-with keep line (b .after)) where
     -- the tables are as sound as before
     pub as-sound : sound-state (c .after) ≡ sound-state (b .after)
-    as-sound = ap sound-state same-after ∙ ap (λ (z : Entered). sound-state (z .after)) so ∙ same-soundness line (b .after)
+    as-sound = ap sound-state same-after ∙ ap (λ (z : Entered). sound-state (z .after)) so ∙ same-soundness keep line (b .after)
 
     -- and the call comes to the same
-    pub comes-to : (rest next : List ℕ) → text-lines rest ≡ line ∷ text-lines next → going-on c next ≡ going-on b rest
+    pub comes-to : (rest next : List ℕ) → text-lines rest ≡ line ∷ text-lines next → going-on keep c next ≡ going-on keep b rest
     unfolding with-answers answers-to
     comes-to rest next h =
-        ap (λ (z : State). with-answers c (answers-to (text-lines next) z)) same-after
-        ∙ ap (λ (z : Batched). with-answers z (answers-to (text-lines next) (e .after))) is
-        ∙ ap (λ (z : Entered). with-answers (with-answer b z) (answers-to (text-lines next) (z .after))) so
-        ∙ ap (λ (z : List (List ℕ)). with-answers b (answers-to z (b .after))) (sym h)
+        ap (λ (z : State). with-answers c (answers-to keep (text-lines next) z)) same-after
+        ∙ ap (λ (z : Batched). with-answers z (answers-to keep (text-lines next) (e .after))) is
+        ∙ ap (λ (z : Entered). with-answers (with-answer b z) (answers-to keep (text-lines next) (z .after))) so
+        ∙ ap (λ (z : List (List ℕ)). with-answers b (answers-to keep z (b .after))) (sym h)

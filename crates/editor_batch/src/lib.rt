@@ -7,7 +7,7 @@ use editor_edit::refused;
 ghost use mathlib.Core.Path.{_≡_};
 ghost use mathlib.Core.List.{List};
 ghost use Prim.Native.Nat.{ℕ, suc, _+_, _<_, min};
-ghost use Rattle.paper.specs.Calls.{sound-state, enter as enter-call};
+ghost use Rattle.paper.specs.Calls.{sound-state, enter-with};
 ghost use lib.ListN.{length};
 ghost use Rattle.paper.specs.Batch.{text-lines, with-answer, batch as batch-call};
 ghost use Rattle.promises.specs.Terms.{all-unsound};
@@ -84,16 +84,17 @@ fn with_answer(b: Batched, e: Entered) -> Batched
 fn enter_tested(
     sound: bool,
     line: &[u8],
+    keep: bool,
     names: &mut [u8],
     values: &mut [u8],
     store: &mut [u8],
     e: Editor,
 ) -> Entered
     requires { ⌜ sound ≡ sound-state (state (now names) (now values) (now store) e) ⌝ }
-    ensures { λ r. ⌜ entered r (now (names .exit)) (now (values .exit)) (now (store .exit)) ≡ enter-call (now (line .entry)) (state (now (names .entry)) (now (values .entry)) (now (store .entry)) e) ⌝ }
+    ensures { λ r. ⌜ entered r (now (names .exit)) (now (values .exit)) (now (store .exit)) ≡ enter-with keep (now (line .entry)) (state (now (names .entry)) (now (values .entry)) (now (store .entry)) e) ⌝ }
 {
     if sound {
-        editor::enter_sound(line, names, values, store, e)
+        editor::enter_sound(line, keep, names, values, store, e)
     } else {
         refused(1, e)
     }
@@ -107,22 +108,23 @@ fn next_line(end: usize, length: usize) -> usize
 }
 
 // Enters the lines of a text one after another, as single calls would, going on after a refusal. Each 9B ends a line, and bytes after the last 9B are a line
-// too. Tables, store and record are tested once: what a line leaves is sound again.
+// too. Tables, store and record are tested once: what a line leaves is sound again. `keep` says whether wrong lines are kept.
 pub fn batch(
     text: &[u8],
+    keep: bool,
     names: &mut [u8],
     values: &mut [u8],
     store: &mut [u8],
     e: Editor,
 ) -> Batched
-    ensures { λ r. ⌜ batched r (now (names .exit)) (now (values .exit)) (now (store .exit)) ≡ batch-call (now (text .entry)) (state (now (names .entry)) (now (values .entry)) (now (store .entry)) e) ⌝ }
+    ensures { λ r. ⌜ batched r (now (names .exit)) (now (values .exit)) (now (store .exit)) ≡ batch-call keep (now (text .entry)) (state (now (names .entry)) (now (values .entry)) (now (store .entry)) e) ⌝ }
 {
     let sound = editor::sound(names, values, store, e);
     let mut rest = text;
     let mut b = no_lines(e);
     while 0 < rest.len() {
         let end = run_end(rest, 0, Run::RawBytes);
-        let answer = enter_tested(sound, &rest[..end], names, values, store, b.editor);
+        let answer = enter_tested(sound, &rest[..end], keep, names, values, store, b.editor);
         b = with_answer(b, answer);
         let next = next_line(end, rest.len());
         rest = &rest[next..];
@@ -139,6 +141,7 @@ pub fn refuse_all(text: &[u8], e: Editor) -> Batched
     let mut store = [0u8; 0];
     let r = batch(
         text,
+        false,
         &mut names,
         &mut values,
         &mut store,

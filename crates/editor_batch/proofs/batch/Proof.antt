@@ -15,16 +15,16 @@ use Rattle.editor_batch.proofs.batch.Statement.{statement}
 use Rattle.editor_batch.proofs.batch.Tie as tie
 
 abbrev Inv-loop : tie.InvT-loop
-Inv-loop text names₀ values₀ store₀ sound rest₀ b₀ names values store rest b =
+Inv-loop text keep names₀ values₀ store₀ sound rest₀ b₀ names values store rest b =
     (sound ≡ sound-state ((batched b names values store) .after))
     × (b .taken + b .refused + length rest ≤ length text)
     × (length names ≡ length names₀)
     × (length values ≡ length values₀)
     × (length store ≡ length store₀)
-    × (going-on (batched b names values store) rest ≡ going-on (batched b₀ names₀ values₀ store₀) text)
+    × (going-on keep (batched b names values store) rest ≡ going-on keep (batched b₀ names₀ values₀ store₀) text)
 
 abbrev μ-loop : tie.MeasureT-loop
-μ-loop text names₀ values₀ store₀ sound rest₀ b₀ names values store rest b = length rest
+μ-loop text keep names₀ values₀ store₀ sound rest₀ b₀ names values store rest b = length rest
 
 pub batch-spec : {M : Type 1} → statement M
 batch-spec =
@@ -55,16 +55,16 @@ batch-spec =
     let some : 0 < length (turn .rest .now) = omega (arith, c .before .before .before .before .before .before .before .before .before .before .before .before .before .before .before .loop-test .taken) in
     let answer = c .before .before .with-answer .ensures _ _ _ _ _ _ in
     let entry = c .before .before .before .before .before .before .before .before .before .enter-tested .ensures in (
-      turn .inv .0 ∙ sym (as-sound _ _ _ answer _ entry),
+      turn .inv .0 ∙ sym (as-sound _ _ _ answer _ _ entry),
       omega (arith, one-counted _ _ _ answer, c .before .next-line .ensures, c .rest .given .2, turn .inv .1),
-      omega (arith, c .before .before .before .before .before .before .before .before .before .enter-tested .kept .1 .1 .0, turn .inv .2),
-      omega (arith, c .before .before .before .before .before .before .before .before .before .enter-tested .kept .1 .1 .1 .0, turn .inv .3),
-      omega (arith, c .before .before .before .before .before .before .before .before .before .enter-tested .kept .1 .1 .1 .1 .0, turn .inv .4),
-      comes-to _ _ _ answer _ entry _ _ (lines-so (turn .rest .now) _ (c .before .before .before .before .before .before .before .before .before .before .before .before .before .before .run-end .ensures .0) some _ (c .before .next-line .ensures)) ∙ turn .inv .5,
+      omega (arith, c .before .before .before .before .before .before .before .before .before .enter-tested .kept .1 .1 .1 .0, turn .inv .2),
+      omega (arith, c .before .before .before .before .before .before .before .before .before .enter-tested .kept .1 .1 .1 .1 .0, turn .inv .3),
+      omega (arith, c .before .before .before .before .before .before .before .before .before .enter-tested .kept .1 .1 .1 .1 .1 .0, turn .inv .4),
+      comes-to _ _ _ answer _ _ entry _ _ (lines-so (turn .rest .now) _ (c .before .before .before .before .before .before .before .before .before .before .before .before .before .before .run-end .ensures .0) some _ (c .before .next-line .ensures)) ∙ turn .inv .5,
     ))
     (λ c. c .before .loop .inv .2)
     (λ c. c .before .loop .inv .3)
     (λ c. c .before .loop .inv .4)
     (λ c. let turn = c .before .loop in
     let args = c .before .before .before .before .before .before .before .before .before .before .before .args in
-    sym (done _ (turn .rest .now) (c .loop-test .left)) ∙ turn .inv .5 ∙ begins _ (args .e) (args .names .now) (args .values .now) (args .store .now) (args .text .now) (c .before .before .no-lines .ensures)))
+    sym (done (args .keep) _ (turn .rest .now) (c .loop-test .left)) ∙ turn .inv .5 ∙ begins (args .keep) _ (args .e) (args .names .now) (args .values .now) (args .store .now) (args .text .now) (c .before .before .no-lines .ensures)))

@@ -1,7 +1,5 @@
 use mathlib.Core.Path.{sym, _∙_}
 use Rattle.laws.specs.Tests.{as-T}
-use Rattle.editor_edit.specs.States.{state}
-use Rattle.promises.specs.Batches.{sound-entered}
 use Rattle.editor_batch.proofs.AnswerLaws.{refused-unsound}
 use borrow.Author.Needs.{needs}
 use Rattle.editor_batch.proofs.enter_tested.Statement.{statement}
@@ -16,10 +14,7 @@ enter-tested-spec =
     (λ c. search needs)
     (λ c. search needs)
     (λ c. search needs)
-    (λ c. let start = c .before .before .before .before .before .before .before .before .before .before .before .before .before .before .before in
-    let args = start .args in
-    let s = state (args .names .now) (args .values .now) (args .store .now) (args .e) in
-    c .before .before .before .before .before .before .enter-sound .ensures ∙ sym (sound-entered (args .line .now) s (as-T _ (sym (start .pre) ∙ c .before .before .before .before .before .before .before .before .before .before .if1 .taken))))
+    (λ c. c .before .before .before .before .before .before .enter-sound .ensures)
     (λ c. let start = c .before .before .before .before .before .before in
     let args = start .args in
-    refused-unsound (args .line .now) (args .names .now) (args .values .now) (args .store .now) (args .e) _ (c .refused .ensures) (sym (start .pre) ∙ c .before .if1 .left)))
+    refused-unsound (args .keep) (args .line .now) (args .names .now) (args .values .now) (args .store .now) (args .e) _ (c .refused .ensures) (sym (start .pre) ∙ c .before .if1 .left)))
