@@ -21,15 +21,16 @@ pub struct Answer {
 // Enters a text as `enter` does, over a lent record, which is updated.
 pub fn enter_lent(
     text: &[u8],
+    keep: bool,
     names: &mut [u8],
     values: &mut [u8],
     store: &mut [u8],
     line: &mut [u8],
     e: &mut Editor,
 ) -> Answer
-    ensures { λ r. ⌜ answered r (now (names .exit)) (now (values .exit)) (now (store .exit)) (now (line .exit)) (now (e .exit)) ≡ typed (now (text .entry)) (state (now (names .entry)) (now (values .entry)) (now (store .entry)) (now (e .entry))) (now (line .entry)) ⌝ }
+    ensures { λ r. ⌜ answered r (now (names .exit)) (now (values .exit)) (now (store .exit)) (now (line .exit)) (now (e .exit)) ≡ typed keep (now (text .entry)) (state (now (names .entry)) (now (values .entry)) (now (store .entry)) (now (e .entry))) (now (line .entry)) ⌝ }
 {
-    let r = enter(text, names, values, store, line, *e);
+    let r = enter(text, keep, names, values, store, line, *e);
     *e = r.editor;
     Answer {
         number: r.number,
