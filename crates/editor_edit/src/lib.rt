@@ -195,26 +195,26 @@ pub fn accept(
 // place in the text and its end; or refuses it with 8. The tables stay as they are.
 pub fn keep(
     place: Place,
-    line: &[u8],
+    error_line: &[u8],
     size: usize,
     at: usize,
     end: usize,
     names: &[u8],
     values: &[u8],
     store: &mut [u8],
-    e: Editor,
+    editor: Editor,
 ) -> Entered
-    requires { ⌜ (T (sound-state (state (now names) (now values) (now store) e))) × (Lies place (line-number (take size (now line))) (state (now names) (now values) (now store) e)) ⌝ }
-    ensures { λ r. ⌜ entered r (now (names .entry)) (now (values .entry)) (now (store .exit)) ≡ keep-line (state (now (names .entry)) (now (values .entry)) (now (store .entry)) e) (take size (now (line .entry))) (span at end) ⌝ }
+    requires { ⌜ (T (sound-state (state (now names) (now values) (now store) editor))) × (Lies place (line-number (take size (now «error_line»))) (state (now names) (now values) (now store) editor)) ⌝ }
+    ensures { λ r. ⌜ entered r (now (names .entry)) (now (values .entry)) (now (store .exit)) ≡ keep-line (state (now (names .entry)) (now (values .entry)) (now (store .entry)) editor) (take size (now («error_line» .entry))) (span at end) ⌝ }
 {
-    match store_edit::put_in(store, store_counts(e), place, front(line, size)) {
-        Stored::NoRoom => refused(8, e),
+    match store_edit::put_in(store, store_counts(editor), place, front(error_line, size)) {
+        Stored::NoRoom => refused(8, editor),
         Stored::Done(after) => Entered {
             number: 4,
             place: at,
             end,
             added: 0,
-            editor: with_counts(e, after),
+            editor: with_counts(editor, after),
         },
     }
 }

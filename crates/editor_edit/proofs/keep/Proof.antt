@@ -13,7 +13,7 @@ front-requires : tie.Need-front-requires
 front-requires c κs = search needs
 
 put-in-requires : tie.Need-put-in-requires
-put-in-requires c κs = (counts-sound (state (c .before .before .before .before .before .before .before .args .names .now) (c .before .before .before .before .before .before .before .args .values .now) (c .before .before .before .before .before .before .before .args .store .now) (c .before .before .before .before .before .before .before .args .e)) _ (c .before .store-counts .ensures) (c .before .before .before .before .before .before .before .pre .0), place-kept (c .before .before .before .before .before .before .before .args .names .now) (c .before .before .before .before .before .before .before .args .values .now) (c .before .before .before .before .before .before .before .args .store .now) (c .before .before .before .before .before .before .before .args .e) _ (c .before .store-counts .ensures) (c .before .before .before .before .before .before .before .pre .0) (c .before .before .before .before .before .before .before .args .line .now) (c .before .before .before .before .before .before .before .args .size) (span (c .before .before .before .before .before .before .before .args .at) (c .before .before .before .before .before .before .before .args .end)) _ (c .front .ensures) (c .before .before .before .before .before .before .before .args .place) (c .before .before .before .before .before .before .before .pre .1))
+put-in-requires c κs = (counts-sound (state (c .before .before .before .before .before .before .before .args .names .now) (c .before .before .before .before .before .before .before .args .values .now) (c .before .before .before .before .before .before .before .args .store .now) (c .before .before .before .before .before .before .before .args .editor)) _ (c .before .store-counts .ensures) (c .before .before .before .before .before .before .before .pre .0), place-kept (c .before .before .before .before .before .before .before .args .names .now) (c .before .before .before .before .before .before .before .args .values .now) (c .before .before .before .before .before .before .before .args .store .now) (c .before .before .before .before .before .before .before .args .editor) _ (c .before .store-counts .ensures) (c .before .before .before .before .before .before .before .pre .0) (c .before .before .before .before .before .before .before .args .error-line .now) (c .before .before .before .before .before .before .before .args .size) (span (c .before .before .before .before .before .before .before .args .at) (c .before .before .before .before .before .before .before .args .end)) _ (c .front .ensures) (c .before .before .before .before .before .before .before .args .place) (c .before .before .before .before .before .before .before .pre .1))
 
 enum-told : tie.Need-enum-told
 enum-told c = search needs
@@ -31,13 +31,13 @@ same-length : tie.Need-same-length
 same-length c = search needs
 
 returns : tie.Need-returns
-returns c = kept-8 (c .before .before .before .before .before .before .before .before .before .before .before .before .before .args .names .now) (c .before .before .before .before .before .before .before .before .before .before .before .before .before .args .values .now) (c .before .before .before .before .before .before .before .before .before .before .before .before .before .args .store .now) (c .before .before .before .before .before .before .before .before .before .before .before .before .before .args .e) _ (c .before .before .before .before .before .before .before .store-counts .ensures) (c .before .before .before .before .before .before .before .before .before .before .before .before .before .pre .0) (c .before .before .before .before .before .before .before .before .before .before .before .before .before .args .line .now) (c .before .before .before .before .before .before .before .before .before .before .before .before .before .args .size) (span (c .before .before .before .before .before .before .before .before .before .before .before .before .before .args .at) (c .before .before .before .before .before .before .before .before .before .before .before .before .before .args .end)) _ (c .before .before .before .before .before .before .front .ensures) _ _ (c .before .before .before .before .before .put-in .ensures .0) (c .before .before .before .before .before .put-in .ensures .1) _ (c .before .enum-told .given .1) (c .refused .ensures)
+returns c = kept-8 (c .before .before .before .before .before .before .before .before .before .before .before .before .before .args .names .now) (c .before .before .before .before .before .before .before .before .before .before .before .before .before .args .values .now) (c .before .before .before .before .before .before .before .before .before .before .before .before .before .args .store .now) (c .before .before .before .before .before .before .before .before .before .before .before .before .before .args .editor) _ (c .before .before .before .before .before .before .before .store-counts .ensures) (c .before .before .before .before .before .before .before .before .before .before .before .before .before .pre .0) (c .before .before .before .before .before .before .before .before .before .before .before .before .before .args .error-line .now) (c .before .before .before .before .before .before .before .before .before .before .before .before .before .args .size) (span (c .before .before .before .before .before .before .before .before .before .before .before .before .before .args .at) (c .before .before .before .before .before .before .before .before .before .before .before .before .before .args .end)) _ (c .before .before .before .before .before .before .front .ensures) _ _ (c .before .before .before .before .before .put-in .ensures .0) (c .before .before .before .before .before .put-in .ensures .1) _ (c .before .enum-told .given .1) (c .refused .ensures)
 
 same-length-2 : tie.Need-same-length-2
 same-length-2 c = search needs
 
 returns-2 : tie.Need-returns-2
-returns-2 c = kept-4 (c .before .before .before .before .before .before .before .before .before .before .before .before .before .before .args .names .now) (c .before .before .before .before .before .before .before .before .before .before .before .before .before .before .args .values .now) (c .before .before .before .before .before .before .before .before .before .before .before .before .before .before .args .store .now) (c .before .before .before .before .before .before .before .before .before .before .before .before .before .before .args .e) _ (c .before .before .before .before .before .before .before .before .store-counts .ensures) (c .before .before .before .before .before .before .before .before .before .before .before .before .before .before .pre .0) (c .before .before .before .before .before .before .before .before .before .before .before .before .before .before .args .line .now) (c .before .before .before .before .before .before .before .before .before .before .before .before .before .before .args .size) (span (c .before .before .before .before .before .before .before .before .before .before .before .before .before .before .args .at) (c .before .before .before .before .before .before .before .before .before .before .before .before .before .before .args .end)) _ (c .before .before .before .before .before .before .before .front .ensures) _ _ (c .before .before .before .before .before .before .put-in .ensures .0) (c .before .before .before .before .before .before .put-in .ensures .1) _ _ (c .before .before .after .given .1) (c .with-counts .ensures)
+returns-2 c = kept-4 (c .before .before .before .before .before .before .before .before .before .before .before .before .before .before .args .names .now) (c .before .before .before .before .before .before .before .before .before .before .before .before .before .before .args .values .now) (c .before .before .before .before .before .before .before .before .before .before .before .before .before .before .args .store .now) (c .before .before .before .before .before .before .before .before .before .before .before .before .before .before .args .editor) _ (c .before .before .before .before .before .before .before .before .store-counts .ensures) (c .before .before .before .before .before .before .before .before .before .before .before .before .before .before .pre .0) (c .before .before .before .before .before .before .before .before .before .before .before .before .before .before .args .error-line .now) (c .before .before .before .before .before .before .before .before .before .before .before .before .before .before .args .size) (span (c .before .before .before .before .before .before .before .before .before .before .before .before .before .before .args .at) (c .before .before .before .before .before .before .before .before .before .before .before .before .before .before .args .end)) _ (c .before .before .before .before .before .before .before .front .ensures) _ _ (c .before .before .before .before .before .before .put-in .ensures .0) (c .before .before .before .before .before .before .put-in .ensures .1) _ _ (c .before .before .after .given .1) (c .with-counts .ensures)
 
 pub keep-spec : {M : Type 1} → statement M
 keep-spec =
