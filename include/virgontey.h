@@ -23,6 +23,7 @@
 #ifndef VIRGONTEY_H
 #define VIRGONTEY_H
 
+#include <stdbool.h>
 #include <stddef.h>
 #include <stdint.h>
 
@@ -55,7 +56,7 @@ enum {
     VIRGONTEY_ENTER_PLACE = 1,  /* offset in the text for refusals 4 and 5, otherwise 0 */
     VIRGONTEY_ENTER_END = 2,    /* offset past the item at that place, the place itself at the text's end; otherwise 0 */
     VIRGONTEY_ENTER_ADDED = 3,  /* how many names were added, 0 on a refusal */
-    VIRGONTEY_ENTER_USED = 4,   /* bytes of store in use afterwards, as given on a refusal */
+    VIRGONTEY_ENTER_USED = 4,   /* bytes of store in use afterwards, as given on a refusal unless the line is kept */
     VIRGONTEY_ENTER_LENGTH = 5
 };
 
@@ -115,14 +116,18 @@ enum {
  *           at; the new line stands at its start, and its third byte says how long it is. Bytes past that
  *           stay. Where such texts are not wanted it may be NULL and 0: they are then refused with 8 (or
  *           with what comes before 8, such as 4). A text with a number neither reads nor changes it.
+ *   keep    whether a wrong line is kept: a text with a number that is refused with 4 is put into the store as
+ *           an error line, over the line that had its number, so that it can be listed and mended. The
+ *           answer is 4 with the place all the same, or 8 where the line has no room. A text with a byte 9B,
+ *           or with 1B at the place, is not kept.
  *   record  the editor record, read and updated, all five counts; record_len is VIRGONTEY_RECORD_LENGTH
  *   answer  written; answer_len is VIRGONTEY_ENTER_LENGTH
  *
- * On a refusal nothing but the answer changes.
+ * On a refusal nothing but the answer changes, unless a wrong line is kept: then store and record do.
  */
 void virgontey_enter(const uint8_t *text, size_t text_len, uint8_t *names, size_t names_len,
                      uint8_t *values, size_t values_len, uint8_t *store, size_t store_len,
-                     uint8_t *line, size_t line_len, size_t *record, size_t record_len,
+                     uint8_t *line, size_t line_len, bool keep, size_t *record, size_t record_len,
                      size_t *answer, size_t answer_len);
 
 /*
@@ -132,15 +137,15 @@ void virgontey_enter(const uint8_t *text, size_t text_len, uint8_t *names, size_
  * without a number is refused with 3, and no line buffer is lent.
  *
  *   text    the lines, of any length together; each is taken up to 120 bytes
- *   names, values, store, record   as for virgontey_enter
+ *   names, values, store, keep, record   as for virgontey_enter
  *   answer  written; answer_len is VIRGONTEY_BATCH_LENGTH
  *
- * A refused line changes nothing, and the lines after it are entered. To learn of more refusals than the
+ * A refused line changes nothing unless it is kept, and the lines after it are entered. To learn of more refusals than the
  * first, enter the lines one by one, or those after the first again.
  */
 void virgontey_batch(const uint8_t *text, size_t text_len, uint8_t *names, size_t names_len,
                      uint8_t *values, size_t values_len, uint8_t *store, size_t store_len,
-                     size_t *record, size_t record_len, size_t *answer, size_t answer_len);
+                     bool keep, size_t *record, size_t record_len, size_t *answer, size_t answer_len);
 
 /*
  * Lists the line with a number into out, without an end mark. Only the bytes written change there;

@@ -10,7 +10,7 @@ use Rattle.paper.specs.Bytes.{pick}
 use Rattle.paper.specs.Items.{no-span}
 use Rattle.paper.specs.Calls.{refusal, not-listed, list}
 use Rattle.paper.specs.Calls.{Listed as Written-out}
-use Rattle.paper.specs.Direct.{Typed, line-kept, typed}
+use Rattle.paper.specs.Direct.{Typed, same-buffer, typed}
 use Rattle.paper.specs.Batch.{text-lines, batch}
 use Rattle.paper.specs.Batch.{Batched as Outcome}
 use Rattle.promises.specs.Terms.{all-unsound}
@@ -47,37 +47,37 @@ pub read-so : (r : List ℕ) (b n u l g : ℕ) → b ≡ getD r 0 0 → n ≡ ge
     → _≡_ {A = Editor} (record { «name_bytes» = b; «name_count» = n; used = u; lines = l; greatest = g }) (editor-of r)
 read-so r b n u l g e₁ e₂ e₃ e₄ e₅ = rw (e₁, e₂, e₃, e₄, e₅)
 
-module _ (text names values store line r : List ℕ) (e : Editor) (so : e ≡ editor-of r) where
+module _ (keep : Bool) (text names values store line r : List ℕ) (e : Editor) (so : e ≡ editor-of r) where
   -- a record that lacks a count
-  pub enter-lacking : (x : Entered) → x ≡ refusing 1 no-span e → length r < 5 → typed-outcome x names values store line ≡ enter-by-counts text names values store line r
-  unfolding line-kept refusal
+  pub enter-lacking : (x : Entered) → x ≡ refusing 1 no-span e → length r < 5 → typed-outcome x names values store line ≡ enter-by-counts keep text names values store line r
+  unfolding same-buffer refusal
   enter-lacking x given h =
       ap (λ (y : Entered). typed-outcome y names values store line) given
-      ∙ ap (λ (y : Editor). line-kept line (refusal 1 no-span (state names values store y))) so
-      ∙ ap (λ (t : Bool). pick t (line-kept line (refusal 1 no-span (state names values store (editor-of r)))) (typed text (state names values store (editor-of r)) line)) (sym (lt-ltb (length r) 5 h))
+      ∙ ap (λ (y : Editor). same-buffer line (refusal 1 no-span (state names values store y))) so
+      ∙ ap (λ (t : Bool). pick t (same-buffer line (refusal 1 no-span (state names values store (editor-of r)))) (typed keep text (state names values store (editor-of r)) line)) (sym (lt-ltb (length r) 5 h))
 
   -- a record that has them all
-  pub enter-counted : (o : Typed) → 5 ≤ length r → o ≡ typed text (state names values store e) line → o ≡ enter-by-counts text names values store line r
+  pub enter-counted : (o : Typed) → 5 ≤ length r → o ≡ typed keep text (state names values store e) line → o ≡ enter-by-counts keep text names values store line r
   enter-counted o h given =
       given
-      ∙ ap (λ (x : Editor). typed text (state names values store x) line) so
-      ∙ ap (λ (t : Bool). pick t (line-kept line (refusal 1 no-span (state names values store (editor-of r)))) (typed text (state names values store (editor-of r)) line)) (sym (le-ltb (length r) 5 h))
+      ∙ ap (λ (x : Editor). typed keep text (state names values store x) line) so
+      ∙ ap (λ (t : Bool). pick t (same-buffer line (refusal 1 no-span (state names values store (editor-of r)))) (typed keep text (state names values store (editor-of r)) line)) (sym (le-ltb (length r) 5 h))
 
-module _ (text names values store r : List ℕ) (e : Editor) (so : e ≡ editor-of r) where
+module _ (keep : Bool) (text names values store r : List ℕ) (e : Editor) (so : e ≡ editor-of r) where
   -- a record that lacks a count
   pub batch-lacking : (x : Batched) → ((n v s : List ℕ) → batched x n v s ≡ all-unsound (length (text-lines text)) (state n v s e)) → length r < 5
-      → batched x names values store ≡ batch-by-counts text names values store r
+      → batched x names values store ≡ batch-by-counts keep text names values store r
   batch-lacking x given h =
       given names values store
       ∙ ap (λ (y : Editor). all-unsound (length (text-lines text)) (state names values store y)) so
-      ∙ ap (λ (t : Bool). pick t (all-unsound (length (text-lines text)) (state names values store (editor-of r))) (batch text (state names values store (editor-of r)))) (sym (lt-ltb (length r) 5 h))
+      ∙ ap (λ (t : Bool). pick t (all-unsound (length (text-lines text)) (state names values store (editor-of r))) (batch keep text (state names values store (editor-of r)))) (sym (lt-ltb (length r) 5 h))
 
   -- a record that has them all
-  pub batch-counted : (o : Outcome) → 5 ≤ length r → o ≡ batch text (state names values store e) → o ≡ batch-by-counts text names values store r
+  pub batch-counted : (o : Outcome) → 5 ≤ length r → o ≡ batch keep text (state names values store e) → o ≡ batch-by-counts keep text names values store r
   batch-counted o h given =
       given
-      ∙ ap (λ (x : Editor). batch text (state names values store x)) so
-      ∙ ap (λ (t : Bool). pick t (all-unsound (length (text-lines text)) (state names values store (editor-of r))) (batch text (state names values store (editor-of r)))) (sym (le-ltb (length r) 5 h))
+      ∙ ap (λ (x : Editor). batch keep text (state names values store x)) so
+      ∙ ap (λ (t : Bool). pick t (all-unsound (length (text-lines text)) (state names values store (editor-of r))) (batch keep text (state names values store (editor-of r)))) (sym (le-ltb (length r) 5 h))
 
 module _ (line : ℕ) (names values store r output : List ℕ) where
   -- a record that lacks a count

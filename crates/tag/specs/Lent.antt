@@ -1,6 +1,7 @@
 -- The lent slices as a state of `paper`, and what the calls leave in them.
 use Prim.Native.Nat.{ℕ}
 use mathlib.Core.Path.{_≡_, refl}
+use mathlib.Core.Bool.{Bool}
 use mathlib.Core.List.{List, [], _∷_}
 use lib.Dec.{ltb}
 use lib.ListN.{length, getD}
@@ -9,7 +10,7 @@ use Rattle.paper.specs.Bytes.{pick}
 use Rattle.paper.specs.Items.{no-span}
 use Rattle.paper.specs.Calls.{State, refusal, not-listed, list}
 use Rattle.paper.specs.Calls.{Entered as Outcome, Listed as Written-out}
-use Rattle.paper.specs.Direct.{Typed, line-kept, typed}
+use Rattle.paper.specs.Direct.{Typed, same-buffer, typed}
 use Rattle.paper.specs.Batch.{text-lines, Batched, batch}
 use Rattle.promises.specs.Terms.{all-unsound}
 use Rattle.editor_edit.specs.declared.Editor.{Editor}
@@ -36,10 +37,10 @@ abbrev pub batched-numbers : Batched → List ℕ
 batched-numbers o = o .taken ∷ o .refused ∷ o .first .number ∷ o .first .place .start ∷ o .first .place .end ∷ o .first .line ∷ []
 
 -- a text entered: a record that lacks a count is refused with 1
-abbrev pub enter-by-counts : List ℕ → List ℕ → List ℕ → List ℕ → List ℕ → List ℕ → Typed
-enter-by-counts text names values store line r =
+abbrev pub enter-by-counts : Bool → List ℕ → List ℕ → List ℕ → List ℕ → List ℕ → List ℕ → Typed
+enter-by-counts keep text names values store line r =
     let s = state names values store (editor-of r) in
-    pick (ltb (length r) 5) (line-kept line (refusal 1 no-span s)) (typed text s line)
+    pick (ltb (length r) 5) (same-buffer line (refusal 1 no-span s)) (typed keep text s line)
 
 -- a line listed: a record that lacks a count is refused with 1
 abbrev pub list-by-counts : ℕ → List ℕ → List ℕ → List ℕ → List ℕ → List ℕ → Written-out
@@ -47,10 +48,10 @@ list-by-counts line names values store r output =
     pick (ltb (length r) 5) (not-listed 1 output) (list line (state names values store (editor-of r)) output)
 
 -- many lines entered: where the record lacks a count each is refused with 1
-abbrev pub batch-by-counts : List ℕ → List ℕ → List ℕ → List ℕ → List ℕ → Batched
-batch-by-counts text names values store r =
+abbrev pub batch-by-counts : Bool → List ℕ → List ℕ → List ℕ → List ℕ → List ℕ → Batched
+batch-by-counts keep text names values store r =
     let s = state names values store (editor-of r) in
-    pick (ltb (length r) 5) (all-unsound (length (text-lines text)) s) (batch text s)
+    pick (ltb (length r) 5) (all-unsound (length (text-lines text)) s) (batch keep text s)
 
 -- Entering left names, values, store, line buffer, record and answer so: as the outcome says. The record's counts and the answer's numbers stand at the front,
 -- as many as there is room for; what stands behind them is as it was.

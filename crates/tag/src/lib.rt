@@ -97,15 +97,16 @@ fn enter_by_counts(
     values: &mut [u8],
     store: &mut [u8],
     line: &mut [u8],
+    keep: bool,
     record: &[usize],
 ) -> Entered
-    ensures { λ r. ⌜ typed-outcome r (now (names .exit)) (now (values .exit)) (now (store .exit)) (now (line .exit)) ≡ enter-by-counts (now (text .entry)) (now (names .entry)) (now (values .entry)) (now (store .entry)) (now (line .entry)) (now («record» .entry)) ⌝ }
+    ensures { λ r. ⌜ typed-outcome r (now (names .exit)) (now (values .exit)) (now (store .exit)) (now (line .exit)) ≡ enter-by-counts keep (now (text .entry)) (now (names .entry)) (now (values .entry)) (now (store .entry)) (now (line .entry)) (now («record» .entry)) ⌝ }
 {
     let e = read_record(record);
     if record.len() < COUNTS {
         return refused(1, e);
     }
-    editor::enter(text, names, values, store, line, e)
+    editor::enter(text, keep, names, values, store, line, e)
 }
 
 // Lists a line, or refuses with 1 where the record lacks a count.
@@ -131,18 +132,19 @@ fn batch_by_counts(
     names: &mut [u8],
     values: &mut [u8],
     store: &mut [u8],
+    keep: bool,
     record: &[usize],
 ) -> Batched
-    ensures { λ r. ⌜ batched r (now (names .exit)) (now (values .exit)) (now (store .exit)) ≡ batch-by-counts (now (text .entry)) (now (names .entry)) (now (values .entry)) (now (store .entry)) (now («record» .entry)) ⌝ }
+    ensures { λ r. ⌜ batched r (now (names .exit)) (now (values .exit)) (now (store .exit)) ≡ batch-by-counts keep (now (text .entry)) (now (names .entry)) (now (values .entry)) (now (store .entry)) (now («record» .entry)) ⌝ }
 {
     let e = read_record(record);
     if record.len() < COUNTS {
         return editor_batch::refuse_all(text, e);
     }
-    editor_batch::batch(text, names, values, store, e)
+    editor_batch::batch(text, keep, names, values, store, e)
 }
 
-// Enters a text, and writes the answer and the record's counts.
+// Enters a text, and writes the answer and the record's counts. `keep` says whether a wrong line is kept.
 #[no_mangle]
 pub extern "C" fn virgontey_enter(
     text: &[u8],
@@ -150,12 +152,13 @@ pub extern "C" fn virgontey_enter(
     values: &mut [u8],
     store: &mut [u8],
     line: &mut [u8],
+    keep: bool,
     record: &mut [usize],
     answer: &mut [usize],
 )
-    ensures { λ _. ⌜ Leaves (enter-by-counts (now (text .entry)) (now (names .entry)) (now (values .entry)) (now (store .entry)) (now (line .entry)) (now («record» .entry))) (now («record» .entry)) (now (answer .entry)) (now (names .exit)) (now (values .exit)) (now (store .exit)) (now (line .exit)) (now («record» .exit)) (now (answer .exit)) ⌝ }
+    ensures { λ _. ⌜ Leaves (enter-by-counts keep (now (text .entry)) (now (names .entry)) (now (values .entry)) (now (store .entry)) (now (line .entry)) (now («record» .entry))) (now («record» .entry)) (now (answer .entry)) (now (names .exit)) (now (values .exit)) (now (store .exit)) (now (line .exit)) (now («record» .exit)) (now (answer .exit)) ⌝ }
 {
-    let r = enter_by_counts(text, names, values, store, line, record);
+    let r = enter_by_counts(text, names, values, store, line, keep, record);
     write_record(record, r.editor);
     write_entered(answer, r);
 }
@@ -194,19 +197,20 @@ pub extern "C" fn virgontey_show(
     write_listed(answer, r);
 }
 
-// Enters the lines of a text, and writes the answer and the record's counts.
+// Enters the lines of a text, and writes the answer and the record's counts. `keep` says whether wrong lines are kept.
 #[no_mangle]
 pub extern "C" fn virgontey_batch(
     text: &[u8],
     names: &mut [u8],
     values: &mut [u8],
     store: &mut [u8],
+    keep: bool,
     record: &mut [usize],
     answer: &mut [usize],
 )
-    ensures { λ _. ⌜ LeavesAll (batch-by-counts (now (text .entry)) (now (names .entry)) (now (values .entry)) (now (store .entry)) (now («record» .entry))) (now («record» .entry)) (now (answer .entry)) (now (names .exit)) (now (values .exit)) (now (store .exit)) (now («record» .exit)) (now (answer .exit)) ⌝ }
+    ensures { λ _. ⌜ LeavesAll (batch-by-counts keep (now (text .entry)) (now (names .entry)) (now (values .entry)) (now (store .entry)) (now («record» .entry))) (now («record» .entry)) (now (answer .entry)) (now (names .exit)) (now (values .exit)) (now (store .exit)) (now («record» .exit)) (now (answer .exit)) ⌝ }
 {
-    let r = batch_by_counts(text, names, values, store, record);
+    let r = batch_by_counts(text, names, values, store, keep, record);
     write_record(record, r.editor);
     write_batched(answer, r);
 }
