@@ -77,7 +77,7 @@ fn print_entered(text: &[u8], number: usize, place: usize, end: usize) {
     print(b"\n");
 }
 
-// Enters a line and prints what became of it. The editor's record afterwards. Each line begins with its number, so the line buffer has no bytes.
+// Enters a line and prints what became of it. The editor's record afterwards. Each line begins with its number, so the line buffer has no bytes, and a wrong one is not kept.
 fn enter(
     text: &[u8],
     names: &mut [u8],
@@ -86,7 +86,7 @@ fn enter(
     record: Editor,
 ) -> Editor {
     let mut line = [0u8; 0];
-    let r = editor::enter(text, names, values, store, &mut line, record);
+    let r = editor::enter(text, false, names, values, store, &mut line, record);
     let after = r.editor;
     print_entered(text, r.number as usize, r.place, r.end);
     if r.number == 0 {

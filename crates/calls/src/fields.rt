@@ -112,6 +112,12 @@ pub(crate) fn number_field(line: &[u8], at: usize) -> Field {
     }
 }
 
+// The field with the number of a switch, 0 or 1, at a place of a line.
+pub(crate) fn switch_field(line: &[u8], at: usize) -> Field {
+    let field = number_field(line, at);
+    if 1 < field.n { missing() } else { field }
+}
+
 // Whether a field was read before a place, and none follows.
 pub(crate) fn ends(line: &[u8], next: usize) -> bool {
     next == after(line.len())

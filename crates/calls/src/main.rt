@@ -11,6 +11,7 @@ use editor_list::Listed;
 use fields::bytes_field;
 use fields::ends;
 use fields::number_field;
+use fields::switch_field;
 ghost use Rattle.io.specs.Counts.{Counts};
 
 // The longest line that is kept: more than any call has, unless its numbers begin with thousands of zeros.
@@ -46,13 +47,14 @@ fn print_after(after: Editor, names: &[u8], values: &[u8], store: &[u8]) {
 // Enters a text and prints the answer: number, place, its end, names added, the record's counts and the buffers afterwards, the line buffer last.
 fn enter(
     text: &[u8],
+    keep: bool,
     names: &mut [u8],
     values: &mut [u8],
     store: &mut [u8],
     direct: &mut [u8],
     record: Editor,
 ) {
-    let r = editor::enter(text, names, values, store, direct, record);
+    let r = editor::enter(text, keep, names, values, store, direct, record);
     console::print_number(r.number as usize);
     print_number(r.place);
     print_number(r.end);
@@ -64,8 +66,15 @@ fn enter(
 
 // Enters the lines of a text and prints the answer: lines taken and refused; of the first refusal number, place, its end and line; the record's counts and the buffers
 // afterwards.
-fn batch(text: &[u8], names: &mut [u8], values: &mut [u8], store: &mut [u8], record: Editor) {
-    let r = editor_batch::batch(text, names, values, store, record);
+fn batch(
+    text: &[u8],
+    keep: bool,
+    names: &mut [u8],
+    values: &mut [u8],
+    store: &mut [u8],
+    record: Editor,
+) {
+    let r = editor_batch::batch(text, keep, names, values, store, record);
     console::print_number(r.taken);
     print_number(r.refused);
     print_number(r.number as usize);
@@ -150,11 +159,12 @@ fn within(n: usize, buffer: &[u8]) -> usize
     lesser(n, buffer.len())
 }
 
-// The fields of a call of enter: how many bytes text and line buffer have, the tables, and where the next field begins.
+// The fields of a call of enter: how many bytes text and line buffer have, the tables, whether a wrong line is kept, and where the next field begins.
 struct Entering {
     text: usize,
     tables: Tables,
     direct: usize,
+    keep: bool,
     next: usize,
 }
 
@@ -170,11 +180,13 @@ fn read_entering(
     let a = bytes_field(line, 6, text);
     let tables = read_tables(line, a.next, names, values, store);
     let b = bytes_field(line, tables.next, direct);
+    let c = switch_field(line, b.next);
     Entering {
         text: a.n,
         tables,
         direct: b.n,
-        next: b.next,
+        keep: c.n == 1,
+        next: c.next,
     }
 }
 
@@ -195,6 +207,7 @@ fn enter_within(
     let record = tables.record;
     enter(
         text,
+        call.keep,
         &mut names[..a],
         &mut values[..b],
         &mut store[..c],
@@ -224,6 +237,7 @@ fn answer_enter(
 // Enters the lines of a text over the first bytes of buffers, as many as the fields had.
 fn batch_within(
     text: &[u8],
+    keep: bool,
     names: &mut [u8],
     values: &mut [u8],
     store: &mut [u8],
@@ -235,6 +249,7 @@ fn batch_within(
     let record = tables.record;
     batch(
         text,
+        keep,
         &mut names[..a],
         &mut values[..b],
         &mut store[..c],
@@ -252,10 +267,18 @@ fn answer_batch(
 ) -> bool {
     let lines = bytes_field(line, 6, text);
     let tables = read_tables(line, lines.next, names, values, store);
-    if !ends(line, tables.next) {
+    let keep = switch_field(line, tables.next);
+    if !ends(line, keep.next) {
         return false;
     }
-    batch_within(front(text, lines.n), names, values, store, tables);
+    batch_within(
+        front(text, lines.n),
+        keep.n == 1,
+        names,
+        values,
+        store,
+        tables,
+    );
     true
 }
 

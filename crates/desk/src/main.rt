@@ -98,6 +98,7 @@ fn enter_all(
         if turn.there {
             let answer = enter_lent(
                 &text[..turn.length],
+                false,
                 names,
                 values,
                 store,
