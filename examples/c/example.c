@@ -1,7 +1,7 @@
 /*
  * Enters three lines and two that are refused, lists the program, and takes its last line out. Then what
  * service staff type at the tag to see a value: a line without a number, which leaves the program alone.
- * Last, a whole listing is sent to another tag in one call.
+ * Last, a whole listing is sent to another tag in one call, and a wrong line is kept there, to be mended.
  */
 #include <stdio.h>
 #include <string.h>
@@ -15,6 +15,7 @@ struct program {
     uint8_t store[32768];
     uint8_t line[VIRGONTEY_LINE_ROOM];
     size_t record[VIRGONTEY_RECORD_LENGTH];
+    bool keep; /* whether wrong lines stay in it */
 };
 
 /* Enters one text and says how it went. */
@@ -23,8 +24,8 @@ static void enter(struct program *p, const char *text)
     size_t answer[VIRGONTEY_ENTER_LENGTH];
 
     virgontey_enter((const uint8_t *)text, strlen(text), p->names, sizeof p->names, p->values,
-                    sizeof p->values, p->store, sizeof p->store, p->line, sizeof p->line, p->record,
-                    VIRGONTEY_RECORD_LENGTH, answer, VIRGONTEY_ENTER_LENGTH);
+                    sizeof p->values, p->store, sizeof p->store, p->line, sizeof p->line, p->keep,
+                    p->record, VIRGONTEY_RECORD_LENGTH, answer, VIRGONTEY_ENTER_LENGTH);
     if (answer[VIRGONTEY_ENTER_NUMBER] == VIRGONTEY_DONE) {
         printf("taken:   %s (%zu new names, %zu bytes used)\n", text,
                answer[VIRGONTEY_ENTER_ADDED], answer[VIRGONTEY_ENTER_USED]);
@@ -41,8 +42,8 @@ static void send(struct program *p, const char *listing)
     size_t answer[VIRGONTEY_BATCH_LENGTH];
 
     virgontey_batch((const uint8_t *)listing, strlen(listing), p->names, sizeof p->names, p->values,
-                    sizeof p->values, p->store, sizeof p->store, p->record, VIRGONTEY_RECORD_LENGTH,
-                    answer, VIRGONTEY_BATCH_LENGTH);
+                    sizeof p->values, p->store, sizeof p->store, p->keep, p->record,
+                    VIRGONTEY_RECORD_LENGTH, answer, VIRGONTEY_BATCH_LENGTH);
     printf("listing: %zu lines taken, %zu refused\n", answer[VIRGONTEY_BATCH_TAKEN],
            answer[VIRGONTEY_BATCH_REFUSED]);
     if (answer[VIRGONTEY_BATCH_REFUSED] > 0)
@@ -129,5 +130,11 @@ int main(void)
                  "900 PRINT \"ALARM \";V\x9B");
     count(&other);
     list(&other, 900);
+
+    other.keep = true;
+    enter(&other, "30 GOTO");
+    count(&other);
+    enter(&other, "30 GOTO 10");
+    list(&other, 30);
     return 0;
 }
