@@ -17,6 +17,7 @@ pub mod Store
 pub mod Calls
 pub mod Direct
 pub mod Batch
+pub mod Examine
 pub mod Hex
 pub mod Open
 pub mod Cases

@@ -15,6 +15,7 @@ use Rattle.paper.specs.Store as Store′
 use Rattle.paper.specs.Calls as Calls′
 use Rattle.paper.specs.Direct as Direct′
 use Rattle.paper.specs.Batch as Batch′
+use Rattle.paper.specs.Examine as Examine′
 use Rattle.paper.specs.Hex as Hex′
 
 unfoldable pub all-Bytes : Unit {0}
@@ -81,10 +82,14 @@ unfoldable pub all-Batch : Unit {0}
 unfolding Batch′.text-lines Batch′.answers-to Batch′.none-refused Batch′.no-lines Batch′.with-answer Batch′.with-answers Batch′.batch
 all-Batch = tt
 
+unfoldable pub all-Examine : Unit {0}
+unfolding Examine′.first-bad Examine′.examine Examine′.verdict-number Examine′.verdict-line
+all-Examine = tt
+
 unfoldable pub all-Hex : Unit {0}
 unfolding Hex′.nibble Hex′.pairs Hex′.hex
 all-Hex = tt
 
 unfoldable pub everything : Unit {0}
-unfolding all-Bytes all-Words all-Tokens all-Constants all-Names all-Items all-Machine all-Grammar all-Line all-WellFormed all-Listing all-Errors all-Store all-Calls all-Direct all-Batch all-Hex
+unfolding all-Bytes all-Words all-Tokens all-Constants all-Names all-Items all-Machine all-Grammar all-Line all-WellFormed all-Listing all-Errors all-Store all-Calls all-Direct all-Batch all-Examine all-Hex
 everything = tt
