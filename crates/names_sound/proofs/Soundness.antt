@@ -1,12 +1,13 @@
 -- Sound tables: name by name, and whole.
-use Prim.Native.Nat.{ℕ, zero, suc, _+_, _-_, _*_, _≤_, _<_}
+use Prim.Native.Nat.{ℕ, zero, suc, _+_, _-_, _*_, _/_, _%_, _≤_, _<_}
+use native.Mathlib.Nat.{div-add-mod, mod-lt}
 use native.Mathlib.Omega.{arith}
 use mathlib.Core.Path.{_≡_, refl, subst, sym, ap, _∙_}
 use mathlib.Core.Bool.{Bool, true, false, not, _&&_, _||_, and-true, and-false}
 use mathlib.Core.List.{List, [], _∷_, _++_}
 use lib.Dec.{leb, ltb, eqb, eqb·zero-suc, eqb·suc-zero, eqb·suc-suc}
 use lib.ListN.{length, take, drop, getD, set}
-use borrow.Author.Tests.{lt-ltb, le-leb, lt-leb, eqb-true}
+use borrow.Author.Tests.{lt-ltb, le-leb, lt-leb, leb-true, leb-false, eqb-true}
 use Rattle.paper.specs.Bytes.{same, every}
 use Rattle.paper.specs.Words.{reserved?}
 use Rattle.paper.specs.Names.{names-in, name-bytes, less-open, name?, known?, all-different, sound-names, sound-table}
@@ -182,12 +183,12 @@ beyond n count x h = go (eqb n count) refl
     go true e = let z : leb n 128 ≡ false = lt-leb n 128 (omega (arith, eqb-true n count e)) in rw (z)
     go false e = refl
 
-module _ (table : List ℕ) (size count room : ℕ) where
-  pub too-short : length table < size → false ≡ sound-table table size count && leb (8 * count) room
+module _ (table : List ℕ) (size count : ℕ) where
+  pub too-short : length table < size → false ≡ sound-table table size count
   unfolding sound-table
   too-short h = sym (rw (lt-leb size (length table) h))
 
-  pub too-many : 128 < count → false ≡ sound-table table size count && leb (8 * count) room
+  pub too-many : 128 < count → false ≡ sound-table table size count
   unfolding sound-table sound-names no-word?
   too-many h =
       let ns = names-in (take size table) in
@@ -195,20 +196,33 @@ module _ (table : List ℕ) (size count room : ℕ) where
       beyond (length ns) count (every name? ns && (all-different ns && every no-word? ns)) h in
       sym (rw (none, and-false (same (name-bytes ns) (take size table)), and-false (leb size (length table))))
 
-  pub no-room : room < 8 * count → false ≡ sound-table table size count && leb (8 * count) room
-  no-room h = sym (rw (lt-leb (8 * count) room h) (and-false (sound-table table size count)))
-
   whole : size ≤ length table → count ≤ 128 → sound-table table size count ≡ closed? (take size table) && sound-after [] (names-in (take size table)) count
   unfolding sound-table sound-names no-word?
   whole h k =
       let ns = names-in (take size table) in
       rw (le-leb size (length table) h, same-bytes (take size table), within (length ns) count (every name? ns && (all-different ns && every no-word? ns)) k, after-whole [] ns count, apart-none ns)
 
-  pub no-end : {r : Bool} → size ≤ length table → count ≤ 128 → r ≡ closed? (take size table) → r ≡ false → false ≡ sound-table table size count && leb (8 * count) room
+  pub no-end : {r : Bool} → size ≤ length table → count ≤ 128 → r ≡ closed? (take size table) → r ≡ false → false ≡ sound-table table size count
   no-end h k e f = let z : closed? (take size table) ≡ false = sym e ∙ f in sym (rw (whole h k, z))
 
-  pub all-sound : {r s : Bool} → size ≤ length table → count ≤ 128 → 8 * count ≤ room → r ≡ closed? (take size table) → r ≡ true → s ≡ sound-after [] (names-in (take size table)) count
-      → s ≡ sound-table table size count && leb (8 * count) room
-  all-sound {r} {s} h k l e f g =
+  pub all-sound : {r s : Bool} → size ≤ length table → count ≤ 128 → r ≡ closed? (take size table) → r ≡ true → s ≡ sound-after [] (names-in (take size table)) count
+      → s ≡ sound-table table size count
+  all-sound {r} {s} h k e f g =
       let z : closed? (take size table) ≡ true = sym e ∙ f in
-      g ∙ sym (rw (whole h k, z, le-leb (8 * count) room l) (and-true (sound-after [] (names-in (take size table)) count)))
+      g ∙ sym (rw (whole h k, z))
+
+-- the eighth of a room bounds the count as the room bounds eight times it
+pub eighth : (count room : ℕ) → leb count (room / 8) ≡ leb (8 * count) room
+eighth count room = go (leb count (room / 8)) refl
+  where
+    go : (b : Bool) → leb count (room / 8) ≡ b → b ≡ leb (8 * count) room
+    go true e = sym (le-leb (8 * count) room (omega (arith, leb-true count (room / 8) e, div-add-mod room 8)))
+    go false e = let h : room % 8 < 8 = mod-lt room (omega arith) in sym (lt-leb (8 * count) room (omega (arith, leb-false count (room / 8) e, div-add-mod room 8)))
+
+-- where the values fit, the table decides
+pub table-decides : (a b r : Bool) → b ≡ true → r ≡ a → r ≡ a && b
+table-decides a b r e h = h ∙ sym (rw (e) (and-true a))
+
+-- where they do not, nothing else counts
+pub no-room : (a b : Bool) → b ≡ false → false ≡ a && b
+no-room a b e = sym (rw (e) (and-false a))

@@ -78,9 +78,9 @@ fn are_lawful(bytes: &[u8], count: usize) -> bool
     are_marked(bytes, count, &mut marks)
 }
 
-// Whether a name table of `size` bytes and `count` names is sound, and there is room for the names' values.
-pub fn sound(names: &[u8], size: usize, count: usize, value_room: usize) -> bool
-    ensures { λ r. ⌜ r ≡ sound-table (now (names .entry)) size count && leb (8 * count) «value_room» ⌝ }
+// Whether a name table of `size` bytes and `count` names is sound.
+pub fn sound_table(names: &[u8], size: usize, count: usize) -> bool
+    ensures { λ r. ⌜ r ≡ sound-table (now (names .entry)) size count ⌝ }
 {
     if names.len() < size {
         return false;
@@ -88,11 +88,26 @@ pub fn sound(names: &[u8], size: usize, count: usize, value_room: usize) -> bool
     if MOST_NAMES < count {
         return false;
     }
-    if value_room < 8 * count {
-        return false;
-    }
     if !is_closed(&names[..size]) {
         return false;
     }
     are_lawful(&names[..size], count)
+}
+
+// Whether there is room for the values of so many names.
+pub fn values_fit(count: usize, value_room: usize) -> bool
+    ensures { λ r. ⌜ r ≡ leb (8 * count) «value_room» ⌝ }
+{
+    count <= value_room / 8
+}
+
+// Whether a name table of `size` bytes and `count` names is sound, and there is room for the names' values.
+pub fn sound(names: &[u8], size: usize, count: usize, value_room: usize) -> bool
+    ensures { λ r. ⌜ r ≡ sound-table (now (names .entry)) size count && leb (8 * count) «value_room» ⌝ }
+{
+    if values_fit(count, value_room) {
+        sound_table(names, size, count)
+    } else {
+        false
+    }
 }

@@ -21,7 +21,8 @@ use Rattle.store.specs.Walks.{least-after, start, past-lines, walked-on,
 use Rattle.store.specs.Answers.{sound-counts, place-of, found-answer}
 use Rattle.store.specs.Places.{counted, sound-rising}
 use Rattle.store.specs.Pairs.{greatest-next}
-use Rattle.store.proofs.Walk.{first-number, First, first-go, walking, from-start, passed-below, last-greatest, walk-resumed, walk-decides, counts-over}
+use Rattle.store.specs.Rising.{first-number, First, first-go}
+use Rattle.store.proofs.Walk.{walking, from-start, passed-below, last-greatest, walk-resumed, walk-decides, counts-over}
 
 -- ---- the first of some whole lines
 

@@ -17,20 +17,13 @@ use Rattle.laws.specs.Tests.{and-left, and-right, and-both, as-T, is-true}
 use Rattle.laws.specs.Lines.{lines-next, joined-append, room-lent}
 use Rattle.store.specs.declared.Walked.{Walked}
 use Rattle.store.specs.declared.Counts.{Counts}
-use Rattle.store.specs.Walks.{passes?, passing-size, passed, least-after, start, past-lines, walked-on, Within, all-passed}
+use Rattle.store.specs.Walks.{passes?, passing-size, passed, rising-from, sound-lines-from, least-after, start, past-lines, walked-on, Within, all-passed}
 use Rattle.store.specs.Answers.{sound-counts}
 use Rattle.store.specs.Places.{sound-rising}
+use Rattle.store.specs.Rising.{first-number, First, first-go, lawful, stops, Goes, from-zero, from-above}
 use Rattle.store.specs.Pairs.{greatest-next}
 
 -- ---- the first line of some bytes
-
--- its number, read in the bytes
-pub first-number : (s : List ℕ) (m : ℕ) → 2 ≤ m → line-number (take m s) ≡ line-number s
-unfolding line-number
-first-number s m h =
-    let a : 0 < m = omega arith in
-    let b : 1 < m = omega arith in
-    ap₂ (λ (x y : ℕ). x + 256 * y) (getD-take m s 0 0 a) (getD-take m s 1 0 b)
 
 short-line : (s : List ℕ) → getD s 2 0 < 6 → whole-line? (take (getD s 2 0) s) ≡ false
 unfolding whole-line?
@@ -66,29 +59,6 @@ good-line s h f g =
 -- the bytes after some, as a slice has them
 pub past : (s : List ℕ) (k m : ℕ) → k ≡ m → take (length s - k) (drop k s) ≡ drop m s
 past s k m e = take-all (length s - k) (drop k s) (omega (arith, length-drop k s)) ∙ ap (λ (i : ℕ). drop i s) e
-
--- what a whole first line has
-pub record First (s : List ℕ) : Type 0 where
-  pub long : 6 ≤ getD s 2 0
-  pub fits : getD s 2 0 ≤ length s
-
-pub first-go : (s : List ℕ) → T (whole-line? (take (getD s 2 0) s)) → First s
-unfolding whole-line?
-first-go s t =
-    let m : ℕ = getD s 2 0 in
-    let l : List ℕ = take m s in
-    let a : 6 ≤ length l = leb→le 6 (length l) (and-left (leb 6 (length l)) (eqb (getD l 2 0) (length l) && lawful-number? (line-number l)) t) in
-    let b : T (eqb (getD l 2 0) (length l) && lawful-number? (line-number l)) = and-right (leb 6 (length l)) (eqb (getD l 2 0) (length l) && lawful-number? (line-number l)) t in
-    let c : getD l 2 0 ≡ length l = eqb→eq (getD l 2 0) (length l) (and-left (eqb (getD l 2 0) (length l)) (lawful-number? (line-number l)) b) in
-    let two : 2 < m = omega (arith, length-take m s) in
-    let d : getD l 2 0 ≡ m = getD-take m s 2 0 two in
-    record { long = omega (arith, length-take m s); fits = omega (arith, length-take m s) }
-
-lawful : (l : List ℕ) → whole-line? l ≡ true → line-number l ≤ 32767
-unfolding whole-line? lawful-number?
-lawful l e =
-    leb→le (line-number l) 32767
-    (and-right (eqb (getD l 2 0) (length l)) _ (and-right (leb 6 (length l)) _ (as-T (whole-line? l) e)))
 
 -- ---- the size of a line that is passed
 
@@ -138,16 +108,7 @@ module _ (k n : ℕ) (s : List ℕ) where
         let b : ltb (line-number first) n ≡ true = lt-ltb (line-number first) n (omega (arith, number-is)) in
         sym (rw (good-line s long fits lawful, a, b))
 
-  -- ---- a turn of the walk
-
-  stops-go : (b : Bool) → passes? k n first ≡ b → pick b (getD s 2 0) 0 ≡ 0 → passes? k n first ≡ false
-  unfolding passes?
-  stops-go false e h = e
-  stops-go true e h = absurd (omega (arith, first-go s (and-left (whole-line? first) _ (as-T (passes? k n first) e)) .long))
-
-  goes-go : (b : Bool) → passes? k n first ≡ b → (pick b (getD s 2 0) 0 ≡ 0 → ⊥) → passes? k n first ≡ true
-  goes-go true e h = e
-  goes-go false e h = absurd (h refl)
+-- ---- a turn of the walk
 
 -- a walk at an offset, past so many lines, whose next number is from k on; and as it goes on over the bytes s
 abbrev pub walking : ℕ → ℕ → ℕ → Walked
@@ -164,36 +125,7 @@ none-passed k n (b ∷ s) e = rw (e)
 -- a line that is not passed ends it
 pub walk-stops : (at count k n : ℕ) (s : List ℕ) → passing-size k n s ≡ 0 → onward at count k n s ≡ walking at count k
 unfolding passing-size past-lines least-after joined
-walk-stops at count k n s h = rw (none-passed k n s (stops-go k n s (passes? k n (take (getD s 2 0) s)) refl h), add-zero at, add-zero count)
-
--- a line that is passed: the walk goes on after it
-pub record Goes (k n : ℕ) (s : List ℕ) : Type 0 where
-  pub size : passing-size k n s ≡ getD s 2 0
-  pub long : 6 ≤ getD s 2 0
-  pub fits : getD s 2 0 ≤ length s
-  pub small : line-number s ≤ 32767
-  pub next : passed k n (lines-in s) ≡ take (getD s 2 0) s ∷ passed (line-number s + 1) n (lines-in (drop (getD s 2 0) s))
-
-pub walk-goes : (k n : ℕ) (s : List ℕ) → (passing-size k n s ≡ 0 → ⊥) → Goes k n s
-unfolding passing-size passed passes?
-walk-goes k n s h =
-    let m : ℕ = getD s 2 0 in
-    let l : List ℕ = take m s in
-    let t : passes? k n l ≡ true = goes-go k n s (passes? k n l) refl h in
-    let w : T (whole-line? l) = and-left (whole-line? l) _ (as-T (passes? k n l) t) in
-    let f : First s = first-go s w in
-    let e : line-number l ≡ line-number s = first-number s m (omega (arith, f .long)) in
-    let p : List (List ℕ) = passed (suc (line-number l)) n (lines-in (drop m s)) in
-    record {
-      size = rw (t);
-      long = f .long;
-      fits = f .fits;
-      small = omega (arith, e, lawful l (is-true (whole-line? l) w));
-      next =
-          ap (passed k n) (lines-next s (omega (arith, f .long)))
-          ∙ ap (λ (b : Bool). pick b (l ∷ p) []) t
-          ∙ ap (λ (y : ℕ). l ∷ passed y n (lines-in (drop m s))) (ap suc e ∙ sym (add-one (line-number s)));
-    }
+walk-stops at count k n s h = rw (none-passed k n s (stops k n s h), add-zero at, add-zero count)
 
 -- the walk over the last bytes of all, from its offset on, where it begins
 pub begins : (lines : List ℕ) (w : Walked) (n : ℕ) → Within w lines → (rest : List ℕ) → rest ≡ drop (w .at) lines
@@ -352,25 +284,6 @@ walk-resumed n s =
 
 -- ---- what the walk decides
 
--- numbers strictly rising, the first not below k
-unfoldable rising-from : ℕ → List (List ℕ) → Bool
-rising-from k [] = true
-rising-from k (l ∷ ls) = leb k (line-number l) && rising-above (line-number l) ls
-
--- whole lines with such numbers
-unfoldable sound-lines-from : ℕ → List (List ℕ) → Bool
-sound-lines-from k ls = every whole-line? ls && rising-from k ls
-
-from-zero : (ls : List (List ℕ)) → sound-lines-from 0 ls ≡ sound-lines ls
-unfolding sound-lines-from sound-lines rising-from rising
-from-zero [] = refl
-from-zero (l ∷ ls) = rw (leb·zero (line-number l))
-
-from-above : (n : ℕ) (ls : List (List ℕ)) → rising-above n ls ≡ rising-from (suc n) ls
-unfolding rising-from rising-above
-from-above n [] = refl
-from-above n (l ∷ ls) = refl
-
 unfoldable none : List (List ℕ) → Bool
 none [] = true
 none (l ∷ ls) = false
@@ -395,14 +308,13 @@ none-in [] = refl
 none-in (b ∷ s) = sym (ne-eqb (length (b ∷ s)) 0 (λ z. omega arith))
 
 -- the walk past all numbers goes to the end of sound lines, and of no others
-sound-walked : (s : List ℕ) → eqb (walked 0 32768 s) (length s) ≡ sound-lines (lines-in s)
-sound-walked s =
-    same-test (walked 0 32768 s) (length s) (walked-within 0 32768 s)
-    ∙ ap (λ (x : ℕ). eqb x 0) (sym (length-drop (walked 0 32768 s) s))
-    ∙ sym (none-in (drop (walked 0 32768 s) s))
-    ∙ ap none (lines-left 0 32768 s)
-    ∙ sym (left-none 0 (lines-in s))
-    ∙ from-zero (lines-in s)
+sound-walked : (k : ℕ) (s : List ℕ) → eqb (walked k 32768 s) (length s) ≡ sound-lines-from k (lines-in s)
+sound-walked k s =
+    same-test (walked k 32768 s) (length s) (walked-within k 32768 s)
+    ∙ ap (λ (x : ℕ). eqb x 0) (sym (length-drop (walked k 32768 s) s))
+    ∙ sym (none-in (drop (walked k 32768 s) s))
+    ∙ ap none (lines-left k 32768 s)
+    ∙ sym (left-none k (lines-in s))
   where
     same-test : (a b : ℕ) → a ≤ b → eqb a b ≡ eqb (b - a) 0
     same-test a b h = go (eqb a b) refl
@@ -476,7 +388,7 @@ walk-decides store c h = ap (all-passed c) (from-start (passed 0 32768 ls)) ∙ 
     size = length-take-le (c .used) store (omega (arith, h, room-lent store))
 
     ended : eqb (length (joined (passed 0 32768 ls))) (c .used) ≡ sound-lines ls
-    ended = ap (eqb (length (joined (passed 0 32768 ls)))) (sym size) ∙ sound-walked s
+    ended = ap (eqb (length (joined (passed 0 32768 ls)))) (sym size) ∙ sound-walked 0 s ∙ from-zero ls
 
     go : (b : Bool) → sound-lines ls ≡ b
         → eqb (length (joined (passed 0 32768 ls))) (c .used) && (eqb (c .lines) (length (passed 0 32768 ls)) && eqb (c .greatest) (pred (least-after 0 (passed 0 32768 ls))))
@@ -490,3 +402,8 @@ walk-decides store c h = ap (all-passed c) (from-start (passed 0 32768 ls)) ∙ 
 pub counts-over : (store : List ℕ) (c : Counts) → room store < c .used → sound-counts store c ≡ false
 unfolding sound-counts sound-store
 counts-over store c h = rw (lt-leb (c .used) (room store) h)
+
+-- a walk from the start of some bytes, past all numbers from k on
+pub rest-decides : (k : ℕ) (s : List ℕ) (w : Walked) → w ≡ walked-on (walking 0 0 k) 32768 s → eqb (w .at) (length s) ≡ sound-lines-from k (lines-in s)
+unfolding walked-on past-lines
+rest-decides k s w e = ap (λ (x : Walked). eqb (x .at) (length s)) e ∙ ap (λ (i : ℕ). eqb i (length s)) (zero-add (walked k 32768 s)) ∙ sound-walked k s

@@ -2,3 +2,4 @@ pub mod Walks
 pub mod Answers
 pub mod Places
 pub mod Pairs
+pub mod Rising

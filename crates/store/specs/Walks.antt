@@ -1,12 +1,12 @@
 -- A walk over the lines that some bytes are: past whole lines, with rising numbers that are below a given one.
 use Prim.Native.Nat.{ℕ, suc, pred, _+_, _≤_}
-use mathlib.Core.Bool.{Bool, _&&_}
+use mathlib.Core.Bool.{Bool, true, _&&_}
 use mathlib.Core.List.{List, [], _∷_}
 use lib.Dec.{leb, ltb, eqb}
 use lib.ListN.{length, take, drop, getD}
-use Rattle.paper.specs.Bytes.{pick, joined}
+use Rattle.paper.specs.Bytes.{pick, every, joined}
 use Rattle.paper.specs.Line.{line-number}
-use Rattle.paper.specs.Store.{lines-in, whole-line?}
+use Rattle.paper.specs.Store.{lines-in, whole-line?, rising-above}
 use Rattle.store.specs.declared.Walked.{Walked}
 use Rattle.store.specs.declared.Counts.{Counts}
 
@@ -27,6 +27,15 @@ passed k n (l ∷ ls) = let r = l ∷ passed (suc (line-number l)) n ls in pick 
 unfoldable pub least-after : ℕ → List (List ℕ) → ℕ
 least-after k [] = k
 least-after k (l ∷ ls) = least-after (suc (line-number l)) ls
+
+-- numbers strictly rising, the first not below k
+unfoldable pub rising-from : ℕ → List (List ℕ) → Bool
+rising-from k [] = true
+rising-from k (l ∷ ls) = leb k (line-number l) && rising-above (line-number l) ls
+
+-- whole lines with such numbers
+unfoldable pub sound-lines-from : ℕ → List (List ℕ) → Bool
+sound-lines-from k ls = every whole-line? ls && rising-from k ls
 
 -- a walk that has not begun
 abbrev pub start : Walked

@@ -6,7 +6,7 @@ ghost use Prim.Native.Nat.{pred};
 ghost use lib.Dec.{T};
 ghost use lib.ListN.{take};
 ghost use Rattle.paper.specs.Store.{room, sound-lines, lines-in};
-ghost use Rattle.store.specs.Walks.{passing-size, Within, start, walked-on, all-passed};
+ghost use Rattle.store.specs.Walks.{passing-size, sound-lines-from, Within, start, walked-on, all-passed};
 ghost use Rattle.store.specs.Answers.{place-of, sound-counts, found-answer};
 
 // The bytes that a store may use at most.
@@ -30,7 +30,7 @@ pub fn room_of(store: &[u8]) -> usize
 }
 
 // The size of the line that some bytes begin with, if it is whole and its number is from `least` on and below `number`; else 0.
-fn passing(rest: &[u8], least: usize, number: usize) -> usize
+pub fn passing(rest: &[u8], least: usize, number: usize) -> usize
     ensures { λ r. ⌜ r ≡ passing-size least number (now (rest .entry)) ⌝ }
 {
     let size = heads::size(rest);
@@ -94,6 +94,19 @@ fn first_not_below(lines: &[u8], walk: Walked, number: usize) -> Walked
         lines: count,
         least,
     }
+}
+
+// Whether bytes are whole lines whose numbers rise, the first from `least` on.
+pub fn sound_from(lines: &[u8], least: usize) -> bool
+    ensures { λ r. ⌜ r ≡ sound-lines-from least (lines-in (now (lines .entry))) ⌝ }
+{
+    let begin = Walked {
+        at: 0,
+        lines: 0,
+        least,
+    };
+    let walk = first_not_below(lines, begin, GREATEST_NUMBER + 1);
+    walk.at == lines.len()
 }
 
 // The number of the last line that a walk has passed, 0 if it has passed none.

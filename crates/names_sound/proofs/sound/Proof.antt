@@ -1,8 +1,7 @@
-use Rattle.names_sound.proofs.Soundness.{all-sound, no-end, no-room, too-many, too-short}
-use borrow.Author.Needs.{needs}
-use borrow.Author.Tests.{not-false, not-true}
-use lib.Seq.{length-take-le}
 use mathlib.Core.Path.{_∙_, sym}
+use Rattle.paper.specs.Names.{sound-table}
+use Rattle.names_sound.proofs.Soundness.{table-decides, no-room}
+use borrow.Author.Needs.{needs}
 use Rattle.names_sound.proofs.sound.Statement.{statement}
 use Rattle.names_sound.proofs.sound.Tie as tie
 
@@ -10,13 +9,7 @@ pub sound-spec : {M : Type 1} → statement M
 sound-spec =
     tie.close
     (tie.spec
-    (λ c. let start = c .before .before in too-short (start .args .names .now) (start .args .size) _ _ (c .if1 .taken))
-    (λ c. let start = c .before .before .before in too-many (start .args .names .now) (start .args .size) _ _ (c .if2 .taken))
-    (λ c. search needs)
-    (λ c. let start = c .before .before .before .before in no-room (start .args .names .now) (start .args .size) _ _ (c .if3 .taken))
-    (λ c. sym (length-take-le _ _ (c .before .before .before .if1 .left)))
     (λ c κs. search needs)
-    (λ c. let start = c .before .before .before .before .before .before .before in no-end (start .args .names .now) (start .args .size) _ _ (c .before .before .before .before .before .if1 .left) (c .before .before .before .before .if2 .left) (c .before .is-closed .ensures) (not-true _ (c .if4 .taken)))
-    (λ c. sym (length-take-le _ _ (c .before .before .before .before .before .before .if1 .left)))
-    (λ c κs. sym (c .before .before .is-closed .ensures) ∙ not-false _ (c .before .if4 .left))
-    (λ c. let start = c .before .before .before .before .before .before .before .before .before in all-sound (start .args .names .now) (start .args .size) _ _ (c .before .before .before .before .before .before .before .if1 .left) (c .before .before .before .before .before .before .if2 .left) (c .before .before .before .before .before .if3 .left) (c .before .before .before .is-closed .ensures) (not-false _ (c .before .before .if4 .left)) (c .are-lawful .ensures)))
+    (λ c κs. search needs)
+    (λ c. table-decides _ _ _ (sym (c .before .before .values-fit .ensures) ∙ c .before .if1 .taken) (c .sound-table .ensures))
+    (λ c. let args = c .before .before .before .args in no-room (sound-table (args .names .now) (args .size) (args .count)) _ (sym (c .before .values-fit .ensures) ∙ c .if1 .left)))
