@@ -1,3 +1,4 @@
 pub mod PassLaws
 pub mod NumberLaws
 pub mod AnswerLaws
+pub mod FitLaws

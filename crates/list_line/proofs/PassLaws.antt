@@ -1,5 +1,5 @@
 -- The two passes: what holds before each piece of a line.
-use Prim.Native.Nat.{ℕ, zero, suc, _+_, _-_, _*_, _≤_, _<_}
+use Prim.Native.Nat.{ℕ, suc, _+_, _-_, _≤_, _<_}
 use native.Mathlib.Omega.{arith}
 use native.Mathlib.Nat.{zero-add}
 use native.Mathlib.Numerals.{add-one}
@@ -7,29 +7,29 @@ use mathlib.Core.Path.{_≡_, refl, subst, sym, ap, ap₂, _∙_}
 use mathlib.Core.Bool.{Bool, true, false, not}
 use mathlib.Core.Logic.{_⊎_, inl, inr, ⊎-elim}
 use mathlib.Core.List.{List, [], _∷_, _++_, append-nil, append-assoc}
-use lib.Dec.{T, leb}
+use lib.Dec.{leb}
 use lib.ListN.{length, drop, getD, length-append, length-drop, drop-of-length-le}
 use lib.Seq.{sets, drop-drop}
 use borrow.Author.Tests.{le-leb, lt-leb, leb-true, leb-false}
-use Rattle.paper.specs.Bytes.{blank, every}
+use Rattle.paper.specs.Bytes.{blank}
 use Rattle.paper.specs.Tokens.{Token}
-use Rattle.paper.specs.Grammar.{start}
-use Rattle.paper.specs.Line.{line-number, token-bytes, to-next, tokens-from, line-tokens}
+use Rattle.paper.specs.Line.{line-number, tokens-from, line-tokens}
 use Rattle.paper.specs.WellFormed.{formed?}
 use Rattle.paper.specs.Listing.{decimal, token-text, body-text, listing-text, listing, direct-listing}
-use Rattle.laws.specs.Tests.{is-true, as-T}
+use Rattle.laws.specs.Tests.{as-T}
 use Rattle.buffers.specs.Sets.{sets-append}
 use Rattle.list_pieces.specs.declared.Piece.{Piece}
 use Rattle.list_line.specs.declared.first.Measure.{Measure}
 use Rattle.list_line.specs.declared.first.Measure.the-variants as Measure′
 use Rattle.list_pieces.specs.Pieces.{piece-at, tokens-of-piece, size-of, end-after, Holds}
-use Rattle.list_pieces.specs.Rest.{Takes, Written, Rest, Whole, Head}
+use Rattle.list_pieces.specs.Rest.{Written, Rest, Head}
 use Rattle.grammar.specs.Stack.{stack}
 use Rattle.list_check.specs.Passes.{Onward}
 use Rattle.list_text.specs.Texts.{piece-text, Writes}
 use Rattle.list_text.specs.InTurn.{then, as-text}
 use Rattle.list_line.specs.Listed.{lawful-for, formed-listing, head-for, capped, found, measured}
-use Rattle.list_pieces.specs.WellFormed.{passes-whole, whole-passes}
+use Rattle.list_pieces.specs.WellFormed.{passes-whole}
+use Rattle.list_line.proofs.FitLaws.{Fitting, fitting-first, fitting-next, fitting-fails, fitting-open, fitting-wants, fitting-done, short-go}
 use Rattle.list_pieces.specs.Decoded.{pieces}
 use Rattle.list_pieces.specs.RestLaws.{later, written-here}
 
@@ -94,40 +94,25 @@ head-listing false ns l = append-assoc (decimal 5 (line-number l)) (blank ∷ []
 
 -- ---- a line that is not well-formed
 
-not-formed : (b : Bool) → (T b → ⊥) → b ≡ false
-not-formed true n = absurd (n tt)
-not-formed false n = refl
-
-not-measured : (direct : Bool) (ns : List (List ℕ)) (l : List ℕ) (room : ℕ) → (T (formed? (lawful-for direct) ns l) → ⊥) → Measure′.NotWellFormed ≡ measured direct ns l room
+pub not-measured : (direct : Bool) (ns : List (List ℕ)) (l : List ℕ) (room : ℕ) → formed? (lawful-for direct) ns l ≡ false → Measure′.NotWellFormed ≡ measured direct ns l room
 unfolding measured found
-not-measured direct ns l room n = sym (ap (λ (b : Bool). found b (capped room (length (formed-listing direct ns l)))) (not-formed (formed? (lawful-for direct) ns l) n))
+not-measured direct ns l room n = sym (ap (λ (b : Bool). found b (capped room (length (formed-listing direct ns l)))) n)
 
 -- ---- the first pass
 
 -- before the piece at a place: the line is well-formed exactly if the rest is; so much was counted, and so much is left
 pub record Measuring (direct : Bool) (ns : List (List ℕ)) (l : List ℕ) (room : ℕ) (frames : List ℕ) (at end depth total : ℕ) : Type 0 where
-  pub within : at ≤ length l
-  pub shallow : depth ≤ 8 * at
-  pub down : T (formed? (lawful-for direct) ns l) → Rest ns (stack frames depth) at end (drop at l)
-  pub up : Rest ns (stack frames depth) at end (drop at l) → T (formed? (lawful-for direct) ns l)
+  pub fitting : Fitting (lawful-for direct) ns l frames at end depth
   pub before : ℕ
   pub count : total ≡ capped room before
   pub sum : before + length (body-text (tokens-at ns l at end)) ≡ length (formed-listing direct ns l)
 
-one-frame : (frames : List ℕ) → getD frames 0 0 ≡ 0 → stack frames 1 ≡ start
-unfolding stack start
-one-frame frames e = ap (λ (f : ℕ). f ∷ []) e
-
 pub measuring-first : (direct : Bool) (ns : List (List ℕ)) (l : List ℕ) (room : ℕ) (frames : List ℕ) (k total : ℕ) {old new : List ℕ} → Head (lawful-for direct) l → getD l 0 0 < 256 → getD frames 0 0 ≡ 0 → Writes (head-for direct (line-number l)) 0 old k new → total ≡ capped room (0 + k)
     → Measuring direct ns l room frames 3 3 1 total
 measuring-first direct ns l room frames k total h low f w e =
-    let s : stack frames 1 ≡ start = one-frame frames f in
     let z : 0 + k ≡ length (head-for direct (line-number l)) = omega (arith, w .size) in
     record {
-      within = h .long;
-      shallow = omega arith;
-      down = λ t. subst (λ (fs : List ℕ). Rest ns fs 3 3 (drop 3 l)) (sym s) (passes-whole ns l t .body);
-      up = λ r. whole-passes ns l low (record { lawful = h .lawful; sized = h .sized; body = subst (λ (fs : List ℕ). Rest ns fs 3 3 (drop 3 l)) s r });
+      fitting = fitting-first (lawful-for direct) ns l frames h low f;
       before = length (head-for direct (line-number l));
       count = e ∙ ap (capped room) z;
       sum = sym (length-append (head-for direct (line-number l)) (body-text (tokens-at ns l 3 3))) ∙ ap length (head-listing direct ns l);
@@ -141,10 +126,7 @@ module _ {direct : Bool} {ns : List (List ℕ)} {l : List ℕ} {room : ℕ} {fra
       let t = text-first ns l at end c h p in
       let n = length-append (piece-text ns (drop at l) c) (body-text (tokens-at ns l (at + size-of c) (end-after end (drop at l) c))) in
       let next : Measuring direct ns l room new (at + size-of c) (end-after end (drop at l) c) d more = record {
-        within = o .within;
-        shallow = omega (arith, m .shallow, o .few);
-        down = λ t. o .down (m .down t);
-        up = λ r. m .up (o .up r);
+        fitting = fitting-next (m .fitting) o;
         before = m .before + k;
         count = e ∙ ap (λ (z : ℕ). capped room (z + k)) (m .count) ∙ capped-more room (m .before) k;
         sum = omega (arith, m .sum, n, ap length t, w .size);
@@ -153,69 +135,21 @@ module _ {direct : Bool} {ns : List (List ℕ)} {l : List ℕ} {room : ℕ} {fra
 
   -- the rest is not that of a well-formed line
   pub measuring-fails : (Rest ns (stack frames depth) at end (drop at l) → ⊥) → Measure′.NotWellFormed ≡ measured direct ns l room
-  measuring-fails n = not-measured direct ns l room (λ t. n (m .down t))
-
-  ended : length l ≤ at → drop at l ≡ []
-  ended h = drop-of-length-le l h
-
-  none-left : (fs : List ℕ) → Rest ns fs at end [] → (at ≡ end) × (fs ≡ [])
-  unfolding tokens-from to-next Takes
-  none-left [] r = (omega (arith, r .written .next), refl)
-  none-left (f ∷ fs) r = absurd (r .taken)
-
-  nothing-left : at ≡ end → Rest ns [] at end []
-  unfolding tokens-from to-next token-bytes every Takes
-  nothing-left e = record { taken = tt; written = record { right = tt; bytes = refl; next = omega arith } }
+  measuring-fails n = not-measured direct ns l room (fitting-fails (m .fitting) n)
 
   pub measuring-open : length l ≤ at → (end ≡ at → ⊥) → Measure′.NotWellFormed ≡ measured direct ns l room
-  measuring-open h n = measuring-fails (λ r. n (sym (none-left (stack frames depth) (subst (Rest ns (stack frames depth) at end) (ended h) r) .0)))
-
-  some-frames : (d : ℕ) → (d ≡ 0 → ⊥) → stack frames d ≡ [] → ⊥
-  unfolding stack
-  some-frames zero n e = n refl
-  some-frames (suc d) n e = let z : _≡_ {A = ℕ} 0 1 = cc in absurd (omega arith)
+  measuring-open h n = not-measured direct ns l room (fitting-open (m .fitting) h n)
 
   pub measuring-wants : length l ≤ at → (depth ≡ 0 → ⊥) → Measure′.NotWellFormed ≡ measured direct ns l room
-  measuring-wants h n = measuring-fails (λ r. some-frames depth n (none-left (stack frames depth) (subst (Rest ns (stack frames depth) at end) (ended h) r) .1))
+  measuring-wants h n = not-measured direct ns l room (fitting-wants (m .fitting) h n)
 
   pub measuring-done : length l ≤ at → end ≡ at → depth ≡ 0 → Measure′.Length total ≡ measured direct ns l room
-  unfolding measured found stack body-text tokens-from
+  unfolding measured found body-text tokens-from
   measuring-done h e d =
-      let s : stack frames depth ≡ [] = ap (stack frames) d in
-      let r : Rest ns (stack frames depth) at end (drop at l) = subst (λ (fs : List ℕ). Rest ns fs at end (drop at l)) (sym s) (subst (Rest ns [] at end) (sym (ended h)) (nothing-left (sym e))) in
-      let t : formed? (lawful-for direct) ns l ≡ true = is-true (formed? (lawful-for direct) ns l) (m .up r) in
-      let z : body-text (tokens-at ns l at end) ≡ [] = ap (λ (u : List ℕ). body-text (tokens-from ns 0 at end u)) (ended h) in
+      let t : formed? (lawful-for direct) ns l ≡ true = fitting-done (m .fitting) h e d in
+      let z : body-text (tokens-at ns l at end) ≡ [] = ap (λ (u : List ℕ). body-text (tokens-from ns 0 at end u)) (drop-of-length-le l h) in
       let k : m .before ≡ length (formed-listing direct ns l) = omega (arith, m .sum, ap length z) in
       ap Measure′.Length (m .count ∙ ap (capped room) k) ∙ sym (ap (λ (b : Bool). found b (capped room (length (formed-listing direct ns l)))) t)
-
--- ---- a line whose head is not right
-
-not-whole : (direct : Bool) (ns : List (List ℕ)) (l : List ℕ) (room : ℕ) → (Whole (lawful-for direct) ns l → ⊥) → Measure′.NotWellFormed ≡ measured direct ns l room
-not-whole direct ns l room n = not-measured direct ns l room (λ t. n (passes-whole ns l t))
-
-empty-fails : (ns : List (List ℕ)) → Rest ns start 3 3 [] → ⊥
-unfolding tokens-from Takes start
-empty-fails ns r = r .taken
-
-short-go : (direct : Bool) (ns : List (List ℕ)) (l : List ℕ) → length l < 3 → Whole (lawful-for direct) ns l → ⊥
-short-go direct ns [] h w = empty-fails ns (w .body)
-short-go direct ns (a ∷ []) h w = omega (arith, w .sized)
-short-go direct ns (a ∷ b ∷ []) h w = omega (arith, w .sized)
-short-go direct ns (a ∷ b ∷ c ∷ s) h w = omega arith
-
-pub short-line : (direct : Bool) (ns : List (List ℕ)) (l : List ℕ) (room : ℕ) → length l < 3 → Measure′.NotWellFormed ≡ measured direct ns l room
-short-line direct ns l room h = not-whole direct ns l room (short-go direct ns l h)
-
-pub wrong-length : (direct : Bool) (ns : List (List ℕ)) (l : List ℕ) (room : ℕ) → (getD l 2 0 ≡ length l → ⊥) → Measure′.NotWellFormed ≡ measured direct ns l room
-wrong-length direct ns l room n = not-whole direct ns l room (λ w. n (w .sized))
-
-pub wrong-number : (direct : Bool) (ns : List (List ℕ)) (l : List ℕ) (room : ℕ) (b : Bool) → b ≡ lawful-for direct (line-number l) → not b ≡ true → Measure′.NotWellFormed ≡ measured direct ns l room
-wrong-number direct ns l room true e f = let z : _≡_ {A = ℕ} 0 1 = cc in absurd (omega arith)
-wrong-number direct ns l room false e f = not-whole direct ns l room (λ w. subst T (sym e) (w .lawful))
-
-pub right-head : (direct : Bool) (l : List ℕ) → 3 ≤ length l → getD l 2 0 ≡ length l → (t : Bool) → t ≡ lawful-for direct (line-number l) → not t ≡ false → Head (lawful-for direct) l
-right-head direct l a b true e f = record { long = a; sized = b; lawful = as-T _ (sym e) }
-right-head direct l a b false e f = let z : _≡_ {A = ℕ} 0 1 = cc in absurd (omega arith)
 
 -- ---- the second pass
 
@@ -234,7 +168,7 @@ formed-long direct ns l e = go (leb 3 (length l)) refl
   where
     go : (b : Bool) → leb 3 (length l) ≡ b → 3 ≤ length l
     go true h = leb-true 3 (length l) h
-    go false h = absurd (short-go direct ns l (leb-false 3 (length l) h) (passes-whole ns l (as-T (formed? (lawful-for direct) ns l) e)))
+    go false h = absurd (short-go (lawful-for direct) ns l (leb-false 3 (length l) h) (passes-whole ns l (as-T (formed? (lawful-for direct) ns l) e)))
 
 pub writing-first : (direct : Bool) (ns : List (List ℕ)) (l old : List ℕ) (n : ℕ) → formed? (lawful-for direct) ns l ≡ true → Writing ns l old n 3 3 n old
 writing-first direct ns l old n e = record {

@@ -1,9 +1,9 @@
 -- What comes of listing a line, with document 01's numbers: a stored line, or a direct one (document 02, §1), well-formed or an error line (§9).
 use Prim.Native.Nat.{ℕ, suc}
-use mathlib.Core.Bool.{Bool, true, false}
+use mathlib.Core.Bool.{Bool, true, false, _&&_}
 use mathlib.Core.List.{List, [], _∷_, _++_}
-use lib.Dec.{leb}
-use lib.ListN.{length}
+use lib.Dec.{leb, eqb}
+use lib.ListN.{length, getD}
 use Rattle.paper.specs.Bytes.{blank, bytes, pick}
 use Rattle.paper.specs.Line.{line-number, lawful-number?, direct-number?}
 use Rattle.paper.specs.WellFormed.{formed?}
@@ -18,6 +18,10 @@ use Rattle.list_line.specs.declared.first.Measure.the-variants as Measur
 -- a number that a line may have, direct or stored
 abbrev pub lawful-for : Bool → ℕ → Bool
 lawful-for direct = pick direct direct-number? lawful-number?
+
+-- the head of a line is right: its own length, and a number that passes a test
+unfoldable pub right-head? : (ℕ → Bool) → List ℕ → Bool
+right-head? lawful? l = leb 3 (length l) && (eqb (getD l 2 0) (length l) && lawful? (line-number l))
 
 -- the listing of a line that can be listed, direct or stored
 abbrev pub listing-for : Bool → List (List ℕ) → List ℕ → List ℕ

@@ -1,4 +1,5 @@
 // The first pass over a line: whether it is well-formed, and how long its listing is.
+use crate::DEEPEST;
 use crate::head;
 use list_check::Fit;
 ghost use mathlib.Core.Path.{_≡_};
@@ -13,9 +14,6 @@ pub enum Measure {
     NotWellFormed,
     Length(usize),
 }
-
-// As long as the deepest stack of frames that a line of 255 bytes can need: no piece needs more than eight frames for each of its bytes.
-const DEEPEST: usize = 2056;
 
 // The sum of two lengths, or the first that is longer than the room.
 fn longer(total: usize, more: usize, room: usize) -> usize
@@ -76,13 +74,7 @@ pub fn measure_line(line: &[u8], direct: bool, names: &[u8], size: usize, room: 
     requires { ⌜ Sound (now names) size × (room < 2 ^ 63) ⌝ }
     ensures { λ r. ⌜ r ≡ measured direct (names-in (take size (now (names .entry)))) (now (line .entry)) room ⌝ }
 {
-    if line.len() < 3 {
-        return Measure::NotWellFormed;
-    }
-    if line[2] as usize != line.len() {
-        return Measure::NotWellFormed;
-    }
-    if !head::is_lawful(line, direct) {
+    if !head::is_right(line, direct) {
         return Measure::NotWellFormed;
     }
     let mut frames = [0u8; DEEPEST];

@@ -4,7 +4,7 @@ ghost use Prim.Native.Nat.{_≤_};
 ghost use lib.ListN.{length};
 ghost use Rattle.paper.specs.Line.{line-number};
 ghost use Rattle.list_text.specs.Texts.{Writes};
-ghost use Rattle.list_line.specs.Listed.{lawful-for, head-for};
+ghost use Rattle.list_line.specs.Listed.{lawful-for, right-head?, head-for};
 
 // The high byte of a direct line's number, and the first that is too great for a stored line's.
 const DIRECT_HIGH: u8 = 128;
@@ -20,6 +20,19 @@ pub fn is_lawful(line: &[u8], direct: bool) -> bool
     } else {
         high < DIRECT_HIGH
     }
+}
+
+// Whether a line has the length that it says, and a number that its kind has.
+pub fn is_right(line: &[u8], direct: bool) -> bool
+    ensures { λ r. ⌜ r ≡ right-head? (lawful-for direct) (now (line .entry)) ⌝ }
+{
+    if line.len() < 3 {
+        return false;
+    }
+    if line[2] as usize != line.len() {
+        return false;
+    }
+    is_lawful(line, direct)
 }
 
 // Writes what stands before a listing's first statement to the front of a buffer, as much as fits, and returns its length.

@@ -1,4 +1,5 @@
 // From token line to text: whether a line is well-formed, and the listing of such a line or of an error line.
+mod alone;
 mod errors;
 mod first;
 mod head;
@@ -6,7 +7,8 @@ mod second;
 
 use first::Measure;
 ghost use mathlib.Core.Path.{_≡_};
-ghost use lib.ListN.{take};
+ghost use Prim.Native.Nat.{_≤_};
+ghost use lib.ListN.{length, take};
 ghost use Rattle.paper.specs.Names.{names-in};
 ghost use Rattle.paper.specs.WellFormed.{well-formed?};
 ghost use Rattle.list_pieces.specs.Rest.{Sound};
@@ -19,15 +21,20 @@ pub enum Outcome {
     Written(usize),
 }
 
-// Whether a stored line, of any bytes, is well-formed over a sound name table of `size` bytes: what is tested before a listing is written.
-pub fn well_formed(line: &[u8], names: &[u8], size: usize) -> bool
-    requires { ⌜ Sound (now names) size ⌝ }
+// As long as the deepest stack of frames that a line of 255 bytes can need: no piece needs more than eight frames for each of its bytes.
+pub const DEEPEST: usize = 2056;
+
+// Whether a stored line, of any bytes, is well-formed over a sound name table of `size` bytes: what is tested before a listing is written. The caller lends
+// the room for the stack of frames; what it holds does not matter.
+pub fn well_formed(line: &[u8], names: &[u8], size: usize, frames: &mut [u8]) -> bool
+    requires { ⌜ Sound (now names) size × (2056 ≤ length (now frames)) ⌝ }
     ensures { λ r. ⌜ r ≡ well-formed? (names-in (take size (now (names .entry)))) (now (line .entry)) ⌝ }
 {
-    match first::measure_line(line, false, names, size, 0) {
-        Measure::NotWellFormed => false,
-        Measure::Length(_) => true,
+    if !head::is_right(line, false) {
+        return false;
     }
+    frames[0] = 0;
+    alone::is_formed(line, names, size, frames)
 }
 
 // Lists a line, of any bytes, stored or direct, over a sound name table of `size` bytes: the listing is written to the front of a buffer, or

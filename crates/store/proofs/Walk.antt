@@ -1,12 +1,12 @@
 -- The walk over the lines of a store: a turn of it, and what it decides.
-use Prim.Native.Nat.{ℕ, zero, suc, pred, _+_, _*_, _-_, _≤_, _<_}
+use Prim.Native.Nat.{ℕ, zero, suc, pred, _+_, _-_, _≤_, _<_}
 use native.Mathlib.Nat.{add-zero, zero-add}
 use native.Mathlib.Numerals.{add-one}
 use native.Mathlib.Omega.{arith}
 use mathlib.Core.Path.{_≡_, refl, sym, ap, ap₂, _∙_, subst}
 use mathlib.Core.Bool.{Bool, true, false, _&&_, and-false}
 use mathlib.Core.List.{List, [], _∷_, _++_}
-use lib.Dec.{T, leb, ltb, eqb, leb→le, ltb→lt, eqb→eq, leb·zero}
+use lib.Dec.{T, leb, ltb, eqb, ltb→lt, eqb→eq, leb·zero}
 use lib.ListN.{length, take, drop, getD, length-take, length-drop, length-append}
 use lib.Seq.{getD-take, take-all, length-take-le, drop-drop}
 use borrow.Author.Tests.{le-leb, lt-leb, le-ltb, lt-ltb, eq-eqb, ne-eqb, ltb-false}
@@ -14,7 +14,7 @@ use Rattle.paper.specs.Bytes.{pick, every, joined}
 use Rattle.paper.specs.Line.{line-number, lawful-number?}
 use Rattle.paper.specs.Store.{lines-from, lines-in, whole-line?, rising-above, rising, sound-lines, greatest-number, room, sound-store, lines-below}
 use Rattle.laws.specs.Tests.{and-left, and-right, and-both, as-T, is-true}
-use Rattle.laws.specs.Lines.{lines-next, joined-append, room-lent}
+use Rattle.laws.specs.Lines.{joined-append, room-lent}
 use Rattle.store.specs.declared.Walked.{Walked}
 use Rattle.store.specs.declared.Counts.{Counts}
 use Rattle.store.specs.Walks.{passes?, passing-size, passed, rising-from, sound-lines-from, least-after, start, past-lines, walked-on, Within, all-passed}
@@ -55,10 +55,6 @@ good-line s h f g =
     let b : eqb (getD (take m s) 2 0) (length (take m s)) ≡ true = eq-eqb (getD (take m s) 2 0) (length (take m s)) (getD-take m s 2 0 two ∙ sym e) in
     let n : leb (line-number (take m s)) 32767 ≡ true = ap (λ (k : ℕ). leb k 32767) (first-number s m (omega arith)) ∙ le-leb (line-number s) 32767 g in
     ap₂ (λ (x y : Bool). x && (y && leb (line-number (take m s)) 32767)) a b ∙ n
-
--- the bytes after some, as a slice has them
-pub past : (s : List ℕ) (k m : ℕ) → k ≡ m → take (length s - k) (drop k s) ≡ drop m s
-past s k m e = take-all (length s - k) (drop k s) (omega (arith, length-drop k s)) ∙ ap (λ (i : ℕ). drop i s) e
 
 -- ---- the size of a line that is passed
 

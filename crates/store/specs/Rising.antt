@@ -1,13 +1,13 @@
 -- What a caller knows of the line that some bytes begin with, where it is passed and where it is not; and of lines whose numbers rise from one on.
-use Prim.Native.Nat.{ℕ, suc, _+_, _*_, _≤_, _<_}
+use Prim.Native.Nat.{ℕ, suc, _+_, _-_, _*_, _≤_, _<_}
 use native.Mathlib.Numerals.{add-one}
 use native.Mathlib.Omega.{arith}
 use mathlib.Core.Path.{_≡_, refl, sym, ap, ap₂, _∙_}
 use mathlib.Core.Bool.{Bool, true, false, _&&_, and-false}
 use mathlib.Core.List.{List, [], _∷_}
 use lib.Dec.{T, leb, ltb, eqb, leb→le, eqb→eq, leb·zero}
-use lib.ListN.{length, take, drop, getD, length-take}
-use lib.Seq.{getD-take}
+use lib.ListN.{length, take, drop, getD, length-take, length-drop}
+use lib.Seq.{getD-take, take-all}
 use borrow.Author.Tests.{ltb-false}
 use Rattle.paper.specs.Bytes.{pick, every}
 use Rattle.paper.specs.Line.{line-number, lawful-number?}
@@ -39,6 +39,10 @@ first-number s m h =
     let a : 0 < m = omega arith in
     let b : 1 < m = omega arith in
     ap₂ (λ (x y : ℕ). x + 256 * y) (getD-take m s 0 0 a) (getD-take m s 1 0 b)
+
+-- the bytes after some, as a slice has them
+pub past : (s : List ℕ) (k m : ℕ) → k ≡ m → take (length s - k) (drop k s) ≡ drop m s
+past s k m e = take-all (length s - k) (drop k s) (omega (arith, length-drop k s)) ∙ ap (λ (i : ℕ). drop i s) e
 
 -- what a whole first line has
 pub record First (s : List ℕ) : Type 0 where

@@ -4,8 +4,8 @@ use Prim.Native.Nat.{_+_, _-_, _≤_}
 use native.Mathlib.Omega.{arith}
 use lib.ListN.{length}
 use Rattle.store.specs.Walks.{walked-on}
-use Rattle.store.specs.Rising.{walk-goes}
-use Rattle.store.proofs.Walk.{past, walking, onward, begins, walk-stops, turn}
+use Rattle.store.specs.Rising.{past, walk-goes}
+use Rattle.store.proofs.Walk.{walking, onward, begins, walk-stops, turn}
 use borrow.Author.Needs.{needs}
 use Rattle.store.proofs.first_not_below.Statement.{statement}
 use Rattle.store.proofs.first_not_below.Tie as tie

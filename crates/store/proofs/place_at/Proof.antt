@@ -4,7 +4,8 @@ use Prim.Native.Nat.{ℕ}
 use native.Mathlib.Omega.{arith}
 use lib.ListN.{getD}
 use Rattle.paper.specs.Line.{line-number}
-use Rattle.store.proofs.Walk.{past, walk-inside}
+use Rattle.store.specs.Rising.{past}
+use Rattle.store.proofs.Walk.{walk-inside}
 use Rattle.store.proofs.Search.{place-same, place-other}
 use borrow.Author.Needs.{needs}
 use Rattle.store.proofs.place_at.Statement.{statement}

@@ -25,7 +25,7 @@ measure-body-spec =
     (λ c κs. (c .before .before .before .before .before .before .before .before .pre .2, omega arith))
     (λ c. (refl, refl, measuring-first (c .before .before .before .before .before .before .before .before .before .args .direct) (names-in (take (c .before .before .before .before .before .before .before .before .before .args .size) (c .before .before .before .before .before .before .before .before .before .args .names .now))) (c .before .before .before .before .before .before .before .before .before .args .line .now) (c .before .before .before .before .before .before .before .before .before .args .room) (c .before .before .before .before .before .before .before .before .before .args .frames .now) (c .before .before .before .write-head .result) (c .longer .result) (c .before .before .before .before .before .before .before .before .before .pre .0) (omega (arith, c .before .before .before .before .before .before .before .before .shared-slice-known .given 0)) (c .before .before .before .before .before .before .before .before .before .pre .4) (c .before .before .before .write-head .ensures) (c .longer .ensures)))
     (λ c κs. c .loop-test .taken)
-    (λ c κs. (c .before .before .loop-test .taken, omega (arith, (c .before .before .before .loop .inv .2) .shallow, c .before .before .before .loop .inv .0, c .before .before .before .before .before .before .before .before .before .before .before .before .before .pre .3, c .before .before .before .before .before .before .before .before .before .before .before .before .before .pre .0 .sized, c .before .before .before .before .before .before .before .before .before .before .before .before .shared-slice-known .given 2, c .before .before .loop-test .taken), c .before .before .before .before .before .before .before .before .before .before .before .before .before .pre .1))
+    (λ c κs. (c .before .before .loop-test .taken, omega (arith, (c .before .before .before .loop .inv .2) .fitting .shallow, c .before .before .before .loop .inv .0, c .before .before .before .before .before .before .before .before .before .before .before .before .before .pre .3, c .before .before .before .before .before .before .before .before .before .before .before .before .before .pre .0 .sized, c .before .before .before .before .before .before .before .before .before .before .before .before .shared-slice-known .given 2, c .before .before .loop-test .taken), c .before .before .before .before .before .before .before .before .before .before .before .before .before .pre .1))
     (λ c. search needs)
     (λ c κs. (((c .before .before .before .before .before .before .check-piece .ensures (c .before .before .before .before .before .before .before .before .before .before .loop .end) (sym (c .before .before .before .before .before .before .before .before .piece-at .ensures))) .fits _ (c .before .before .d .given .1)) .within, omega arith, ((c .before .before .before .before .before .before .check-piece .ensures (c .before .before .before .before .before .before .before .before .before .before .loop .end) (sym (c .before .before .before .before .before .before .before .before .piece-at .ensures))) .fits _ (c .before .before .d .given .1)) .holds))
     (λ c κs. (c .before .before .before .before .before .before .before .before .before .before .before .before .before .before .before .before .before .before .before .before .before .before .before .pre .2, omega (arith, (c .before .before .before .before .before .before .before .before .before .before .before .before .before .loop .inv .2) .count, capped-most (c .before .before .before .before .before .before .before .before .before .before .before .before .before .before .before .before .before .before .before .before .before .before .before .args .room) ((c .before .before .before .before .before .before .before .before .before .before .before .before .before .loop .inv .2) .before))))
