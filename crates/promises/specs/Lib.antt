@@ -50,5 +50,7 @@ pub mod OnePlace
 pub mod Exactly
 pub mod ExactlyKept
 pub mod ExactlyTyped
+pub mod Examining
+pub mod Rebuilding
 pub mod Main
 pub mod Requests

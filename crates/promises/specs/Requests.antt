@@ -3,7 +3,7 @@ use Prim.Native.Nat.{ℕ, _≤_, _<_, _+_}
 use mathlib.Core.Path.{_≡_, refl, ap}
 use mathlib.Core.Bool.{Bool, true, false}
 use mathlib.Core.Logic.{_↔_, _⊎_}
-use mathlib.Core.List.{List, [], _∷_, _++_}
+use mathlib.Core.List.{List, [], _∷_, _++_, map}
 use lib.Dec.{T}
 use lib.ListN.{length, take}
 use Rattle.paper.specs.Bytes.{blank?, every}
@@ -14,12 +14,13 @@ use Rattle.paper.specs.Line.{direct-number?}
 use Rattle.paper.specs.WellFormed.{Formed, WellFormedDirect, formed?}
 use Rattle.paper.specs.Listing.{listing, direct-listing}
 use Rattle.paper.specs.Errors.{flipped, error-line?, listable?, line-text, line-listing}
-use Rattle.paper.specs.Store.{overwritten}
-use Rattle.paper.specs.Calls.{State, names-of, sound-state, enter, enter-with, Listed, list, refusal}
+use Rattle.paper.specs.Store.{overwritten, room}
+use Rattle.paper.specs.Calls.{State, names-of, sound-state, enter, enter-with, Listed, list, refusal, lines-of, sound-tables}
 use Rattle.paper.specs.Direct.{same-buffer, typed, line-in, show}
 use Rattle.laws.specs.Runs.{all-every}
-use Rattle.promises.specs.Terms.{number-in, direct?, NoReading, OutOfRange, EndsThere, Readable, Exactly, NoLineNumber, Unread, TooFar, text-refusals, typed-refusals, show-refusals, Listable, HoldsListable, Switched, RefusedLeaves, LineMade, over-store, typed-over-store, Written, Agrees, Reached, accepted-with, digit-count, Parting, EachExactly, Summed, one-then, all-unsound}
+use Rattle.promises.specs.Terms.{number-in, direct?, NoReading, OutOfRange, EndsThere, Readable, Exactly, NoLineNumber, Unread, TooFar, text-refusals, typed-refusals, show-refusals, Listable, HoldsListable, Switched, RefusedLeaves, LineMade, over-store, typed-over-store, Written, Agrees, Reached, accepted-with, digit-count, Parting, EachExactly, Summed, one-then, all-unsound, HoldsWellFormed, examined, faults, FirstBad, short?, Rebuilt}
 use Rattle.paper.specs.Batch.{text-lines, answers-to, batch}
+use Rattle.paper.specs.Examine.{yes, bad-line, verdict-number}
 use Rattle.laws.specs.Ends as Ends′
 use Rattle.promises.specs.Strings as Strings′
 use Rattle.promises.specs.Answers as Answers′
@@ -35,6 +36,8 @@ use Rattle.promises.specs.OnePlace as OnePlace′
 use Rattle.promises.specs.ExactlyKept as ExactlyKept′
 use Rattle.promises.specs.ExactlyTyped as ExactlyTyped′
 use Rattle.promises.specs.Batches as Batches′
+use Rattle.promises.specs.Examining as Examining′
+use Rattle.promises.specs.Rebuilding as Rebuilding′
 
 -- ---- §2 A quote left open
 
@@ -274,3 +277,24 @@ well-formed-text ns l w = let e = ErrorLines′.never-both ns l w in (ErrorLines
 -- The test that is made before a line is listed says what 10 is asked of.
 pub listable-test : {lawful? : ℕ → Bool} (ns : List (List ℕ)) (l : List ℕ) → (T (listable? lawful? ns l) → Listable lawful? ns l) × (Listable lawful? ns l → T (listable? lawful? ns l))
 listable-test ns l = (ErrorLines′.listable-says ns l, ErrorLines′.says-listable ns l)
+
+-- ---- §10 Programs from other tokenizers
+
+-- Yes exactly when the tables are sound and each line is well-formed over them.
+pub examine-yes : (s : State) → (examined s ≡ yes) ↔ (T (sound-tables s) × HoldsWellFormed s)
+examine-yes s = Examining′.examine-yes s
+
+-- Otherwise the first unsound one of names, values and store, in that order, or a line: exactly when (see `Main`, 8), over the numbers of the answers, with 4 for
+-- a line.
+pub examine-exactly : (s : State) → Exactly (faults s) (verdict-number (examined s))
+examine-exactly s = Examining′.examine-exactly s
+
+-- The number of a line is that of the first bad one. (An error line of §9 is bad: `never-both`.)
+pub examine-line : (s : State) (n : ℕ) → examined s ≡ bad-line n → T (sound-tables s) × FirstBad s n
+examine-line s n e = Examining′.examine-line s n e
+
+-- For a yes with every listing at most 120 bytes and store room for the lines, entering all listings in order into an empty store, under those name and value
+-- tables, takes every line, adds no name and rebuilds the same used bytes, whatever the switch of §9 says.
+pub examined-rebuilt : (keep : Bool) (s : State) (store : List ℕ) → examined s ≡ yes → T (every (short? (names-of s)) (lines-of s)) → s .used ≤ room store
+    → Rebuilt s (over-store store 0 0 0 s) (answers-to keep (map (listing (names-of s)) (lines-of s)) (over-store store 0 0 0 s))
+examined-rebuilt keep s store e h r = Rebuilding′.rebuilt s store keep e h r

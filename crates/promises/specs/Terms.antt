@@ -4,7 +4,7 @@ use mathlib.Core.Path.{_≡_}
 use mathlib.Core.Bool.{Bool, false, not, _&&_}
 use mathlib.Core.Logic.{_↔_, _⊎_}
 use mathlib.Core.List.{List, [], _∷_, _++_, List·Memᴰ}
-use lib.Dec.{T, eqb}
+use lib.Dec.{T, eqb, leb}
 use lib.ListN.{length, take, drop}
 use Rattle.paper.specs.Bytes.{pick, bytes, blank, every, joined, blank?, digit?, run}
 use Rattle.paper.specs.Tokens.{Token, out-of-range, out-of-range?}
@@ -13,12 +13,13 @@ use Rattle.paper.specs.Names.{most-names, names-in, sound-names, name-bytes, ad
 use Rattle.paper.specs.Items.{Item, Span, span-of, no-span, size-at, items, raw-byte?}
 use Rattle.paper.specs.Line.{line-bytes, line-number, lawful-number?, direct-number, direct-number?}
 use Rattle.paper.specs.WellFormed.{Lawful, Formed, WellFormed, WellFormedDirect}
-use Rattle.paper.specs.Listing.{decimal}
+use Rattle.paper.specs.Listing.{decimal, listing}
 use Rattle.paper.specs.Errors.{marked-at, error-line, keepable?, error-line?, line-text, line-listing}
 use Rattle.paper.specs.Store.{greatest-number, sound-lines, room, stored?, line-at, overwritten}
 use Rattle.paper.specs.Calls.{State, names-of, lines-of, sound-state, Entered, refusal, enter, Listed}
 use Rattle.paper.specs.Direct.{Typed, typed, line-in}
 use Rattle.paper.specs.Batch.{RefusedLine, none-refused, Batched, no-lines, batch}
+use Rattle.paper.specs.Examine.{Verdict, examine}
 
 -- ---- a text's number and items
 
@@ -490,3 +491,44 @@ one-then x y =
 unfoldable pub all-unsound : ℕ → State → Batched
 all-unsound zero s = no-lines s
 all-unsound (suc n) s = record { taken = 0; refused = suc n; first = record { number = 1; place = no-span; line = 1 }; after = s }
+
+-- ---- programs from other tokenizers (document 02, §10)
+
+-- what is answered to the tables and the store of a state; the record's pair has no part in it
+abbrev pub examined : State → Verdict
+examined s = examine (s .names) (s .name-size) (s .name-count) (s .values) (s .store) (s .used)
+
+-- examining a program; 1: the names are unsound; 2: the values lack room for all; 3: more bytes are used than there is room for, or they are no sound lines;
+-- 4: a line is not well-formed over the names
+abbrev pub faults : State → List (ℕ × Type 0)
+faults s =
+    (1, SoundTable (names-of s) (s .names) (s .name-size) (s .name-count) → ⊥)
+    ∷ (2, 8 * s .name-count ≤ length (s .values) → ⊥)
+    ∷ (3, (s .used ≤ room (s .store)) × T (sound-lines (lines-of s)) → ⊥)
+    ∷ (4, HoldsWellFormed s → ⊥)
+    ∷ []
+
+-- the first bad line: it has this number and is not well-formed, and all before it are
+pub record FirstBad (s : State) (n : ℕ) : Type 0 where
+  pub before : List (List ℕ)
+  pub line : List ℕ
+  pub after : List (List ℕ)
+  pub lines : lines-of s ≡ before ++ line ∷ after
+  pub number : line-number line ≡ n
+  pub good-before : (l : List ℕ) → List·Memᴰ l before → WellFormed (names-of s) l
+  pub bad : WellFormed (names-of s) line → ⊥
+
+-- a line that can be entered again: it has at most 255 bytes (where the entries of the store are bytes every line has), and its listing at most 120
+unfoldable pub short? : List (List ℕ) → List ℕ → Bool
+short? ns l = leb (length l) 255 && leb (length (listing ns l)) 120
+
+-- an answer that takes its line and adds no name
+unfoldable pub adds-none? : Entered → Bool
+adds-none? e = takes? e && eqb (e .added) 0
+
+-- The answers es rebuild the program of s from the state with its tables and an empty store: each takes its line and adds no name, they leave the tables as
+-- they were, with the lines in the store, and the same bytes are used.
+pub record Rebuilt (s empty : State) (es : List Entered) : Type 0 where
+  pub taken : T (every adds-none? es)
+  pub after : state-after empty es ≡ with-lines empty (lines-of s)
+  pub used-bytes : take ((state-after empty es) .used) ((state-after empty es) .store) ≡ take (s .used) (s .store)
