@@ -178,6 +178,36 @@ void virgontey_show(const uint8_t *line, size_t line_len, const uint8_t *names, 
                     size_t name_bytes, size_t name_count, const uint8_t *values, size_t values_len,
                     uint8_t *out, size_t out_len, size_t *answer, size_t answer_len);
 
+/*
+ * What virgontey_examine answers first, and how many numbers its answer has.
+ */
+enum {
+    VIRGONTEY_YES = 0,            /* tables are sound, and every line is well-formed */
+    VIRGONTEY_UNSOUND_NAMES = 1,  /* the name table is unsound */
+    VIRGONTEY_UNSOUND_VALUES = 2, /* the value table has no room for all names */
+    VIRGONTEY_UNSOUND_STORE = 3,  /* the store is unsound */
+    VIRGONTEY_BAD_LINE = 4,       /* a line is not well-formed; the second number is its own */
+    VIRGONTEY_EXAMINE_LENGTH = 2
+};
+
+/*
+ * Examines a program that another tokenizer made, before it is taken: names, values and store, in this
+ * order, and then every line. Nothing but the answer is written. Where the answer is VIRGONTEY_YES and no
+ * listing is longer than 120 bytes, entering all listings in order into an empty store, under these names
+ * and values, gives the same bytes. How many lines there are, and the greatest number, which the record of
+ * the other calls has too, are not needed: a walk over the store finds them.
+ *
+ *   names, values, store   the tables, only read
+ *   name_bytes  bytes of name table in use
+ *   name_count  names in the name table
+ *   used        bytes of store in use
+ *   answer      written: which, and the number of the first bad line, 0 where there is none (a line 0 may
+ *               be bad too); answer_len is VIRGONTEY_EXAMINE_LENGTH
+ */
+void virgontey_examine(const uint8_t *names, size_t names_len, size_t name_bytes, size_t name_count,
+                       const uint8_t *values, size_t values_len, const uint8_t *store, size_t store_len,
+                       size_t used, size_t *answer, size_t answer_len);
+
 #ifdef __cplusplus
 }
 #endif

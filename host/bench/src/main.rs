@@ -28,6 +28,7 @@ enum Task {
     List(usize),
     EnterOneByOne(usize),
     EnterWhole(usize),
+    Examine(usize),
 }
 
 const TASKS: [Task; 17] = [
@@ -48,6 +49,8 @@ const TASKS: [Task; 17] = [
     Task::EnterWhole(200),
     Task::EnterOneByOne(2000),
     Task::EnterWhole(2000),
+    Task::Examine(200),
+    Task::Examine(2000),
 ];
 const NAME_COUNTS: [usize; 3] = [0, 18, 128];
 
@@ -62,7 +65,8 @@ impl Task {
             | Task::ReplaceLonger(lines)
             | Task::KeepWrong(lines)
             | Task::Delete(lines)
-            | Task::List(lines) => lines,
+            | Task::List(lines)
+            | Task::Examine(lines) => lines,
         }
     }
 
@@ -78,13 +82,14 @@ impl Task {
             Task::List(lines) => format!("list of {lines}"),
             Task::EnterOneByOne(lines) => format!("{lines} lines one by one"),
             Task::EnterWhole(lines) => format!("{lines} lines at once"),
+            Task::Examine(lines) => format!("{lines} lines examined"),
         }
     }
 
-    /// How many lines a round enters or lists.
+    /// How many lines a round enters, lists or examines.
     fn calls(self) -> usize {
         match self {
-            Task::EnterOneByOne(lines) | Task::EnterWhole(lines) => lines,
+            Task::EnterOneByOne(lines) | Task::EnterWhole(lines) | Task::Examine(lines) => lines,
             _ => CALLS,
         }
     }
@@ -140,12 +145,15 @@ fn job(task: Task, names: usize) -> Job {
                 [right, b":GOTO".to_vec()].concat()
             }
             Task::Delete(_) => number.to_string().into_bytes(),
-            Task::List(_) => Vec::new(),
+            Task::List(_) | Task::Examine(_) => Vec::new(),
             Task::EnterOneByOne(_) | Task::EnterWhole(_) => text(names, call * STEP + STEP, call),
         });
     }
     if let Task::EnterWhole(_) = task {
         texts = vec![texts.join(&0x9B)];
+    }
+    if let Task::Examine(_) = task {
+        texts.truncate(1);
     }
     Job {
         task,
@@ -174,6 +182,12 @@ fn round<S: Side>(job: &Job) -> f64 {
                 black_box(&out[..written]);
                 number
             }
+            Task::Examine(_) => S::examine(
+                black_box(&work.names),
+                &work.values,
+                &work.store,
+                &work.record,
+            ),
             Task::EnterWhole(_) => S::batch(
                 black_box(&job.texts[call]),
                 &mut work.names,
@@ -263,7 +277,7 @@ fn main() {
         (Some("--rounds"), Some(count)) => count.parse().expect("a number of rounds"),
         _ => 500_usize,
     };
-    println!("ns for each line, median of {rounds} rounds of {CALLS} calls; of a tenth as many where a program is entered");
+    println!("ns for each line, median of {rounds} rounds of {CALLS} calls; of a tenth as many where a program is entered or examined");
     println!("| task | names | reference | library | ratio | bytes moved |");
     println!("|---|---|---|---|---|---|");
     for task in TASKS {
@@ -289,7 +303,9 @@ fn main() {
             };
             let title = task.title();
             let moved = match task {
-                Task::List(_) | Task::EnterOneByOne(_) | Task::EnterWhole(_) => "-".into(),
+                Task::List(_) | Task::EnterOneByOne(_) | Task::EnterWhole(_) | Task::Examine(_) => {
+                    "-".into()
+                }
                 _ => format!("{:.0}", moved(&job)),
             };
             println!("| {title} | {names} | {reference:.0} | {shown} | {ratio} | {moved} |");

@@ -23,6 +23,9 @@ pub trait Side {
         record: &mut Record,
     ) -> usize;
 
+    /// Examines a program and gives the answer's first number.
+    fn examine(names: &[u8], values: &[u8], store: &[u8], record: &Record) -> usize;
+
     /// Lists a line and gives the answer's number and the bytes written.
     fn list(
         line: usize,
@@ -59,6 +62,14 @@ impl Side for Reference {
         record: &mut Record,
     ) -> usize {
         reference::batch(text, names, values, store, false, record).refused
+    }
+
+    #[inline(never)]
+    fn examine(names: &[u8], values: &[u8], store: &[u8], record: &Record) -> usize {
+        let (bytes, count) = (record.name_bytes, record.name_count);
+        reference::examine(names, bytes, count, values, store, record.used)
+            .numbers()
+            .0
     }
 
     #[inline(never)]
@@ -108,6 +119,15 @@ impl Side for Library {
         let answer = virgontey::batch(text, names, values, store, false, &mut lent);
         *record = given_back(&lent);
         answer.refused
+    }
+
+    #[inline(never)]
+    fn examine(names: &[u8], values: &[u8], store: &[u8], record: &Record) -> usize {
+        let (bytes, count) = (record.name_bytes, record.name_count);
+        match virgontey::examine(names, bytes, count, values, store, record.used) {
+            virgontey::Verdict::Yes => 0,
+            _ => 1,
+        }
     }
 
     #[inline(never)]

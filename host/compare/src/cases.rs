@@ -31,6 +31,9 @@ pub enum Promise {
     SameDirect(Vec<u8>),
     /// Many lines at once: this is what single calls in the same order add up to.
     OneByOne(Box<Answer>),
+    /// A program examined over sound tables: the first error line or line that listing refuses with 10, if any. Over
+    /// others: listing is refused with 1.
+    Listed(Option<Option<usize>>),
     /// The line was just entered, or kept: it must list.
     Lists,
 }
@@ -80,7 +83,8 @@ impl Iterator for Cases {
             52..=66 => self.list_case(),
             67..=77 => self.foreign_case(),
             78..=85 => self.show_case(),
-            86..=89 => self.batch_case(),
+            86..=88 => self.batch_case(),
+            89..=91 => self.examine_case(),
             _ => self.unsound_case(),
         })
     }
@@ -342,6 +346,53 @@ impl Cases {
             line.append(&mut text);
         }
         line
+    }
+
+    /// Examines the program of this world: as it is, with a line changed, with bits flipped in a table, or upset.
+    fn examine_case(&mut self) -> Case {
+        let mut tables = self.world.tables.clone();
+        match self.random.below(10) {
+            0 => {}
+            1..=4 => self.flip_bits(&mut tables),
+            5..=7 => self.change_line(&mut tables),
+            _ => self.upset_tables(&mut tables),
+        }
+        agree(&mut tables);
+        let promise = Promise::Listed(first_refused(&tables));
+        (tables.record.lines, tables.record.greatest) = (0, 0);
+        let mut case = self.case(Call::Examine { tables }, promise);
+        case.table = 0;
+        case
+    }
+
+    /// Flips one bit, or two, in names, values or store.
+    fn flip_bits(&mut self, tables: &mut Tables) {
+        for _ in 0..self.random.between(1, 2) {
+            let names = tables.record.name_bytes.min(tables.names.len());
+            let used = tables.record.used.min(tables.store.len());
+            let values = tables.values.len();
+            let (buffer, length) = match self.random.below(8) {
+                0 | 1 => (&mut tables.names, names),
+                2 => (&mut tables.values, values),
+                _ => (&mut tables.store, used),
+            };
+            if length > 0 {
+                buffer[self.random.below(length)] ^= 1 << self.random.below(8);
+            }
+        }
+    }
+
+    /// Puts a changed line in the place of one.
+    fn change_line(&mut self, tables: &mut Tables) {
+        let Some(line) = self.stored_line() else {
+            return;
+        };
+        let mut lines = self.world.lines.clone();
+        lines.insert(line, change(&mut self.random, &lines[&line], &lines[&line]));
+        if let Some(store) = joined(&lines) {
+            tables.record.used = store.len();
+            tables.store = store;
+        }
     }
 
     /// Lists a line buffer, then sometimes enters the listing.
@@ -746,6 +797,30 @@ fn one_by_one(text: &[u8], mut tables: Tables, keep: bool) -> Answer {
         answer.refused += 1;
     }
     Answer::Batch { answer, tables }
+}
+
+/// The first line of a program that is an error line, or whose listing is refused with 10, if there is one; None
+/// where listing is refused with 1. The output is too short for any listing: a line that is well-formed is refused
+/// with 11.
+fn first_refused(tables: &Tables) -> Option<Option<usize>> {
+    let refusal = |number| {
+        let call = Call::List {
+            number,
+            tables: tables.clone(),
+            out: Vec::new(),
+        };
+        run_reference(call).number()
+    };
+    if refusal(0) == 1 {
+        return None;
+    }
+    let bad = |number, line: &[u8]| error_text(line).is_some() || refusal(number) == 10;
+    let mut lines = lines_of(tables).into_iter();
+    Some(
+        lines
+            .find(|(number, line)| bad(*number, line))
+            .map(|(number, _)| number),
+    )
 }
 
 /// The listing of a stored line, or a line of nothing if it has none.

@@ -31,6 +31,8 @@ pub struct Checker {
     /// Wrong lines that were kept by single entry, and error lines that were listed.
     pub kept: u64,
     pub errors_listed: u64,
+    /// How often each answer to a program was given.
+    pub verdicts: [u64; 5],
     /// Records that disagree with a store of lines end to end.
     pub disagreeing: u64,
 }
@@ -41,7 +43,11 @@ impl Checker {
         if *answer != case.expected {
             return Err("the answers differ".into());
         }
-        if let Some(count) = self.counts.get_mut(answer.number()) {
+        let counts: &mut [u64] = match answer {
+            Answer::Examine { .. } => &mut self.verdicts,
+            _ => &mut self.counts,
+        };
+        if let Some(count) = counts.get_mut(answer.number()) {
             *count += 1;
         }
         match (&case.call, answer) {
@@ -146,6 +152,17 @@ impl Checker {
                     "a number or a blank before the first statement",
                 )?;
                 self.check_listing(case.table, listing, bytes)
+            }
+            (Call::Examine { .. }, Answer::Examine { which, line }) => {
+                let Promise::Listed(expected) = &case.promise else {
+                    return Err("a program is examined without listings".into());
+                };
+                let listed = match expected {
+                    None => matches!(which, 1..=3) && *line == 0,
+                    Some(None) => (*which, *line) == (0, 0),
+                    Some(Some(number)) => (*which, *line) == (4, *number),
+                };
+                require(listed, "listings say something else")
             }
             (
                 Call::Batch { text, tables, keep },

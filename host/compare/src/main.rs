@@ -186,6 +186,14 @@ impl Run {
             self.checker.kept, self.checker.errors_listed
         );
         println!(
+            "  programs examined: {} good; unsound names {}, values {}, store {}; a bad line {}",
+            self.checker.verdicts[0],
+            self.checker.verdicts[1],
+            self.checker.verdicts[2],
+            self.checker.verdicts[3],
+            self.checker.verdicts[4]
+        );
+        println!(
             "  records that disagree with the store: {}",
             self.checker.disagreeing
         );
@@ -221,6 +229,7 @@ mod tests {
         assert!(run.checker.direct > 0 && run.checker.shown > 0 && run.checker.direct_again > 0);
         assert!(run.checker.batch_taken > 0 && run.checker.batch_refused > 0);
         assert!(run.checker.kept > 0 && run.checker.errors_listed > 0);
+        assert!(run.checker.verdicts.iter().all(|count| *count > 0));
         assert!(run.checker.disagreeing > 0);
     }
 }

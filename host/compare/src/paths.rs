@@ -111,6 +111,24 @@ pub fn through_library(call: &Call) -> Option<Answer> {
             };
             Answer::Batch { answer, tables }
         }
+        Call::Examine { tables } => {
+            let verdict = virgontey::examine(
+                &tables.names,
+                tables.record.name_bytes,
+                tables.record.name_count,
+                &tables.values,
+                &tables.store,
+                tables.record.used,
+            );
+            let (which, line) = match verdict {
+                virgontey::Verdict::Yes => (0, 0),
+                virgontey::Verdict::UnsoundNames => (1, 0),
+                virgontey::Verdict::UnsoundValues => (2, 0),
+                virgontey::Verdict::UnsoundStore => (3, 0),
+                virgontey::Verdict::BadLine(number) => (4, number),
+            };
+            Answer::Examine { which, line }
+        }
     })
 }
 

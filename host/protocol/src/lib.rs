@@ -59,6 +59,8 @@ pub enum Call {
         /// Whether wrong lines are kept.
         keep: bool,
     },
+    /// The record's pair is not lent, and is 0 and 0 here.
+    Examine { tables: Tables },
 }
 
 impl Call {
@@ -68,6 +70,7 @@ impl Call {
             Call::Enter { .. } => Kind::Enter,
             Call::List { .. } | Call::Show { .. } => Kind::List,
             Call::Batch { .. } => Kind::Batch,
+            Call::Examine { .. } => Kind::Examine,
         }
     }
 }
@@ -78,6 +81,7 @@ pub enum Kind {
     Enter,
     List,
     Batch,
+    Examine,
 }
 
 /// What a call answers and leaves, whole.
@@ -101,14 +105,19 @@ pub enum Answer {
         answer: BatchAnswer,
         tables: Tables,
     },
+    Examine {
+        which: usize,
+        line: usize,
+    },
 }
 
 impl Answer {
-    /// The answer's number; of many lines that of the first refusal.
+    /// The answer's number; of many lines that of the first refusal, of a program which it is.
     pub fn number(&self) -> usize {
         match self {
             Answer::Enter { number, .. } | Answer::List { number, .. } => *number,
             Answer::Batch { answer, .. } => answer.number,
+            Answer::Examine { which, .. } => *which,
         }
     }
 }
@@ -157,6 +166,9 @@ pub fn read_call(line: &[u8]) -> Option<Call> {
             let keep = fields.switch()?;
             Call::Batch { text, tables, keep }
         }
+        b"examine" => Call::Examine {
+            tables: fields.program()?,
+        },
         _ => return None,
     };
     fields.at_end().then_some(call)
@@ -206,6 +218,10 @@ pub fn write_call(call: &Call) -> Vec<u8> {
             row.tables(tables);
             row.switch(*keep);
         }
+        Call::Examine { tables } => {
+            row.word("examine");
+            row.program(tables);
+        }
     }
     row.text
 }
@@ -245,6 +261,10 @@ pub fn read_answer(line: &[u8], kind: Kind) -> Option<Answer> {
                 line: fields.number()?,
             },
             tables: fields.tables_after()?,
+        },
+        Kind::Examine => Answer::Examine {
+            which: fields.number()?,
+            line: fields.number()?,
         },
     };
     fields.at_end().then_some(answer)
@@ -287,6 +307,10 @@ pub fn write_answer(answer: &Answer) -> Vec<u8> {
             row.number(answer.end);
             row.number(answer.line);
             row.tables_after(tables.record.used, tables);
+        }
+        Answer::Examine { which, line } => {
+            row.number(*which);
+            row.number(*line);
         }
     }
     row.text
@@ -373,6 +397,18 @@ pub fn run_reference(call: Call) -> Answer {
                 &mut tables.record,
             );
             Answer::Batch { answer, tables }
+        }
+        Call::Examine { tables } => {
+            let (which, line) = reference::examine(
+                &tables.names,
+                tables.record.name_bytes,
+                tables.record.name_count,
+                &tables.values,
+                &tables.store,
+                tables.record.used,
+            )
+            .numbers();
+            Answer::Examine { which, line }
         }
     }
 }
@@ -468,8 +504,8 @@ impl<'a> Fields<'a> {
         })
     }
 
-    /// Takes the fields of tables and store, as a call has them.
-    fn tables(&mut self) -> Option<Tables> {
+    /// Takes the fields of tables and store with no pair, as a program has them.
+    fn program(&mut self) -> Option<Tables> {
         let names = self.names()?;
         let values = self.bytes(MOST_VALUES)?;
         let store = self.bytes(MOST_STORE)?;
@@ -477,8 +513,7 @@ impl<'a> Fields<'a> {
             name_bytes: names.bytes,
             name_count: names.count,
             used: self.number()?,
-            lines: self.number()?,
-            greatest: self.number()?,
+            ..Record::default()
         };
         Some(Tables {
             names: names.table,
@@ -486,6 +521,14 @@ impl<'a> Fields<'a> {
             store,
             record,
         })
+    }
+
+    /// Takes the fields of tables and store, as a call has them.
+    fn tables(&mut self) -> Option<Tables> {
+        let mut tables = self.program()?;
+        tables.record.lines = self.number()?;
+        tables.record.greatest = self.number()?;
+        Some(tables)
     }
 
     /// Takes the fields of tables and store, as an answer has them.
@@ -560,15 +603,20 @@ impl Row {
         self.number(count);
     }
 
-    /// Tables and store, as a call has them.
-    fn tables(&mut self, tables: &Tables) {
+    /// Tables and store with no pair, as a program has them.
+    fn program(&mut self, tables: &Tables) {
         let record = &tables.record;
         self.names(&tables.names, record.name_bytes, record.name_count);
         self.bytes(&tables.values);
         self.bytes(&tables.store);
         self.number(record.used);
-        self.number(record.lines);
-        self.number(record.greatest);
+    }
+
+    /// Tables and store, as a call has them.
+    fn tables(&mut self, tables: &Tables) {
+        self.program(tables);
+        self.number(tables.record.lines);
+        self.number(tables.record.greatest);
     }
 
     /// Bytes used, tables and store, as an answer has them.
@@ -591,7 +639,7 @@ mod tests {
 
     #[test]
     fn lines_that_are_no_call() {
-        let bad: [&[u8]; 40] = [
+        let bad: [&[u8]; 43] = [
             b"",
             b" ",
             b"enter",
@@ -632,6 +680,9 @@ mod tests {
             b"batch - - 0 0 - - 0 0 0 2",
             b"batch - - 0 0 - - 0 0 0 - 0",
             b"batch 9 - 0 0 - - 0 0 0 0",
+            b"examine - 0 0 - -",
+            b"examine - 0 0 - - 0 0",
+            b"examine - 0 0 - - -",
         ];
         for line in bad {
             assert_eq!(
@@ -707,6 +758,9 @@ mod tests {
             "2 2 3 0 0 2 0 0 0 0 0 - - 0a0006061516ff",
         );
         answers("batch - - 1 0 - - 7 0 0 1", "0 0 0 0 0 0 7 0 0 1 0 - - -");
+        answers("examine - 0 0 - 0a0006061516ff 6", "0 0");
+        answers("examine c1 1 1 00000000000000 01 1", "2 0");
+        answers("examine - 0 0 - 00000606379b 6", "4 0");
     }
 
     #[test]
@@ -717,6 +771,7 @@ mod tests {
             "enter 413d31 ff 0 0 ffffffffffffffff - 0 0 0 ffffffffffffffffffffffffffffffff 1",
             "show 0080060615160a c1 1 1 0000000000000000 ffffff",
             "batch 3130204242429b323020413d31 ff 0 0 ffffffffffffffff ffffffffffffffffffffffffffffffff 0 0 0 1",
+            "examine c1 1 1 0000000000000000 0a0007072080160c000606379b 13",
         ] {
             let call = read_call(line.as_bytes()).unwrap();
             assert_eq!(write_call(&call), line.as_bytes());

@@ -180,6 +180,34 @@ pub unsafe extern "C" fn virgontey_show(
     answer[1] = given.written;
 }
 
+/// # Safety
+/// Each pointer must be good for its length, and no two buffers may overlap.
+#[no_mangle]
+pub unsafe extern "C" fn virgontey_examine(
+    names: *const u8,
+    names_len: usize,
+    name_bytes: usize,
+    name_count: usize,
+    values: *const u8,
+    values_len: usize,
+    store: *const u8,
+    store_len: usize,
+    used: usize,
+    answer: *mut usize,
+    answer_len: usize,
+) {
+    let given = reference::examine(
+        lent(names, names_len),
+        name_bytes,
+        name_count,
+        lent(values, values_len),
+        lent(store, store_len),
+        used,
+    );
+    let answer = lent_mut(answer, answer_len);
+    (answer[0], answer[1]) = given.numbers();
+}
+
 /// The reference does not panic; if it did, it would stop here.
 #[panic_handler]
 fn stop(_: &core::panic::PanicInfo) -> ! {

@@ -1,6 +1,6 @@
 //! Document 01 in plain Rust, with the requests of document 02 that have landed: the entry of a
 //! numbered text line into a store of token lines, of many at once, or of one without a number into a
-//! line buffer, and the listing of a line. Written from the documents alone, to be compared with the proved library. No
+//! line buffer, the listing of a line, and the examination of a program. Written from the documents alone, to be compared with the proved library. No
 //! heap, no unsafe code.
 
 #![cfg_attr(not(test), no_std)]
@@ -15,7 +15,7 @@ mod tables;
 mod translate;
 mod words;
 
-use listing::{listable, spell_line, Count, Write};
+use listing::{listable, spell_line, well_formed, Count, Write};
 use program::Program;
 use tables::{find_line, line_length, line_number, values_sound, walk_store};
 use tables::{Names, Starts, Walk, DIRECT_LINE, SHORTEST_LINE};
@@ -66,6 +66,30 @@ pub struct BatchAnswer {
 pub struct ListAnswer {
     pub number: usize,
     pub written: usize,
+}
+
+/// What examining a program answers.
+#[derive(Clone, Copy, PartialEq, Eq, Debug)]
+pub enum Verdict {
+    Yes,
+    UnsoundNames,
+    UnsoundValues,
+    UnsoundStore,
+    /// The number of the first bad line.
+    BadLine(usize),
+}
+
+impl Verdict {
+    /// The answer as two numbers: which it is, and the number of the bad line, 0 where there is none.
+    pub fn numbers(self) -> (usize, usize) {
+        match self {
+            Verdict::Yes => (0, 0),
+            Verdict::UnsoundNames => (1, 0),
+            Verdict::UnsoundValues => (2, 0),
+            Verdict::UnsoundStore => (3, 0),
+            Verdict::BadLine(number) => (4, number),
+        }
+    }
 }
 
 /// Enters a text: inserts, replaces or deletes a line, or puts a text without a number into the line
@@ -154,6 +178,37 @@ pub fn show(
         Some(starts) => show_or_refuse(line, &starts.over(names), out),
         None => Err(1),
     })
+}
+
+/// Examines a program: names, values and store, in this order, and then each line. Of a record only the
+/// counts of name bytes, names and bytes used are lent.
+pub fn examine(
+    names: &[u8],
+    name_bytes: usize,
+    name_count: usize,
+    values: &[u8],
+    store: &[u8],
+    used: usize,
+) -> Verdict {
+    let Some(starts) = Starts::new(names, name_bytes, name_count) else {
+        return Verdict::UnsoundNames;
+    };
+    if !values_sound(values, name_count) {
+        return Verdict::UnsoundValues;
+    }
+    if walk_store(store, used).is_none() {
+        return Verdict::UnsoundStore;
+    }
+    let table = starts.over(names);
+    let mut at = 0;
+    while at < used {
+        let end = at + line_length(store, at);
+        if !well_formed(&store[at..end], &table) {
+            return Verdict::BadLine(line_number(store, at));
+        }
+        at = end;
+    }
+    Verdict::Yes
 }
 
 /// The answer of a listing that wrote so many bytes, or was refused.

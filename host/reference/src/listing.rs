@@ -14,7 +14,7 @@ pub fn listable(line: &[u8], names: &Names) -> bool {
 }
 
 /// Says whether some lawful sequence of items gives this line over this name table.
-fn well_formed(line: &[u8], names: &Names) -> bool {
+pub fn well_formed(line: &[u8], names: &Names) -> bool {
     let mut walk = Walk { line, at: 3, names };
     walk.statements().is_some()
 }

@@ -55,12 +55,23 @@ pub struct ListAnswer {
     pub written: usize,
 }
 
+/// What examining a program answers.
+#[derive(Clone, Copy, PartialEq, Eq, Debug)]
+pub enum Verdict {
+    Yes,
+    UnsoundNames,
+    UnsoundValues,
+    UnsoundStore,
+    /// The number of the first line that is not well-formed.
+    BadLine(usize),
+}
+
 #[cfg(feature = "library")]
-pub use linked::{batch, enter, list, show};
+pub use linked::{batch, enter, examine, list, show};
 
 #[cfg(feature = "library")]
 mod linked {
-    use super::{BatchAnswer, EnterAnswer, ListAnswer, Record};
+    use super::{BatchAnswer, EnterAnswer, ListAnswer, Record, Verdict};
 
     extern "C" {
         fn virgontey_enter(
@@ -106,6 +117,19 @@ mod linked {
             values_len: usize,
             out: *mut u8,
             out_len: usize,
+            answer: *mut usize,
+            answer_len: usize,
+        );
+        fn virgontey_examine(
+            names: *const u8,
+            names_len: usize,
+            name_bytes: usize,
+            name_count: usize,
+            values: *const u8,
+            values_len: usize,
+            store: *const u8,
+            store_len: usize,
+            used: usize,
             answer: *mut usize,
             answer_len: usize,
         );
@@ -284,6 +308,42 @@ mod linked {
         }
         let [number, written] = answer;
         ListAnswer { number, written }
+    }
+
+    /// Examines a program that another tokenizer made: names, values and store, in this order, and then each
+    /// line. Of a record only the counts of name bytes, names and bytes used are needed; nothing is changed.
+    pub fn examine(
+        names: &[u8],
+        name_bytes: usize,
+        name_count: usize,
+        values: &[u8],
+        store: &[u8],
+        used: usize,
+    ) -> Verdict {
+        let mut answer = [0; 2];
+        // Safe: as above; only the answer is written.
+        unsafe {
+            virgontey_examine(
+                names.as_ptr(),
+                names.len(),
+                name_bytes,
+                name_count,
+                values.as_ptr(),
+                values.len(),
+                store.as_ptr(),
+                store.len(),
+                used,
+                answer.as_mut_ptr(),
+                answer.len(),
+            );
+        }
+        match answer {
+            [0, _] => Verdict::Yes,
+            [1, _] => Verdict::UnsoundNames,
+            [2, _] => Verdict::UnsoundValues,
+            [3, _] => Verdict::UnsoundStore,
+            [_, line] => Verdict::BadLine(line),
+        }
     }
 
     /// The counts in the order in which the library takes them.
