@@ -351,10 +351,13 @@ impl Cases {
     /// Examines the program of this world: as it is, with a line changed, with bits flipped in a table, or upset.
     fn examine_case(&mut self) -> Case {
         let mut tables = self.world.tables.clone();
-        match self.random.below(10) {
+        match self.random.below(11) {
             0 => {}
             1..=4 => self.flip_bits(&mut tables),
             5..=7 => self.change_line(&mut tables),
+            8 => tables
+                .values
+                .truncate((8 * tables.record.name_count).saturating_sub(1)),
             _ => self.upset_tables(&mut tables),
         }
         agree(&mut tables);
