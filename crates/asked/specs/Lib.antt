@@ -5,3 +5,4 @@ pub mod Typed
 pub mod Batches
 pub mod Devices
 pub mod Kept
+pub mod Examined

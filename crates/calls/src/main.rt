@@ -121,6 +121,42 @@ struct Tables {
     next: usize,
 }
 
+// The fields of a program: how many bytes each buffer has, the counts of names and of bytes used, and where the next field begins.
+struct Program {
+    names: usize,
+    name_bytes: usize,
+    name_count: usize,
+    values: usize,
+    store: usize,
+    used: usize,
+    next: usize,
+}
+
+// The program that is written from a place of a line on.
+fn read_program(
+    line: &[u8],
+    at: usize,
+    names: &mut [u8],
+    values: &mut [u8],
+    store: &mut [u8],
+) -> Program {
+    let a = bytes_field(line, at, names);
+    let b = number_field(line, a.next);
+    let c = number_field(line, b.next);
+    let d = bytes_field(line, c.next, values);
+    let e = bytes_field(line, d.next, store);
+    let f = number_field(line, e.next);
+    Program {
+        names: a.n,
+        name_bytes: b.n,
+        name_count: c.n,
+        values: d.n,
+        store: e.n,
+        used: f.n,
+        next: f.next,
+    }
+}
+
 // The tables and the store that are written from a place of a line on.
 fn read_tables(
     line: &[u8],
@@ -129,26 +165,21 @@ fn read_tables(
     values: &mut [u8],
     store: &mut [u8],
 ) -> Tables {
-    let a = bytes_field(line, at, names);
+    let program = read_program(line, at, names, values, store);
+    let a = number_field(line, program.next);
     let b = number_field(line, a.next);
-    let c = number_field(line, b.next);
-    let d = bytes_field(line, c.next, values);
-    let e = bytes_field(line, d.next, store);
-    let f = number_field(line, e.next);
-    let g = number_field(line, f.next);
-    let h = number_field(line, g.next);
     Tables {
-        names: a.n,
-        values: d.n,
-        store: e.n,
+        names: program.names,
+        values: program.values,
+        store: program.store,
         record: Editor {
-            used: f.n,
-            lines: g.n,
-            greatest: h.n,
-            name_count: c.n,
-            name_bytes: b.n,
+            used: program.used,
+            lines: a.n,
+            greatest: b.n,
+            name_count: program.name_count,
+            name_bytes: program.name_bytes,
         },
-        next: h.next,
+        next: b.next,
     }
 }
 
@@ -361,6 +392,26 @@ fn answer_show(
     true
 }
 
+// Examines a program, whose fields begin at place 8, and prints the answer: which, and the number of a bad line. False where the line is no such call.
+fn answer_examine(line: &[u8], names: &mut [u8], values: &mut [u8], store: &mut [u8]) -> bool {
+    let program = read_program(line, 8, names, values, store);
+    if !ends(line, program.next) {
+        return false;
+    }
+    let v = editor_examine::examine(
+        front(names, program.names),
+        program.name_bytes,
+        program.name_count,
+        front(values, program.values),
+        front(store, program.store),
+        program.used,
+    );
+    console::print_number(editor_examine::number_of(v));
+    print_number(editor_examine::line_of(v));
+    print(b"\n");
+    true
+}
+
 // Answers a call: false where the line is none.
 fn answer_call(
     line: &[u8],
@@ -382,6 +433,9 @@ fn answer_call(
     }
     if check::same(front(line, 5), b"show ") {
         return answer_show(line, names, values, direct, out);
+    }
+    if check::same(front(line, 8), b"examine ") {
+        return answer_examine(line, names, values, store);
     }
     false
 }

@@ -1,6 +1,6 @@
 -- Numbers put one after the other, and the calls that are lent a record where the record has all its counts and where it lacks one.
 use Prim.Native.Nat.{ℕ, _≤_, _<_}
-use mathlib.Core.Path.{_≡_, sym, ap, _∙_}
+use mathlib.Core.Path.{_≡_, sym, ap, ap₂, _∙_}
 use mathlib.Core.Bool.{Bool}
 use mathlib.Core.List.{List, [], _∷_}
 use lib.ListN.{length, getD, set}
@@ -13,6 +13,7 @@ use Rattle.paper.specs.Calls.{Listed as Written-out}
 use Rattle.paper.specs.Direct.{Typed, same-buffer, typed}
 use Rattle.paper.specs.Batch.{text-lines, batch}
 use Rattle.paper.specs.Batch.{Batched as Outcome}
+use Rattle.paper.specs.Examine.{Verdict, verdict-number, verdict-line}
 use Rattle.promises.specs.Terms.{all-unsound}
 use Rattle.editor_batch.specs.declared.Batched.{Batched}
 use Rattle.editor_batch.specs.Answers.{batched}
@@ -21,7 +22,7 @@ use Rattle.editor_edit.specs.declared.Entered.{Entered}
 use Rattle.editor_list.specs.declared.Listed.{Listed}
 use Rattle.editor_edit.specs.States.{state, typed-outcome, refusing}
 use Rattle.editor_list.specs.Answers.{unlisted, listed}
-use Rattle.tag.specs.Lent.{editor-of, counts, entered-numbers, listed-numbers, batched-numbers, enter-by-counts, list-by-counts, batch-by-counts, Leaves, LeavesAll, Lists}
+use Rattle.tag.specs.Lent.{editor-of, counts, entered-numbers, listed-numbers, batched-numbers, enter-by-counts, list-by-counts, batch-by-counts, Leaves, LeavesAll, Lists, Examines}
 
 -- numbers put at the front, one by one
 pub two-put : (s s₁ s₂ : List ℕ) (a b : ℕ) → s₁ ≡ set s 0 a → s₂ ≡ set s₁ 1 b → s₂ ≡ sets s 0 (a ∷ b ∷ [])
@@ -126,3 +127,13 @@ lists-so o x a output a′ e q = record {
   output-so = ap (λ (y : Written-out). y .output) e;
   answer-so = q ∙ ap (λ (y : Written-out). sets a 0 (listed-numbers y)) e;
 }
+
+-- ---- examining
+
+-- the two numbers put one by one
+pub verdict-put : (v : Verdict) (a a₁ a₂ : List ℕ) (n l : ℕ) → n ≡ verdict-number v → l ≡ verdict-line v → a₁ ≡ set a 0 n → a₂ ≡ set a₁ 1 l → Examines v a a₂
+verdict-put v a a₁ a₂ n l e f h k = two-put a a₁ a₂ n l h k ∙ ap₂ (λ (x y : ℕ). sets a 0 (x ∷ y ∷ [])) e f
+
+-- the answer written is that of the definitions
+pub examines-so : (v w : Verdict) (a a′ : List ℕ) → v ≡ w → Examines v a a′ → Examines w a a′
+examines-so v w a a′ e h = h ∙ ap (λ (x : Verdict). sets a 0 (verdict-number x ∷ verdict-line x ∷ [])) e

@@ -12,6 +12,7 @@ use Rattle.paper.specs.Calls.{State, refusal, not-listed, list}
 use Rattle.paper.specs.Calls.{Entered as Outcome, Listed as Written-out}
 use Rattle.paper.specs.Direct.{Typed, same-buffer, typed}
 use Rattle.paper.specs.Batch.{text-lines, Batched, batch}
+use Rattle.paper.specs.Examine.{Verdict, verdict-number, verdict-line}
 use Rattle.promises.specs.Terms.{all-unsound}
 use Rattle.editor_edit.specs.declared.Editor.{Editor}
 use Rattle.editor_edit.specs.States.{state}
@@ -75,6 +76,10 @@ pub record LeavesAll (o : Batched) (r a names values store r′ a′ : List ℕ)
 pub record Lists (o : Written-out) (a output a′ : List ℕ) : Type 0 where
   pub output-so : output ≡ o .output
   pub answer-so : a′ ≡ sets a 0 (listed-numbers o)
+
+-- Examining left the answer so.
+abbrev pub Examines : Verdict → List ℕ → List ℕ → Type 0
+Examines v a a′ = a′ ≡ sets a 0 (verdict-number v ∷ verdict-line v ∷ [])
 
 -- the counts of a record, written back, leave it as it was
 pub kept : (r names values store : List ℕ) → sets r 0 (counts (state names values store (editor-of r))) ≡ r

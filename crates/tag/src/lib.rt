@@ -3,6 +3,7 @@ use editor_batch::Batched;
 use editor_edit::Editor;
 use editor_edit::Entered;
 use editor_edit::refused;
+use editor_examine::Verdict;
 use editor_list::Listed;
 use editor_list::not_listed;
 ghost use mathlib.Core.Path.{_≡_};
@@ -10,10 +11,12 @@ ghost use mathlib.Core.List.{[], _∷_};
 ghost use lib.ListN.{getD, set};
 ghost use lib.Seq.{sets};
 ghost use Rattle.paper.specs.Direct.{show};
+ghost use Rattle.paper.specs.Examine.{examine};
 ghost use Rattle.editor_edit.specs.States.{typed-outcome};
 ghost use Rattle.editor_list.specs.Answers.{listed};
 ghost use Rattle.editor_batch.specs.Answers.{batched};
-ghost use Rattle.tag.specs.Lent.{editor-of, enter-by-counts, list-by-counts, batch-by-counts, Leaves, LeavesAll, Lists};
+ghost use Rattle.editor_examine.specs.Verdicts.{verdict};
+ghost use Rattle.tag.specs.Lent.{editor-of, enter-by-counts, list-by-counts, batch-by-counts, Leaves, LeavesAll, Lists, Examines};
 
 // How many counts a record has.
 const COUNTS: usize = 5;
@@ -88,6 +91,14 @@ fn write_batched(answer: &mut [usize], r: Batched)
     put(answer, 3, r.place);
     put(answer, 4, r.end);
     put(answer, 5, r.line);
+}
+
+// Writes what examining a program answered, as many numbers as there is room for.
+fn write_verdict(answer: &mut [usize], v: Verdict)
+    ensures { λ _. ⌜ Examines (verdict v) (now (answer .entry)) (now (answer .exit)) ⌝ }
+{
+    put(answer, 0, editor_examine::number_of(v));
+    put(answer, 1, editor_examine::line_of(v));
 }
 
 // Enters a text, or refuses it with 1 where the record lacks a count.
@@ -213,4 +224,21 @@ pub extern "C" fn virgontey_batch(
     let r = batch_by_counts(text, names, values, store, keep, record);
     write_record(record, r.editor);
     write_batched(answer, r);
+}
+
+// Examines a program, and writes the answer.
+#[no_mangle]
+pub extern "C" fn virgontey_examine(
+    names: &[u8],
+    name_bytes: usize,
+    name_count: usize,
+    values: &[u8],
+    store: &[u8],
+    used: usize,
+    answer: &mut [usize],
+)
+    ensures { λ _. ⌜ Examines (examine (now (names .entry)) «name_bytes» «name_count» (now (values .entry)) (now (store .entry)) used) (now (answer .entry)) (now (answer .exit)) ⌝ }
+{
+    let v = editor_examine::examine(names, name_bytes, name_count, values, store, used);
+    write_verdict(answer, v);
 }
