@@ -5,7 +5,8 @@ use mathlib.Core.List.{List}
 use Rattle.paper.specs.Calls.{Listed as Written-out}
 use Rattle.paper.specs.Direct.{Typed}
 use Rattle.paper.specs.Batch.{Batched}
-use Rattle.tag.specs.Lent.{Leaves, LeavesAll, Lists}
+use Rattle.paper.specs.Examine.{Verdict}
+use Rattle.tag.specs.Lent.{Leaves, LeavesAll, Lists, Examines}
 
 -- of a text entered
 pub one-left : (o : Typed) (r a n v s l e b n′ v′ s′ l′ e′ b′ : List ℕ) → Leaves o r a n v s l e b → Leaves o r a n′ v′ s′ l′ e′ b′
@@ -21,3 +22,7 @@ one-left-all o r a n v s e b n′ v′ s′ e′ b′ h k =
 -- of a line listed
 pub one-listed : (o : Written-out) (a out b out′ b′ : List ℕ) → Lists o a out b → Lists o a out′ b′ → (out ≡ out′) × (b ≡ b′)
 one-listed o a out b out′ b′ h k = (h .output-so ∙ sym (k .output-so), h .answer-so ∙ sym (k .answer-so))
+
+-- of a program examined
+pub one-examined : (v : Verdict) (a b b′ : List ℕ) → Examines v a b → Examines v a b′ → b ≡ b′
+one-examined v a b b′ h k = h ∙ sym k
