@@ -114,7 +114,7 @@ stored s ns ls =
       greatest = greatest-number ls;
     }
 
--- 6: names would pass 128, or lack name or value room; never when no name is new
+-- 6: names would pass 256, or lack name or value room; never when no name is new
 unfoldable pub lacks-room : State → List (List ℕ) → Bool
 lacks-room s ns =
     let old = names-of s in

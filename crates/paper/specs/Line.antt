@@ -1,8 +1,8 @@
 -- The token line (document 01, "Token line"): tokens as bytes, with the offsets; and bytes as tokens again.
-use Prim.Native.Nat.{ℕ, zero, suc, _+_, _-_, _*_, _/_, _%_}
-use mathlib.Core.Bool.{Bool, true, false}
+use Prim.Native.Nat.{ℕ, zero, suc, pred, _+_, _-_, _*_, _/_, _%_}
+use mathlib.Core.Bool.{Bool, true, false, _||_}
 use mathlib.Core.List.{List, [], _∷_, _++_}
-use lib.Dec.{leb, eqb}
+use lib.Dec.{leb, ltb, eqb}
 use lib.ListN.{length, take, drop, getD}
 use Rattle.paper.specs.Bytes.{pick, run}
 use Rattle.paper.specs.Classes.{remark}
@@ -12,9 +12,13 @@ use Rattle.paper.specs.Items.{raw-byte?}
 
 -- ---- tokens as bytes
 
--- a variable's token: 80 and the name's number
+-- the token of the variable with a number: 80 and the number; from 128 on 00, and the number less 128 (document 02, §11)
+unfoldable pub number-bytes : ℕ → List ℕ
+number-bytes i = pick (ltb i 128) ((0x80 + i) ∷ []) (0 ∷ (i - 128) ∷ [])
+
+-- a variable's token
 unfoldable pub variable-bytes : List (List ℕ) → List ℕ → List ℕ
-variable-bytes ns n = (0x80 + number-of ns n) ∷ []
+variable-bytes ns n = number-bytes (number-of ns n)
 
 -- the bytes of a token over a name table; before those of a statement's first token stands its offset
 unfoldable pub own-bytes : List (List ℕ) → Token → List ℕ
@@ -76,9 +80,21 @@ direct-number = 32768
 unfoldable pub direct-number? : ℕ → Bool
 direct-number? n = eqb n direct-number
 
--- the name of the variable whose token stands at the front of some bytes; no name past the table's end
+-- a byte that a variable's token begins with
+unfoldable pub variable-byte? : ℕ → Bool
+variable-byte? b = leb 0x80 b || eqb b 0
+
+-- the length of the variable's token at the front of some bytes
+unfoldable pub variable-size : List ℕ → ℕ
+variable-size s = pick (eqb (getD s 0 0) 0) 2 1
+
+-- the number of that variable
+unfoldable pub variable-number : List ℕ → ℕ
+variable-number s = pick (eqb (getD s 0 0) 0) (128 + getD s 1 0) (getD s 0 0 - 0x80)
+
+-- the name of that variable; no name past the table's end
 unfoldable pub variable-name : List (List ℕ) → List ℕ → List ℕ
-variable-name ns s = getD ns (getD s 0 0 - 0x80) []
+variable-name ns s = getD ns (variable-number s) []
 
 -- REM and DATA
 unfoldable pub raw-statement? : ℕ → Bool
@@ -92,14 +108,14 @@ tokens-from ns zero p end (b ∷ s) =
     let t = getD s 0 0 in
     let size = run raw-byte? (drop 1 s) in
     let with-text = statement t ∷ raw (take size (drop 1 s)) ∷ operator 0x9b ∷ tokens-from ns (2 + size) (suc p) b s in
-    let let-without-word = assigned (variable-name ns (drop 1 s)) ∷ tokens-from ns 2 (suc p) b s in
+    let let-without-word = assigned (variable-name ns (drop 1 s)) ∷ tokens-from ns (suc (variable-size (drop 1 s))) (suc p) b s in
     let other-statement = statement t ∷ tokens-from ns 1 (suc p) b s in
-    let a-variable = variable (variable-name ns (b ∷ s)) ∷ tokens-from ns 0 (suc p) end s in
+    let a-variable = variable (variable-name ns (b ∷ s)) ∷ tokens-from ns (pred (variable-size (b ∷ s))) (suc p) end s in
     let a-constant = constant (take 6 s) ∷ tokens-from ns 6 (suc p) end s in
     let a-string = string (take t (drop 1 s)) ∷ tokens-from ns (suc t) (suc p) end s in
     let an-operator = operator b ∷ tokens-from ns 0 (suc p) end s in
     pick (eqb p end) (pick (eqb t 0x36) let-without-word (pick (raw-statement? t) with-text other-statement))
-    (pick (leb 0x80 b) a-variable (pick (eqb b 0x0e) a-constant (pick (eqb b 0x0f) a-string an-operator)))
+    (pick (variable-byte? b) a-variable (pick (eqb b 0x0e) a-constant (pick (eqb b 0x0f) a-string an-operator)))
 
 -- the tokens of a whole line, whose first statement begins at offset 3
 unfoldable pub line-tokens : List (List ℕ) → List ℕ → List Token

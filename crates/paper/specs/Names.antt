@@ -59,9 +59,9 @@ unfoldable pub all-different : List (List ℕ) → Bool
 all-different [] = true
 all-different (n ∷ ns) = not (known? ns n) && all-different ns
 
--- the most names that a table may hold
+-- the most names that a table may hold (document 02, §11)
 abbrev pub most-names : ℕ
-most-names = 128
+most-names = 256
 
 -- names that a sound table may hold
 unfoldable pub sound-names : List (List ℕ) → Bool

@@ -51,7 +51,7 @@ unfolding Grammar′.moved Grammar′.given Grammar′.N Grammar′.term Grammar
 all-Grammar = tt
 
 unfoldable pub all-Line : Unit {0}
-unfolding Line′.variable-bytes Line′.own-bytes Line′.begins? Line′.to-next Line′.token-bytes Line′.line-bytes Line′.line-number Line′.lawful-number? Line′.direct-number? Line′.variable-name Line′.raw-statement? Line′.tokens-from Line′.line-tokens
+unfolding Line′.number-bytes Line′.variable-bytes Line′.own-bytes Line′.begins? Line′.to-next Line′.token-bytes Line′.line-bytes Line′.line-number Line′.lawful-number? Line′.direct-number? Line′.variable-byte? Line′.variable-size Line′.variable-number Line′.variable-name Line′.raw-statement? Line′.tokens-from Line′.line-tokens
 all-Line = tt
 
 unfoldable pub all-WellFormed : Unit {0}
