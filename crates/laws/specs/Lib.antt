@@ -5,6 +5,7 @@ pub mod Classes
 pub mod Runs
 pub mod Lines
 pub mod Names
+pub mod Variables
 pub mod Ends
 pub mod Constants
 pub mod Given

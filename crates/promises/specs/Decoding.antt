@@ -1,5 +1,5 @@
 -- The bytes of tokens, decoded, are the tokens again.
-use Prim.Native.Nat.{ℕ, zero, suc, _+_, _-_}
+use Prim.Native.Nat.{ℕ, zero, suc, _+_}
 use native.Mathlib.Nat.{add-zero}
 use native.Mathlib.Omega.{arith}
 use mathlib.Core.Path.{_≡_, refl, subst, sym, ap, _∙_}
@@ -8,13 +8,14 @@ use mathlib.Core.List.{List, [], _∷_, _++_}
 use lib.Dec.{T, eqb, leb, ltb, leb·suc-suc}
 use lib.ListN.{length, getD, length-append}
 use lib.Seq.{take-append-seam, take-at}
-use borrow.Author.Tests.{ne-eqb, eq-eqb, le-leb}
+use borrow.Author.Tests.{ne-eqb, eq-eqb}
 use Rattle.paper.specs.Bytes.{pick, same}
 use Rattle.paper.specs.Tokens.{Token, statement, assigned, operator, variable, constant, string, raw}
 use Rattle.paper.specs.Names.{number-of, known?}
 use Rattle.paper.specs.Items.{raw-byte?}
-use Rattle.paper.specs.Line.{to-next, token-bytes, line-bytes, line-number, variable-bytes, own-bytes, begins?, variable-name, raw-statement?, tokens-from, line-tokens}
+use Rattle.paper.specs.Line.{to-next, token-bytes, line-bytes, line-number, variable-bytes, own-bytes, begins?, variable-byte?, variable-name, raw-statement?, tokens-from, line-tokens}
 use Rattle.laws.specs.Names.{same-eq}
+use Rattle.laws.specs.Variables.{variable-token}
 use Rattle.laws.specs.Runs.{All, run-all}
 
 -- token lists whose bytes can be told apart: each token's bytes are what its kind has, and raw text stands after REM or DATA alone
@@ -22,9 +23,9 @@ pub data Shapes (ns : List (List ℕ)) : List Token → Type 0 where
   no-tokens : Shapes ns []
   a-statement : (k : ℕ) (ts : List Token) → raw-statement? k ≡ false → eqb k 0x36 ≡ false → Shapes ns ts → Shapes ns (statement k ∷ ts)
   a-text : (k : ℕ) (b : List ℕ) → raw-statement? k ≡ true → eqb k 0x36 ≡ false → All raw-byte? b → Shapes ns (statement k ∷ raw b ∷ operator 0x9b ∷ [])
-  a-target : (n : List ℕ) (ts : List Token) → variable-name ns (variable-bytes ns n) ≡ n → Shapes ns ts → Shapes ns (assigned n ∷ ts)
-  an-operator : (j : ℕ) (ts : List Token) → leb 0x80 j ≡ false → eqb j 0x0e ≡ false → eqb j 0x0f ≡ false → Shapes ns ts → Shapes ns (operator j ∷ ts)
-  a-variable : (n : List ℕ) (ts : List Token) → variable-name ns (variable-bytes ns n) ≡ n → Shapes ns ts → Shapes ns (variable n ∷ ts)
+  a-target : (n : List ℕ) (ts : List Token) → getD ns (number-of ns n) [] ≡ n → Shapes ns ts → Shapes ns (assigned n ∷ ts)
+  an-operator : (j : ℕ) (ts : List Token) → variable-byte? j ≡ false → eqb j 0x0e ≡ false → eqb j 0x0f ≡ false → Shapes ns ts → Shapes ns (operator j ∷ ts)
+  a-variable : (n : List ℕ) (ts : List Token) → getD ns (number-of ns n) [] ≡ n → Shapes ns ts → Shapes ns (variable n ∷ ts)
   a-constant : (b : List ℕ) (ts : List Token) → length b ≡ 6 → Shapes ns ts → Shapes ns (constant b ∷ ts)
   a-string : (b : List ℕ) (ts : List Token) → Shapes ns ts → Shapes ns (string b ∷ ts)
 
@@ -40,15 +41,12 @@ module _ (ns : List (List ℕ)) where
   skip-all zero (x ∷ xs) p stop e = absurd (omega arith)
   skip-all (suc n) (x ∷ xs) p stop e = skip-all n xs (suc p) stop (omega arith)
 
-  high : (n : ℕ) → leb 0x80 (0x80 + n) ≡ true
-  high n = le-leb 0x80 (0x80 + n) (omega arith)
-
   nine-b : raw-byte? 0x9b ≡ false
   unfolding raw-byte?
   nine-b = refl
 
   decode : (ts : List Token) → Shapes ns ts → (p stop : ℕ) → stop ≡ p + to-next ns ts → tokens-from ns 0 p stop (token-bytes ns p ts) ≡ ts
-  unfolding tokens-from token-bytes to-next own-bytes begins? variable-bytes variable-name
+  unfolding tokens-from token-bytes to-next own-bytes begins? variable-bytes variable-name variable-byte?
   decode ts no-tokens p stop e = refl
   decode ts (a-statement k r h n s) p stop e =
       let q : ℕ = suc p + 1 in
@@ -59,18 +57,23 @@ module _ (ns : List (List ℕ)) where
       let l : length (k ∷ (b ++ 0x9b ∷ [])) ≡ 2 + length b = omega (arith, length-append b (0x9b ∷ [])) in
       rw (eq-eqb p stop (omega arith), n, h, run-all raw-byte? b (0x9b ∷ []) a nine-b, take-append-seam b (0x9b ∷ []), skip-all (2 + length b) (k ∷ (b ++ 0x9b ∷ [])) (suc p) (suc p + 1 + (length b + 1)) l)
   decode ts (a-target m r h s) p stop e =
-      let q : ℕ = suc p + 2 in
-      let three : suc (suc (suc p)) ≡ q = omega arith in
-      rw (eq-eqb p stop (omega arith), h)
-      (ap (λ (l : List Token). assigned m ∷ l) (ap (λ (o : ℕ). tokens-from ns 0 o (q + to-next ns r) (token-bytes ns q r)) three ∙ decode r s q (q + to-next ns r) refl))
+      let t = variable-token (number-of ns m) in
+      let q : ℕ = suc p + suc (suc (length (t .others))) in
+      let z : List ℕ = token-bytes ns q r in
+      let past : suc (suc (suc p)) + length (t .others) ≡ q = omega arith in
+      rw (t .is, eq-eqb p stop (omega arith), t .size z, t .number z, h)
+      (ap (λ (l : List Token). assigned m ∷ l) (skip (t .others) z (suc (suc (suc p))) (q + to-next ns r) ∙ ap (λ (o : ℕ). tokens-from ns 0 o (q + to-next ns r) z) past ∙ decode r s q (q + to-next ns r) refl))
   decode ts (an-operator j r h n o s) p stop e =
       let one : suc p ≡ p + 1 = omega arith in
       rw (ne-eqb p stop (λ q. omega arith), h, n, o)
       (ap (λ (l : List Token). operator j ∷ l) (ap (λ (q : ℕ). tokens-from ns 0 q stop (token-bytes ns (p + 1) r)) one ∙ decode r s (p + 1) stop (omega arith)))
   decode ts (a-variable m r h s) p stop e =
-      let one : suc p ≡ p + 1 = omega arith in
-      rw (ne-eqb p stop (λ q. omega arith), high (number-of ns m), h)
-      (ap (λ (l : List Token). variable m ∷ l) (ap (λ (q : ℕ). tokens-from ns 0 q stop (token-bytes ns (p + 1) r)) one ∙ decode r s (p + 1) stop (omega arith)))
+      let t = variable-token (number-of ns m) in
+      let q : ℕ = p + suc (length (t .others)) in
+      let z : List ℕ = token-bytes ns q r in
+      let past : suc p + length (t .others) ≡ q = omega arith in
+      rw (t .is, ne-eqb p stop (λ k. omega (arith, ap length (t .is), e, k)), t .begins, t .size z, t .number z, h)
+      (ap (λ (l : List Token). variable m ∷ l) (skip (t .others) z (suc p) stop ∙ ap (λ (o : ℕ). tokens-from ns 0 o stop z) past ∙ decode r s q stop (omega (arith, ap length (t .is), e))))
   decode ts (a-constant b r h s) p stop e =
       let q : ℕ = p + suc (length b) in
       let z : List ℕ = token-bytes ns q r in
@@ -91,15 +94,11 @@ known-go : (m : List ℕ) (ms : List (List ℕ)) (n : List ℕ) (b : Bool) → s
 known-go m ms n true e ih k = same-eq m n e
 known-go m ms n false e ih k = ih (subst T (leb·suc-suc (suc (number-of ms n)) (length ms)) k)
 
-known-at : (ns : List (List ℕ)) (n : List ℕ) → T (known? ns n) → getD ns (number-of ns n) [] ≡ n
+-- a known name is the one with its number
+pub known-name : (ns : List (List ℕ)) (n : List ℕ) → T (known? ns n) → getD ns (number-of ns n) [] ≡ n
 unfolding known? number-of
-known-at [] n k = absurd k
-known-at (m ∷ ms) n k = known-go m ms n (same m n) refl (λ h. known-at ms n h) k
-
--- a known name is read back from its variable's byte
-pub known-name : (ns : List (List ℕ)) (n : List ℕ) → T (known? ns n) → variable-name ns (variable-bytes ns n) ≡ n
-unfolding variable-name variable-bytes
-known-name ns n k = let e : 0x80 + number-of ns n - 0x80 ≡ number-of ns n = omega arith in ap (λ (i : ℕ). getD ns i []) e ∙ known-at ns n k
+known-name [] n k = absurd k
+known-name (m ∷ ms) n k = known-go m ms n (same m n) refl (λ h. known-name ms n h) k
 
 -- ---- a line
 

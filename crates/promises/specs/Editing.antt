@@ -11,16 +11,18 @@ use borrow.Author.Tests.{eq-eqb, eqb-true}
 use Rattle.paper.specs.Bytes.{pick, blank?, every, among, joined}
 use Rattle.paper.specs.Classes.{colon, line-end, raw-end}
 use Rattle.paper.specs.Tokens.{Token, class}
+use Rattle.paper.specs.Names.{number-of}
 use Rattle.paper.specs.Items.{no-span}
 use Rattle.paper.specs.Machine.{Taken, left, read}
 use Rattle.paper.specs.Grammar.{Gives, start}
-use Rattle.paper.specs.Line.{variable-bytes, own-bytes, begins?, to-next, token-bytes, line-bytes, line-number, lawful-number?}
+use Rattle.paper.specs.Line.{number-bytes, variable-bytes, own-bytes, begins?, to-next, token-bytes, line-bytes, line-number, lawful-number?}
 use Rattle.paper.specs.WellFormed.{WellFormed, right-token?}
 use Rattle.paper.specs.Store.{whole-line?, sound-lines, room, first-is?, lines-below, lines-not-below, lines-above, stored?, put-line, take-out}
 use Rattle.paper.specs.Calls.{State, names-of, lines-of, sound-state, Entered, refusal, tokens, translate, stored, lacks-room, enter}
 use Rattle.laws.specs.Tests.{and-left, and-both, or-else, is-true}
 use Rattle.laws.specs.Lines.{bytes-back, both-sides}
 use Rattle.laws.specs.Names.{names-added, adds-front}
+use Rattle.laws.specs.Variables.{number-some}
 use Rattle.promises.specs.Place.{sources}
 use Rattle.promises.specs.TokenRuns.{on-taken, on-run}
 use Rattle.promises.specs.Given.{look-token, tokens-given}
@@ -47,7 +49,7 @@ size-some ns ts (a-statement k r x y s) h p = omega arith
 size-some ns ts (a-text k b x y a) h p = omega arith
 size-some ns ts (a-target n r x s) h p = omega arith
 size-some ns ts (an-operator j r x y z s) h p = omega arith
-size-some ns ts (a-variable n r x s) h p = omega arith
+size-some ns ts (a-variable n r x s) h p = omega (arith, length-append (number-bytes (number-of ns n)) (token-bytes ns (p + length (number-bytes (number-of ns n))) r), number-some (number-of ns n) .0)
 size-some ns ts (a-constant b r x s) h p = omega arith
 size-some ns ts (a-string b r s) h p = omega arith
 
@@ -56,9 +58,11 @@ unfolding token-bytes to-next own-bytes begins? variable-bytes
 size-three ns ts no-tokens e h p = absurd (omega arith)
 size-three ns ts (a-statement k r x y s) e h p = omega (arith, size-some ns r s (omega arith) (suc p + 1))
 size-three ns ts (a-text k b x y a) e h p = omega (arith, length-append b (0x9b ∷ []))
-size-three ns ts (a-target n r x s) e h p = omega arith
+size-three ns ts (a-target n r x s) e h p =
+    let q : ℕ = suc p + suc (length (number-bytes (number-of ns n))) in
+    omega (arith, length-append (number-bytes (number-of ns n)) (token-bytes ns q r), number-some (number-of ns n) .0)
 size-three ns ts (an-operator j r x y z s) e h p = absurd (omega arith)
-size-three ns ts (a-variable n r x s) e h p = absurd (omega arith)
+size-three ns ts (a-variable n r x s) e h p = absurd (omega (arith, number-some (number-of ns n) .0))
 size-three ns ts (a-constant b r x s) e h p = absurd (omega arith)
 size-three ns ts (a-string b r s) e h p = absurd (omega arith)
 

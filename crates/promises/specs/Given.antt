@@ -11,6 +11,7 @@ use Rattle.paper.specs.Words.{Word, word, word-of, statements, operators}
 use Rattle.paper.specs.Tokens.{Token, statement, assigned, operator, variable, constant, string, raw, out-of-range, unreadable, class, operator-class, by-kind, as-read, read-as}
 use Rattle.paper.specs.Machine.{Act, Taken, read}
 use Rattle.paper.specs.Grammar.{Gives, itself, for-strings, as-prefix, put, given, grammar, may-be-empty, look}
+use Rattle.paper.specs.Line.{variable-byte?}
 use Rattle.paper.specs.Listing.{token-text, operator-text, body-text}
 use Rattle.paper.specs.WellFormed.{right-token?}
 use Rattle.paper.specs.Open.{all-Bytes, all-Words, all-Tokens, all-Grammar, all-Machine, all-Listing}
@@ -49,7 +50,7 @@ at-class q (w ∷ ws) t e u = go (eqb (w .token) t) (at-class q ws t (and-right 
 
 -- an operator's byte is no variable's, number's or string's, unless it ends raw text
 unfoldable pub plain-byte? : ℕ → Bool
-plain-byte? k = (ltb k 128 || eqb k 0x9b) && (not (eqb k 0x0e) && not (eqb k 0x0f))
+plain-byte? k = (not (variable-byte? k) || eqb k 0x9b) && (not (eqb k 0x0e) && not (eqb k 0x0f))
 
 -- the operator j as the row gives it is read as j, and written as j
 unfoldable pub operator-fits : Gives → ℕ → Bool
@@ -77,7 +78,7 @@ fits e c =
     && ((itself? e || symbol-class? c) && ((not (eqb line-end c) || operator-fits e 0x16) && ((not (eqb raw-end c) || operator-fits e 0x9b) && every (word-fits e c) operators)))
 
 rows-fit : T (every (row-fits fits) grammar)
-unfolding row-fits fits word-fits itself? symbol-class? operator-fits plain-byte? given-operator all-Bytes all-Words all-Tokens all-Grammar all-Machine all-Listing
+unfolding row-fits fits word-fits itself? symbol-class? operator-fits plain-byte? variable-byte? given-operator all-Bytes all-Words all-Tokens all-Grammar all-Machine all-Listing
 rows-fit = tt
 
 look-fits : (f c : ℕ) → Fits fits c (look f c)

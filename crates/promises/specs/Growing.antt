@@ -10,7 +10,7 @@ use Rattle.paper.specs.Bytes.{pick, same, every}
 use Rattle.paper.specs.Words.{statement-word?}
 use Rattle.paper.specs.Tokens.{Token, statement, assigned, operator, variable, constant, string, raw, out-of-range, unreadable}
 use Rattle.paper.specs.Names.{less-open, number-of, known?}
-use Rattle.paper.specs.Line.{variable-bytes, own-bytes, begins?, to-next, token-bytes, line-bytes}
+use Rattle.paper.specs.Line.{number-bytes, variable-bytes, own-bytes, begins?, to-next, token-bytes, line-bytes}
 use Rattle.paper.specs.WellFormed.{right-token?, Formed}
 use Rattle.laws.specs.Tests.{and-left, and-right, and-both}
 
@@ -53,9 +53,9 @@ module _ (new : List (List ℕ)) where
   own-stay : (ns : List (List ℕ)) (t : Token) → T (right-token? ns t) → own-bytes (ns ++ new) t ≡ own-bytes ns t
   unfolding own-bytes variable-bytes right-token?
   own-stay ns (statement k) r = refl
-  own-stay ns (assigned n) r = ap (λ (i : ℕ). 0x36 ∷ (0x80 + i) ∷ []) (number-stays ns n (and-left (known? ns n) _ r))
+  own-stay ns (assigned n) r = ap (λ (i : ℕ). 0x36 ∷ number-bytes i) (number-stays ns n (and-left (known? ns n) _ r))
   own-stay ns (operator k) r = refl
-  own-stay ns (variable n) r = ap (λ (i : ℕ). (0x80 + i) ∷ []) (number-stays ns n r)
+  own-stay ns (variable n) r = ap number-bytes (number-stays ns n r)
   own-stay ns (constant b) r = refl
   own-stay ns (string b) r = refl
   own-stay ns (raw b) r = refl

@@ -52,5 +52,6 @@ pub mod ExactlyKept
 pub mod ExactlyTyped
 pub mod Examining
 pub mod Rebuilding
+pub mod VariableForms
 pub mod Main
 pub mod Requests

@@ -12,8 +12,8 @@ use Rattle.paper.specs.Classes.{line-end, raw-end, unfit, number, quoted, numer
 use Rattle.paper.specs.Words.{Word, word-of, statements, operators, reserved?}
 use Rattle.paper.specs.Tokens.{Token, statement, assigned, operator, variable, constant, string, raw, out-of-range, unreadable, class, operator-class, by-kind}
 use Rattle.paper.specs.Constants.{constant-text}
-use Rattle.paper.specs.Names.{name?, less-open, known?, number-of, sound-names, all-different}
-use Rattle.paper.specs.Items.{item, item-at, string-byte?, raw-byte?, opens, scan, raw-from, variable-at}
+use Rattle.paper.specs.Names.{name?, less-open, known?, number-of, sound-names, all-different, most-names}
+use Rattle.paper.specs.Items.{item, item-at, string-byte?, raw-byte?, opens, scan, raw-from, variable-at, string-at}
 use Rattle.paper.specs.Listing.{token-text, operator-text, body-text}
 use Rattle.paper.specs.WellFormed.{right-token?}
 use Rattle.paper.specs.Open.{all-Bytes, all-Words, all-Listing}
@@ -144,7 +144,7 @@ record NameFine (n : List ℕ) : Type 0 where
 name-fine : (ns : List (List ℕ)) (n : List ℕ) → T (sound-names ns) → T (known? ns n) → NameFine n
 unfolding sound-names
 name-fine ns n s k =
-    let a = and-right (leb (length ns) 128) _ s in
+    let a = and-right (leb (length ns) most-names) _ s in
     record {
       is-name = known-every name? ns n (and-left (every name? ns) _ a) k;
       no-word = known-every (λ m. not (reserved? (less-open m))) ns n (and-right (all-different ns) _ (and-right (every name? ns) _ a)) k;

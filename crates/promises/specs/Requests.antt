@@ -1,5 +1,6 @@
 -- The promises that document 02 adds, a section for each request in the order in which they landed.
 use Prim.Native.Nat.{ℕ, _≤_, _<_, _+_}
+use native.Mathlib.Omega.{arith}
 use mathlib.Core.Path.{_≡_, refl, ap}
 use mathlib.Core.Bool.{Bool, true, false}
 use mathlib.Core.Logic.{_↔_, _⊎_}
@@ -8,9 +9,9 @@ use lib.Dec.{T}
 use lib.ListN.{length, take}
 use Rattle.paper.specs.Bytes.{blank?, every}
 use Rattle.paper.specs.Tokens.{string, unreadable}
-use Rattle.paper.specs.Names.{names-in, sound-names}
+use Rattle.paper.specs.Names.{names-in, number-of, known?, sound-names}
 use Rattle.paper.specs.Items.{Item, no-span, item, string-byte?, item-at, size-at, items}
-use Rattle.paper.specs.Line.{direct-number?}
+use Rattle.paper.specs.Line.{direct-number?, variable-bytes}
 use Rattle.paper.specs.WellFormed.{Formed, WellFormedDirect, formed?}
 use Rattle.paper.specs.Listing.{listing, direct-listing}
 use Rattle.paper.specs.Errors.{flipped, error-line?, listable?, line-text, line-listing}
@@ -18,7 +19,7 @@ use Rattle.paper.specs.Store.{overwritten, room}
 use Rattle.paper.specs.Calls.{State, names-of, sound-state, enter, enter-with, Listed, list, refusal, lines-of, sound-tables}
 use Rattle.paper.specs.Direct.{same-buffer, typed, line-in, show}
 use Rattle.laws.specs.Runs.{all-every}
-use Rattle.promises.specs.Terms.{number-in, direct?, NoReading, OutOfRange, EndsThere, Readable, Exactly, NoLineNumber, Unread, TooFar, text-refusals, typed-refusals, show-refusals, Listable, HoldsListable, Switched, RefusedLeaves, LineMade, over-store, typed-over-store, Written, Agrees, Reached, accepted-with, digit-count, Parting, EachExactly, Summed, one-then, all-unsound, HoldsWellFormed, examined, faults, FirstBad, short?, Rebuilt}
+use Rattle.promises.specs.Terms.{number-in, direct?, NoReading, OutOfRange, EndsThere, Readable, Exactly, NoLineNumber, Unread, TooFar, text-refusals, typed-refusals, show-refusals, Listable, HoldsListable, Switched, RefusedLeaves, LineMade, over-store, typed-over-store, Written, Agrees, Reached, accepted-with, digit-count, Parting, EachExactly, Summed, one-then, all-unsound, HoldsWellFormed, examined, faults, FirstBad, short?, Rebuilt, Form, ReadsLong}
 use Rattle.paper.specs.Batch.{text-lines, answers-to, batch}
 use Rattle.paper.specs.Examine.{yes, bad-line, verdict-number}
 use Rattle.laws.specs.Ends as Ends′
@@ -38,6 +39,7 @@ use Rattle.promises.specs.ExactlyTyped as ExactlyTyped′
 use Rattle.promises.specs.Batches as Batches′
 use Rattle.promises.specs.Examining as Examining′
 use Rattle.promises.specs.Rebuilding as Rebuilding′
+use Rattle.promises.specs.VariableForms as VariableForms′
 
 -- ---- §2 A quote left open
 
@@ -298,3 +300,22 @@ examine-line s n e = Examining′.examine-line s n e
 pub examined-rebuilt : (keep : Bool) (s : State) (store : List ℕ) → examined s ≡ yes → T (every (short? (names-of s)) (lines-of s)) → s .used ≤ room store
     → Rebuilt s (over-store store 0 0 0 s) (answers-to keep (map (listing (names-of s)) (lines-of s)) (over-store store 0 0 0 s))
 examined-rebuilt keep s store e h r = Rebuilding′.rebuilt s store keep e h r
+
+-- ---- §11 More than 128 names
+
+-- Over a sound table a name's token has one of two forms, by the name's number, and both are bytes. (Demand 3, `Main` 5 to 7, and what is said of it above hold of
+-- both: their proofs ask of a variable's token only what `VariableToken` of crate `laws` says of either form.)
+pub two-forms : (ns : List (List ℕ)) (n : List ℕ) → T (sound-names ns) → T (known? ns n) → Form (number-of ns n) (variable-bytes ns n)
+two-forms ns n s k = VariableForms′.two-forms ns n s k
+
+-- 00 before 128 or more is not well-formed: no well-formed line, with a number or without one, has it where a variable's token stands.
+pub no-higher-form : (lawful? : ℕ → Bool) (ns : List (List ℕ)) (l : List ℕ) (byte : ℕ) → T (sound-names ns) → 128 ≤ byte → ReadsLong ns l byte → Formed lawful? ns l → ⊥
+no-higher-form lawful? ns l byte s h r w = VariableForms′.no-higher-form lawful? ns l byte s h r w
+
+-- Stored programs and files mean what they did: over a table of at most 128 names each name has the token that it had,
+pub old-forms : (ns : List (List ℕ)) (n : List ℕ) → length ns ≤ 128 → T (known? ns n) → variable-bytes ns n ≡ (0x80 + number-of ns n) ∷ []
+old-forms ns n h k = VariableForms′.old-forms ns n h k
+
+-- and 00 before any byte stands for no variable in a well-formed line, as it did not.
+pub no-long-form : (lawful? : ℕ → Bool) (ns : List (List ℕ)) (l : List ℕ) (byte : ℕ) → T (sound-names ns) → length ns ≤ 128 → ReadsLong ns l byte → Formed lawful? ns l → ⊥
+no-long-form lawful? ns l byte s h r w = VariableForms′.no-such-form lawful? ns l byte s (omega arith) r w

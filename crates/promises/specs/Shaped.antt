@@ -14,7 +14,7 @@ use Rattle.paper.specs.Names.{known?}
 use Rattle.paper.specs.Items.{opens}
 use Rattle.paper.specs.Machine.{Taken}
 use Rattle.paper.specs.Grammar.{Gives, given}
-use Rattle.paper.specs.Line.{raw-statement?, begins?, to-next}
+use Rattle.paper.specs.Line.{variable-byte?, raw-statement?, begins?, to-next}
 use Rattle.paper.specs.WellFormed.{right-token?}
 use Rattle.paper.specs.Open.{all-Bytes, all-Words}
 use Rattle.laws.specs.Tests.{and-left, and-right, is-true, is-false, or-else, as-T, and-both}
@@ -58,13 +58,13 @@ nine-b : read-as 0x9b ≡ 0x9b
 unfolding read-as
 nine-b = refl
 
-not-raw-end : (e : Gives) (j : ℕ) → T (fits e (operator-class j)) → eqb j 0x9b ≡ false → (leb 0x80 (given-operator e j) ≡ false) × (eqb (given-operator e j) 0x0e ≡ false) × (eqb (given-operator e j) 0x0f ≡ false)
+not-raw-end : (e : Gives) (j : ℕ) → T (fits e (operator-class j)) → eqb j 0x9b ≡ false → (variable-byte? (given-operator e j) ≡ false) × (eqb (given-operator e j) 0x0e ≡ false) × (eqb (given-operator e j) 0x0f ≡ false)
 unfolding plain-byte?
 not-raw-end e j h b =
     let o = op-both e j (op-fits e j h) in
     let k : ℕ = given-operator e j in
-    let p = both (ltb k 128 || eqb k 0x9b) _ (o .2) in (
-      or-else (ltb k 128) (eqb k 0x9b) (p .0) (λ t. lt-leb 0x80 k (ltb→lt k 128 t))
+    let p = both (not (variable-byte? k) || eqb k 0x9b) _ (o .2) in (
+      or-else (not (variable-byte? k)) (eqb k 0x9b) (p .0) (λ t. is-false (variable-byte? k) t)
           (λ t.
           let kk : k ≡ 0x9b = eqb→eq k 0x9b t in
           let j9 : j ≡ 0x9b = sym (o .0) ∙ ap read-as kk ∙ nine-b in

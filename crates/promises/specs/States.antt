@@ -85,9 +85,10 @@ says-state s o =
 
 -- ---- names of a sound table
 
-few : (ns : List (List ℕ)) → T (sound-names ns) → length ns ≤ 128
+-- at most as many as a table may hold
+pub few : (ns : List (List ℕ)) → T (sound-names ns) → length ns ≤ 256
 unfolding sound-names
-few ns t = leb→le (length ns) 128 (and-left (leb (length ns) most-names) _ t)
+few ns t = leb→le (length ns) 256 (and-left (leb (length ns) most-names) _ t)
 
 -- sound names are good
 pub names-good : (ns : List (List ℕ)) → T (sound-names ns) → NamesGood ns
@@ -97,17 +98,17 @@ names-good ns t =
     let b = and-right (every name? ns) _ a in
     record { names = and-left (every name? ns) _ a; different = and-left (all-different ns) _ b; no-words = and-right (all-different ns) _ b }
 
-good-names : (ns : List (List ℕ)) → length ns ≤ 128 → NamesGood ns → T (sound-names ns)
+good-names : (ns : List (List ℕ)) → length ns ≤ 256 → NamesGood ns → T (sound-names ns)
 unfolding sound-names
 good-names ns h g =
-    and-both (leb (length ns) most-names) _ (le→leb (length ns) 128 h)
+    and-both (leb (length ns) most-names) _ (le→leb (length ns) 256 h)
     (and-both (every name? ns) _ (g .names) (and-both (all-different ns) _ (g .different) (g .no-words)))
 
 -- ---- room for new names
 
 -- room for the new names, their bytes and their values
 pub record Room (s : State) (new : List (List ℕ)) : Type 0 where
-  pub count : length (names-of s) + length new ≤ 128
+  pub count : length (names-of s) + length new ≤ 256
   pub bytes : s .name-size + length (name-bytes new) ≤ length (s .names)
   pub values : 8 * (length (names-of s) + length new) ≤ length (s .values)
 
@@ -120,7 +121,7 @@ room-go : (s : State) (new : List (List ℕ)) (k : ℕ) → k ≡ length (names-
     → ltb most-names k || (ltb (length (s .names)) (s .name-size + length (name-bytes new)) || ltb (length (s .values)) (8 * k)) ≡ false → Room s new
 room-go s new k e h =
     let a = or-false-right (ltb most-names k) _ h in
-    let x : k ≤ 128 = ltb-false 128 k (or-false-left (ltb most-names k) _ h) in
+    let x : k ≤ 256 = ltb-false 256 k (or-false-left (ltb most-names k) _ h) in
     let y : s .name-size + length (name-bytes new) ≤ length (s .names) = ltb-false _ _ (or-false-left (ltb (length (s .names)) (s .name-size + length (name-bytes new))) _ a) in
     let z : 8 * k ≤ length (s .values) = ltb-false _ _ (or-false-right (ltb (length (s .names)) (s .name-size + length (name-bytes new))) _ a) in
     record { count = omega arith; bytes = y; values = omega arith }
@@ -163,7 +164,7 @@ table-sound s new o g r out e l =
     let size : ℕ = s .name-size + length (name-bytes new) in
     let bytes : take size out ≡ name-bytes ns = e ∙ ap (λ (z : List ℕ). z ++ name-bytes new) (sym (o .table .bytes)) ∙ sym (name-bytes-append (names-of s) new) in
     let back : names-in (take size out) ≡ ns = ap names-in bytes ∙ names-back ns (g .names) in
-    let few : length ns ≤ 128 = subst (λ (z : ℕ). z ≤ 128) (sym (length-append (names-of s) new)) (r .count) in (
+    let few : length ns ≤ 256 = subst (λ (z : ℕ). z ≤ 256) (sym (length-append (names-of s) new)) (r .count) in (
       back,
       and-both (leb size (length out)) _ (le→leb size (length out) (subst (λ (z : ℕ). size ≤ z) (sym l) (r .bytes)))
           (and-both (same (name-bytes (names-in (take size out))) (take size out)) _

@@ -1,5 +1,5 @@
 -- The terms in which the promises are stated.
-use Prim.Native.Nat.{ℕ, zero, suc, _+_, _*_, _^_, _≤_, _<_}
+use Prim.Native.Nat.{ℕ, zero, suc, _+_, _-_, _*_, _^_, _≤_, _<_}
 use mathlib.Core.Path.{_≡_}
 use mathlib.Core.Bool.{Bool, false, not, _&&_}
 use mathlib.Core.Logic.{_↔_, _⊎_}
@@ -11,9 +11,9 @@ use Rattle.paper.specs.Tokens.{Token, out-of-range, out-of-range?}
 use Rattle.paper.specs.Constants.{value, five, six}
 use Rattle.paper.specs.Names.{most-names, names-in, sound-names, name-bytes, add-names, value-entries}
 use Rattle.paper.specs.Items.{Item, Span, span-of, no-span, size-at, items, raw-byte?}
-use Rattle.paper.specs.Line.{line-bytes, line-number, lawful-number?, direct-number, direct-number?}
+use Rattle.paper.specs.Line.{line-bytes, line-number, lawful-number?, direct-number, direct-number?, tokens-from, line-tokens}
 use Rattle.paper.specs.WellFormed.{Lawful, Formed, WellFormed, WellFormedDirect}
-use Rattle.paper.specs.Listing.{decimal, listing}
+use Rattle.paper.specs.Listing.{decimal, listing, direct-listing}
 use Rattle.paper.specs.Errors.{marked-at, error-line, keepable?, error-line?, line-text, line-listing}
 use Rattle.paper.specs.Store.{greatest-number, sound-lines, room, stored?, line-at, overwritten}
 use Rattle.paper.specs.Calls.{State, names-of, lines-of, sound-state, Entered, refusal, enter, Listed}
@@ -160,7 +160,7 @@ Giving is P = (ts : List Token) × Lawful is ts × P ts
 abbrev pub names-with : State → List Token → List (List ℕ)
 names-with s ts = add-names (names-of s) ts
 
--- 6: names would pass 128, or lack name or value room
+-- 6: names would pass 256, or lack name or value room
 abbrev pub NamesLackRoom : State → List (List ℕ) → Type 0
 NamesLackRoom s ns = (most-names < length ns) ⊎ ((length (s .names) < length (name-bytes ns)) ⊎ (length (s .values) < 8 * length ns))
 
@@ -532,3 +532,24 @@ pub record Rebuilt (s empty : State) (es : List Entered) : Type 0 where
   pub taken : T (every adds-none? es)
   pub after : state-after empty es ≡ with-lines empty (lines-of s)
   pub used-bytes : take ((state-after empty es) .used) ((state-after empty es) .store) ≡ take (s .used) (s .store)
+
+-- ---- more than 128 names (document 02, §11)
+
+-- The two forms of a variable's token: one byte, 80 and the number; from number 128 on two, 00 and the number less 128.
+pub data Form (i : ℕ) (v : List ℕ) : Type 0 where
+  one-byte : i < 128 → v ≡ (0x80 + i) ∷ [] → Form i v
+  two-bytes : 128 ≤ i → i < 256 → v ≡ 0 ∷ (i - 128) ∷ [] → Form i v
+
+-- bytes in which a variable's token begins with 00 and `byte`: at their front, within a statement, or after the offset and 36 that begin one
+pub data LongForm (byte : ℕ) : ℕ → ℕ → List ℕ → Type 0 where
+  within : (at end : ℕ) (rest : List ℕ) → (at ≡ end → ⊥) → LongForm byte at end (0 ∷ byte ∷ rest)
+  assigned-to : (at offset : ℕ) (rest : List ℕ) → LongForm byte at at (offset ∷ 0x36 ∷ 0 ∷ byte ∷ rest)
+
+-- a line in whose reading 00 and `byte` stand where a variable's token does
+pub record ReadsLong (ns : List (List ℕ)) (l : List ℕ) (byte : ℕ) : Type 0 where
+  pub before : List Token
+  pub at : ℕ
+  pub end : ℕ
+  pub bytes : List ℕ
+  pub read : line-tokens ns l ≡ before ++ tokens-from ns 0 at end bytes
+  pub long : LongForm byte at end bytes
