@@ -155,7 +155,7 @@ module _ {ks : List (List ℕ)} {n : ℕ} {ts : List Token} {line fresh line′ 
   part-closed : closed? part ≡ true
   part-closed = ap closed? part-is ∙ closed-names (names-added ks ts)
 
-  line-is : (size : ℕ) → size ≡ length (line-bytes (add-names ks ts) n ts) → 255 ≤ length line → size ≤ 255 → length (add-names ks ts) ≤ 128 → take size line′ ≡ line-bytes (add-names ks ts) n ts
+  line-is : (size : ℕ) → size ≡ length (line-bytes (add-names ks ts) n ts) → 255 ≤ length line → size ≤ 255 → length (add-names ks ts) ≤ 256 → take size line′ ≡ line-bytes (add-names ks ts) n ts
   line-is size e fits short few =
       let k : size ≡ length (written-line ks n ts) = e ∙ sym (line-size ks n ts) in
       ap (λ (x : ℕ). take x line′) k

@@ -6,7 +6,7 @@ use lib.ListN.{length}
 use Rattle.paper.specs.Bytes.{pick, every}
 use Rattle.paper.specs.Tokens.{Token, statement, assigned, operator, variable, constant, string, raw, out-of-range, unreadable}
 use Rattle.paper.specs.Names.{add-names}
-use Rattle.paper.specs.Line.{variable-bytes, begins?, to-next}
+use Rattle.paper.specs.Line.{variable-bytes, begins?}
 
 -- the low byte of a number: what a byte of the line can hold of a variable's token, an offset or a length
 unfoldable pub low : ℕ → ℕ
@@ -38,13 +38,18 @@ unfoldable pub draft : List (List ℕ) → List Token → List ℕ
 draft ks [] = []
 draft ks (t ∷ ts) = let more = written ks t ++ draft (after ks t) ts in pick (begins? t) (0 ∷ more) more
 
+-- how many of these bytes stand before the next statement, or the line's end
+unfoldable pub until-next : List (List ℕ) → List Token → ℕ
+until-next ks [] = 0
+until-next ks (t ∷ ts) = let more = length (written ks t) + until-next (after ks t) ts in pick (begins? t) 0 more
+
 -- the same with the offsets, from offset p of the line on
 unfoldable pub with-offsets : List (List ℕ) → ℕ → List Token → List ℕ
 with-offsets ks p [] = []
 with-offsets ks p (t ∷ ts) =
     let own = written ks t in
     let within = own ++ with-offsets (after ks t) (p + length own) ts in
-    let begun = low (suc p + length own + to-next ks ts) ∷ own ++ with-offsets (after ks t) (suc p + length own) ts in
+    let begun = low (suc p + length own + until-next (after ks t) ts) ∷ own ++ with-offsets (after ks t) (suc p + length own) ts in
     pick (begins? t) begun within
 
 -- a whole line, over the names known before it

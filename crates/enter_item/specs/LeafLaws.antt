@@ -1,12 +1,12 @@
 -- Variables, constants and quoted strings: what is written of them.
 use Prim.Native.Nat.{ℕ, suc, _+_, _*_, _-_, _%_, _^_, _≤_, _<_}
-use native.Mathlib.Nat.{add-mod-mod}
+use native.Mathlib.Nat.{mod-eq-of-lt}
 use native.Mathlib.Omega.{arith}
 use mathlib.Core.Path.{_≡_, refl, subst, sym, ap, _∙_}
 use mathlib.Core.Bool.{Bool, true, false}
 use mathlib.Core.List.{List, [], _∷_, _++_, append-nil, append-assoc}
 use lib.Dec.{eqb}
-use borrow.Author.Tests.{ne-eqb}
+use borrow.Author.Tests.{ne-eqb, lt-ltb, le-ltb}
 use lib.ListN.{length, take, drop, set, length-append, length-drop}
 use lib.Seq.{sets, drop-drop, length-take-le, length-sets, take-length}
 use Rattle.paper.specs.Bytes.{pick, every}
@@ -16,7 +16,7 @@ use Rattle.paper.specs.Constants.{value, powers, six, six-at, five, zero-bytes}
 use Rattle.paper.specs.Names.{names-in, name-bytes, known?, marked, add-name, add-names}
 use Rattle.paper.specs.Items.{variable-at}
 use Rattle.paper.specs.Grammar.{itself, given}
-use Rattle.paper.specs.Line.{variable-bytes, begins?}
+use Rattle.paper.specs.Line.{number-bytes, variable-bytes, begins?}
 use Rattle.laws.specs.Names.{names-added, name-added, add-append, closed?, closed-append, closed-names, plain-name, names-of-more, length-marked}
 use Rattle.buffers.specs.Sets.{written as read-back}
 use Rattle.constant_bytes.specs.Numerals.{Written, digits-in, up, down, six-if, zeros-if, six-of, numeral-six, token-of-six}
@@ -39,11 +39,6 @@ use Rattle.enter_item.specs.declared.Spot.{Spot}
 use Rattle.enter_item.specs.declared.Step.the-variants.{Done, Refused}
 
 -- ---- names
-
--- a number's low byte with 80 is that of the number with 80
-low-of : (n : ℕ) → (128 + n % 256) % 256 ≡ low (0x80 + n)
-unfolding low
-low-of n = add-mod-mod 128 n 256
 
 -- an item that is a name, seen from some place
 pub record NameSeen (s : List ℕ) (it : Found) : Type 0 where
@@ -144,14 +139,24 @@ variable-plain t n e = ap begins? e
 calm-name : (c : ℕ) → 5 ≤ c → c ≤ 7 → calm? c ≡ true
 calm-name c l h = rw (ne-eqb c line-end (λ e. omega arith), ne-eqb c colon (λ e. omega arith), ne-eqb c then-word (λ e. omega arith), ne-eqb c remark (λ e. omega arith))
 
--- a variable's token: a byte that holds its number with 80
-pub variable-put : {number at b : ℕ} {old new : List ℕ} → b ≡ (128 + number % 256) % 256 → new ≡ set old at b → VariableWritten number old at new 1
-unfolding lows variable-bytes
-variable-put {number} {at} {b} {old} {new} e w = record {
-  line = λ ks n k. w ∙ ap (set old at) (e ∙ low-of number ∙ ap (λ (x : ℕ). low (0x80 + x)) k);
-  size = λ ks n k. refl;
-  few = omega arith;
+-- the bytes of a number's token were written
+token-put : {number at k : ℕ} {old new bs : List ℕ} → bs ≡ lows (number-bytes number) → new ≡ sets old at bs → k ≡ length bs → k ≤ 2 → VariableWritten number old at new k
+unfolding variable-bytes
+token-put {number} {at} {k} {old} {new} {bs} e w l f = record {
+  line = λ ks n i. w ∙ ap (sets old at) (e ∙ ap (λ (x : ℕ). lows (number-bytes x)) i);
+  size = λ ks n i. l ∙ ap length (e ∙ ap (λ (x : ℕ). lows (number-bytes x)) i);
+  few = f;
 }
+
+-- a variable's token: a byte that holds its number with 80,
+pub short-put : {number at : ℕ} {old new : List ℕ} → number < 128 → new ≡ set old at (0x80 + number) → VariableWritten number old at new 1
+unfolding lows low number-bytes
+short-put {number} h w = token-put {bs = (0x80 + number) ∷ []} (rw (lt-ltb number 128 h) (ap (λ (x : ℕ). x ∷ []) (sym (mod-eq-of-lt (omega arith))))) w refl (omega arith)
+
+-- or 00 and a byte that holds its number less 128
+pub long-put : {number at : ℕ} {old new : List ℕ} → 128 ≤ number → new ≡ sets old at (0 ∷ ((number - 128) % 256) ∷ []) → VariableWritten number old at new 2
+unfolding lows low number-bytes
+long-put {number} h w = token-put {bs = 0 ∷ ((number - 128) % 256) ∷ []} (rw (le-ltb number 128 h)) w refl (omega arith)
 
 -- a variable
 pub took-variable : {s names : List ℕ} {o k : ℕ} {q : Spot} {m : Mem} {it : Found} {r : Numbered} {fresh new : List ℕ} → Asks (env s o names) q m → (v : Sees s (q .at) false it) → 5 ≤ class (token-at s false it)

@@ -29,6 +29,11 @@ pub const LINE_ROOM: usize = 255;
 // How much scratch they have for the names new in a line: two bytes for each byte of the longest text.
 pub const NAMES_ROOM: usize = 240;
 
+// The token of the variable with number 0; from the first number with a token of two bytes on, the byte that this begins with.
+const FIRST_VARIABLE: u8 = 0x80;
+const FIRST_LONG: usize = 128;
+const LONG_FORM: u8 = 0;
+
 // Where a reader stands: its place in the part, how many bytes of the line are written, and how many bytes of new names.
 pub struct Spot {
     pub at: usize,
@@ -216,8 +221,13 @@ pub fn name_number(part: &[u8], it: Item, names: &[u8], fresh: &mut [u8], named:
 pub fn write_variable(line: &mut [u8], at: usize, number: usize) -> usize
     ensures { λ r. ⌜ VariableWritten number (now (line .entry)) at (now (line .exit)) r ⌝ }
 {
-    buffers::put(line, at, ((128 + number % 256) % 256) as u8);
-    1
+    if number < FIRST_LONG {
+        buffers::put(line, at, FIRST_VARIABLE + number as u8);
+        return 1;
+    }
+    let token = [LONG_FORM, ((number - FIRST_LONG) % 256) as u8];
+    buffers::copy(line, at, &token);
+    2
 }
 
 // A variable: its name's number, and its name where it is new.

@@ -88,7 +88,7 @@ of-start keep ks text (number-alone n) = Delete n
 of-start keep ks text nothing = Refused 3 0 0
 
 -- An accepted line: it and the names new in it stand at the front of the two buffers; the names can be told apart, and have at most 240
--- bytes. The line's bytes are those of the definitions if there are at most 255 of them and at most 128 names (`line-fits`).
+-- bytes. The line's bytes are those of the definitions if there are at most 255 of them and at most 256 names (`line-fits`).
 pub record Accepted (ks : List (List ℕ)) (n : ℕ) (ts : List Token) (line fresh line′ fresh′ : List ℕ) : Type 0 where
   pub line-put : line′ ≡ sets line 0 (written-line ks n ts)
   pub names-put : fresh′ ≡ sets fresh 0 (name-bytes (names-added ks ts))

@@ -1,7 +1,7 @@
 -- A variable's token (document 02, §11): what is asked of it, whichever of its two forms it has. Nothing else tells the forms apart.
 use Prim.Native.Nat.{ℕ, suc, _+_, _-_, _≤_, _<_}
 use native.Mathlib.Omega.{arith}
-use mathlib.Core.Path.{_≡_, refl, ap}
+use mathlib.Core.Path.{_≡_, refl, sym, ap, _∙_}
 use mathlib.Core.Bool.{Bool, true, false, _||_}
 use mathlib.Core.List.{List, [], _∷_, _++_}
 use lib.Dec.{eqb, leb, ltb}
@@ -50,23 +50,34 @@ or-none : (a : Bool) → a || false ≡ true → a ≡ true
 or-none true e = refl
 or-none false e = e
 
--- Bytes that begin with such a token are what is written for its number, and then the bytes after it.
-pub token-again : (b : ℕ) (s : List ℕ) → b < 256 → variable-byte? b ≡ true → variable-size (b ∷ s) ≤ suc (length s)
-    → (length (number-bytes (variable-number (b ∷ s))) ≡ variable-size (b ∷ s)) × (number-bytes (variable-number (b ∷ s)) ++ drop (variable-size (b ∷ s)) (b ∷ s) ≡ b ∷ s)
-unfolding number-bytes variable-byte? variable-size variable-number
-token-again b s h t l = go (eqb b 0) refl s l
+-- A token that is read has the form that is written for its number, if it begins with a byte.
+pub byte-form : (s : List ℕ) → getD s 0 0 < 256 → length (number-bytes (variable-number s)) ≡ variable-size s
+unfolding number-bytes variable-size variable-number
+byte-form s h = go (eqb (getD s 0 0) 0) refl
   where
-    high : eqb b 0 ≡ false → 0x80 ≤ b
-    high e = leb-true 0x80 b (or-none (leb 0x80 b) (rw e at t))
+    go : (x : Bool) → eqb (getD s 0 0) 0 ≡ x → length (number-bytes (pick x (128 + getD s 1 0) (getD s 0 0 - 0x80))) ≡ pick x 2 1
+    go true e = rw (le-ltb (128 + getD s 1 0) 128 (omega arith))
+    go false e = rw (lt-ltb (getD s 0 0 - 0x80) 128 (omega arith))
 
-    go : (x : Bool) → eqb b 0 ≡ x → (s : List ℕ) → pick x 2 1 ≤ suc (length s)
-        → (length (number-bytes (pick x (128 + getD s 0 0) (b - 0x80))) ≡ pick x 2 1) × (number-bytes (pick x (128 + getD s 0 0) (b - 0x80)) ++ drop (pick x 2 1) (b ∷ s) ≡ b ∷ s)
-    go true e [] l = absurd (omega arith)
-    go true e (c ∷ s) l =
-        let z : 128 + c - 128 ≡ c = omega arith in
-        let o : b ≡ 0 = eqb-true b 0 e in
-        rw (le-ltb (128 + c) 128 (omega arith)) (refl, cc)
-    go false e s l =
-        let m : 0x80 ≤ b = high e in
+-- Where it has that form and stands there whole, it is what is written for its number.
+pub token-again : (s : List ℕ) → variable-byte? (getD s 0 0) ≡ true → length (number-bytes (variable-number s)) ≡ variable-size s → variable-size s ≤ length s
+    → number-bytes (variable-number s) ++ drop (variable-size s) s ≡ s
+unfolding number-bytes variable-byte? variable-size variable-number
+token-again [] t f l = absurd (omega arith)
+token-again (b ∷ s) t f l = go (eqb b 0) refl s f l
+  where
+    long : (c : ℕ) → number-bytes (128 + c) ≡ 0 ∷ c ∷ []
+    long c = let z : 128 + c - 128 ≡ c = omega arith in rw (le-ltb (128 + c) 128 (omega arith)) (ap (λ (y : ℕ). 0 ∷ y ∷ []) z)
+
+    short : (i : ℕ) (x : Bool) → ltb i 128 ≡ x → length (pick x ((0x80 + i) ∷ []) (0 ∷ (i - 128) ∷ [])) ≡ 1 → pick x ((0x80 + i) ∷ []) (0 ∷ (i - 128) ∷ []) ≡ (0x80 + i) ∷ []
+    short i true e h = refl
+    short i false e h = absurd (omega arith)
+
+    go : (x : Bool) → eqb b 0 ≡ x → (s : List ℕ) → length (number-bytes (pick x (128 + getD s 0 0) (b - 0x80))) ≡ pick x 2 1 → pick x 2 1 ≤ suc (length s)
+        → number-bytes (pick x (128 + getD s 0 0) (b - 0x80)) ++ drop (pick x 2 1) (b ∷ s) ≡ b ∷ s
+    go true e [] f l = absurd (omega arith)
+    go true e (c ∷ s) f l = let o : b ≡ 0 = eqb-true b 0 e in rw (long c) (ap (λ (y : ℕ). y ∷ c ∷ s) (sym o))
+    go false e s f l =
+        let m : 0x80 ≤ b = leb-true 0x80 b (or-none (leb 0x80 b) (rw e at t)) in
         let z : 0x80 + (b - 0x80) ≡ b = omega arith in
-        rw (lt-ltb (b - 0x80) 128 (omega arith)) (refl, cc)
+        ap (λ (y : List ℕ). y ++ s) (short (b - 0x80) (ltb (b - 0x80) 128) refl f) ∙ ap (λ (y : ℕ). y ∷ s) z

@@ -91,15 +91,20 @@ fn first_class(kind: u8) -> u8
 
 // LET without its word, and the variable that comes first.
 fn check_target(
+    line: &[u8],
+    at: usize,
     variable: VariableToken,
     names: &[u8],
     size: usize,
     frames: &mut [u8],
     depth: usize,
 ) -> Fit
-    requires { ⌜ (depth + 24 ≤ length (now frames)) × Sound (now names) size ⌝ }
-    ensures { λ r. ⌜ ((l : List ℕ) (at : ℕ) → at < length l → Checked (names-in (take size (now (names .entry)))) l at (Target variable) (now (frames .entry)) depth r (now (frames .exit))) ⌝ }
+    requires { ⌜ (at < length (now line)) × (depth + 24 ≤ length (now frames)) × Sound (now names) size ⌝ }
+    ensures { λ r. ⌜ Checked (names-in (take size (now (names .entry)))) (now (line .entry)) at (Target variable) (now (frames .entry)) depth r (now (frames .exit)) ⌝ }
 {
+    if line.len() - at < 2 + variable.size as usize {
+        return Fit::Fails;
+    }
     let number = variable.number as usize;
     let name = names_numbered::name_at(names, size, number);
     if name.end == name.from {
@@ -116,15 +121,20 @@ fn check_target(
 
 // A variable.
 fn check_variable(
+    line: &[u8],
+    at: usize,
     variable: VariableToken,
     names: &[u8],
     size: usize,
     frames: &mut [u8],
     depth: usize,
 ) -> Fit
-    requires { ⌜ (depth + 24 ≤ length (now frames)) × Sound (now names) size ⌝ }
-    ensures { λ r. ⌜ ((l : List ℕ) (at : ℕ) → at < length l → Checked (names-in (take size (now (names .entry)))) l at (Variable variable) (now (frames .entry)) depth r (now (frames .exit))) ⌝ }
+    requires { ⌜ (at < length (now line)) × (depth + 24 ≤ length (now frames)) × Sound (now names) size ⌝ }
+    ensures { λ r. ⌜ Checked (names-in (take size (now (names .entry)))) (now (line .entry)) at (Variable variable) (now (frames .entry)) depth r (now (frames .exit)) ⌝ }
 {
+    if line.len() - at < variable.size as usize {
+        return Fit::Fails;
+    }
     let name = names_numbered::name_at(names, size, variable.number as usize);
     if name.end == name.from {
         return Fit::Fails;
@@ -202,9 +212,9 @@ pub fn check_piece(
     match piece {
         Piece::Word(token) => check_word(line, at, token, frames, depth),
         Piece::Text(token, n) => check_text(line, at, token, n, frames, depth),
-        Piece::Target(variable) => check_target(variable, names, size, frames, depth),
+        Piece::Target(variable) => check_target(line, at, variable, names, size, frames, depth),
         Piece::NoTarget => Fit::Fails,
-        Piece::Variable(variable) => check_variable(variable, names, size, frames, depth),
+        Piece::Variable(variable) => check_variable(line, at, variable, names, size, frames, depth),
         Piece::Constant => check_constant(line, at, frames, depth),
         Piece::Quoted(n) => check_quoted(line, at, n, frames, depth),
         Piece::Operator(token) => check_operator(token, frames, depth),

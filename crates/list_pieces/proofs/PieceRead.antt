@@ -11,7 +11,7 @@ use lib.Seq.{drop-drop, getD-drop}
 use borrow.Author.Tests.{eq-eqb, ne-eqb, le-leb, lt-leb}
 use Rattle.paper.specs.Bytes.{pick, run}
 use Rattle.paper.specs.Items.{raw-byte?}
-use Rattle.paper.specs.Line.{raw-statement?}
+use Rattle.paper.specs.Line.{variable-byte?, variable-size, variable-number, raw-statement?}
 use Rattle.list_pieces.specs.declared.VariableToken.{VariableToken}
 use Rattle.list_pieces.specs.declared.Piece.the-variants.{Word, Text, Target, NoTarget, Variable, Constant, Quoted, Operator}
 use Rattle.list_pieces.specs.Variables.{variable-at}
@@ -26,13 +26,17 @@ module _ (l : List ℕ) (at : ℕ) where
 
   -- ---- a variable's token
 
-  pub low-read : (b : ℕ) → b ≡ getD l at 0 → b < 0x80 → record { number = 0; size = 0 } ≡ variable-at (drop at l)
-  unfolding variable-at
-  low-read b e h = rw (byte-0, ← e, lt-leb 0x80 b h)
+  pub long-read : (b : ℕ) → b ≡ getD l at 0 → b ≡ 0 → (c : ℕ) → c ≡ getD l (at + 1) 0 → record { number = 128 + c; size = 2 } ≡ variable-at (drop at l)
+  unfolding variable-at variable-byte? variable-size variable-number
+  long-read b e h c f = let z : getD l at 0 ≡ 0 = sym e ∙ h in rw (byte-0, z, byte-1, ← f)
 
-  pub high-read : (b : ℕ) → b ≡ getD l at 0 → 0x80 ≤ b → record { number = b - 0x80; size = 1 } ≡ variable-at (drop at l)
-  unfolding variable-at
-  high-read b e h = rw (byte-0, ← e, le-leb 0x80 b h)
+  pub low-read : (b : ℕ) → b ≡ getD l at 0 → (b ≡ 0 → ⊥) → b < 0x80 → record { number = 0; size = 0 } ≡ variable-at (drop at l)
+  unfolding variable-at variable-byte? variable-size variable-number
+  low-read b e n h = let z : 0 ≡ b - 0x80 = omega arith in rw (byte-0, ← e, ne-eqb b 0 n, lt-leb 0x80 b h) (ap (λ (i : ℕ). record { number = i; size = 0 }) z)
+
+  pub high-read : (b : ℕ) → b ≡ getD l at 0 → (b ≡ 0 → ⊥) → 0x80 ≤ b → record { number = b - 0x80; size = 1 } ≡ variable-at (drop at l)
+  unfolding variable-at variable-byte? variable-size variable-number
+  high-read b e n h = rw (byte-0, ← e, ne-eqb b 0 n, le-leb 0x80 b h)
 
   -- ---- at a statement's beginning
 

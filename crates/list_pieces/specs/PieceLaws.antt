@@ -12,17 +12,18 @@ use Rattle.paper.specs.Bytes.{pick, run, every}
 use Rattle.paper.specs.Tokens.{Token, statement, assigned, operator, variable, constant, string, raw}
 use Rattle.paper.specs.Names.{number-of, known?}
 use Rattle.paper.specs.Items.{raw-byte?}
-use Rattle.paper.specs.Line.{own-bytes, begins?, variable-bytes, raw-statement?}
+use Rattle.paper.specs.Line.{own-bytes, begins?, number-bytes, variable-bytes, raw-statement?}
 use Rattle.paper.specs.WellFormed.{right-token?}
 use Rattle.laws.specs.Tests.{and-left, and-right, and-both, as-T}
+use Rattle.laws.specs.Variables.{byte-form}
 use Rattle.laws.specs.Constants.{six-long}
 use Rattle.buffers.specs.Runs.{run-within}
 use Rattle.list_pieces.specs.declared.Piece.{Piece}
 use Rattle.list_pieces.specs.declared.VariableToken.{VariableToken}
 use Rattle.list_pieces.specs.declared.Piece.the-variants.{Word, Text, Target, NoTarget, Variable, Constant, Quoted, Operator}
 use Rattle.list_pieces.specs.Variables.{variable-at}
-use Rattle.list_pieces.specs.VariableLaws.{bytes-some, none-low, written-read, read-there, read-written}
-use Rattle.list_pieces.specs.Pieces.{piece-at, size-of, end-after, Holds}
+use Rattle.list_pieces.specs.VariableLaws.{bytes-some, none-low, written-read, read-size, read-written}
+use Rattle.list_pieces.specs.Pieces.{piece-at, size-of, end-after, Named, Holds}
 use Rattle.list_pieces.specs.Rest.{Numbered, Written}
 use Rattle.list_pieces.specs.Written.{head-is, within, within-up, begun, begun-up}
 
@@ -81,20 +82,20 @@ is-some p end s (Operator t) i = omega arith
 pub piece-some : (p end : ℕ) (s : List ℕ) (c : Piece) → piece-at p end s ≡ c → 1 ≤ size-of c
 piece-some p end s c e = is-some p end s c (subst (Is p end s) e (piece-is p end s))
 
--- a variable's token that is told stands there
-pub variable-long : (p end : ℕ) (s : List ℕ) (v : VariableToken) → piece-at p end s ≡ Variable v → size-of (Variable v) ≤ length s
-unfolding size-of
-variable-long p end s v e =
-    let i = subst (Is p end s) e (piece-is p end s) in
-    let m = ap (λ (z : VariableToken). z .size) (i .0) in
-    omega (arith, m, read-there s (λ z. i .1 (m ∙ z)))
+-- A variable's token that is told of bytes has the form of its number: it is right if its number is that of a name and its bytes are there.
+told : (ns : List (List ℕ)) (s : List ℕ) (v : VariableToken) → v ≡ variable-at s → (v .size ≡ 0 → ⊥) → getD s 0 0 < 256 → v .number < length ns → v .size ≤ length s → Named ns s v
+unfolding variable-at
+told ns s v e n b h l =
+    let m = ap (λ (z : VariableToken). z .size) e in
+    let r = read-size s (λ z. n (m ∙ z)) in
+    record { name = h; form = ap (λ (z : VariableToken). length (number-bytes (z .number))) e ∙ byte-form s b ∙ sym (m ∙ r .1); there = l }
 
-pub target-long : (p end : ℕ) (s : List ℕ) (v : VariableToken) → piece-at p end s ≡ Target v → size-of (Target v) ≤ length s
-unfolding size-of
-target-long p end s v e =
-    let i = subst (Is p end s) e (piece-is p end s) in
-    let m = ap (λ (z : VariableToken). z .size) (i .2) in
-    omega (arith, m, i .3, read-there (drop 2 s) (λ z. i .3 (m ∙ z)), length-drop 2 s)
+pub variable-told : (ns : List (List ℕ)) (p end : ℕ) (s : List ℕ) (v : VariableToken) → piece-at p end s ≡ Variable v → getD s 0 0 < 256 → v .number < length ns → v .size ≤ length s → Named ns s v
+variable-told ns p end s v e = let i = subst (Is p end s) e (piece-is p end s) in told ns s v (i .0) (i .1)
+
+pub target-told : (ns : List (List ℕ)) (p end : ℕ) (s : List ℕ) (v : VariableToken) → piece-at p end s ≡ Target v → getD s 2 0 < 256 → v .number < length ns → 2 + v .size ≤ length s → Named ns (drop 2 s) v
+target-told ns p end s v e b h l =
+    let i = subst (Is p end s) e (piece-is p end s) in told ns (drop 2 s) v (i .2) (i .3) (omega (arith, getD-drop 2 s 0 0)) h (omega (arith, length-drop 2 s))
 
 -- an operator is below 128
 pub operator-below : (p end : ℕ) (s : List ℕ) (t : ℕ) → piece-at p end s ≡ Operator t → t < 128
@@ -159,9 +160,13 @@ module _ (ns : List (List ℕ)) (p end b : ℕ) (s : List ℕ) (gs : List Token)
   after-offset : (k n : ℕ) → suc k ≡ n → drop k s ≡ drop n (b ∷ s)
   after-offset k n e = ap (λ (z : ℕ). drop z (b ∷ s)) e
 
-  number-there : (n : List ℕ) → T (known? ns n) → number-of ns n < length ns
-  unfolding known?
-  number-there n k = ltb→lt (number-of ns n) (length ns) k
+  -- the token of a name is read as such
+  named : (v : VariableToken) (n u : List ℕ) → v ≡ record { number = number-of ns n; size = length (variable-bytes ns n) } → T (known? ns n) → length (variable-bytes ns n) ≤ length u → Named ns u v
+  unfolding known? variable-bytes
+  named v n u e k l =
+      let i : v .number ≡ number-of ns n = ap (λ (z : VariableToken). z .number) e in
+      let m : v .size ≡ length (number-bytes (number-of ns n)) = ap (λ (z : VariableToken). z .size) e in
+      record { name = omega (arith, ltb→lt (number-of ns n) (length ns) k); form = ap (λ (z : ℕ). length (number-bytes z)) i ∙ sym m; there = omega arith }
 
   pub less-target : (v : VariableToken) → Is p end (b ∷ s) (Target v) → Written ns p end (b ∷ s) (assigned (getD ns (v .number) []) ∷ gs) → Left (Target v)
   unfolding own-bytes begins? size-of end-after right-token?
@@ -171,9 +176,8 @@ module _ (ns : List (List ℕ)) (p end b : ℕ) (s : List ℕ) (gs : List Token)
       let o : List ℕ = variable-bytes ns n in
       let l : suc (length o) ≤ length s = front-long (0x36 ∷ o) s (drop (suc (length o)) s) (r .front) in
       let e : v ≡ record { number = number-of ns n; size = length o } = i .2 ∙ written-read ns n (drop (suc (length o)) s) (drop 1 s) (ap (drop 1) (r .front)) in
-      let k : v .number ≡ number-of ns n = ap (λ (z : VariableToken). z .number) e in
       let m : v .size ≡ length o = ap (λ (z : VariableToken). z .size) e in (
-        (subst (λ (z : ℕ). z < length ns) (sym k) (number-there n (and-left (known? ns n) _ (r .is-right))), and-right (known? ns n) _ (r .is-right)),
+        (named v n (drop 1 s) e (and-left (known? ns n) _ (r .is-right)) (omega (arith, length-drop 1 s)), and-right (known? ns n) _ (r .is-right)),
         omega arith,
         at-place (omega arith) (at-bytes (after-offset (suc (length o)) (2 + v .size) (omega arith)) (r .others)),
       )
@@ -196,9 +200,8 @@ module _ (ns : List (List ℕ)) (p end b : ℕ) (s : List ℕ) (gs : List Token)
       let o : List ℕ = variable-bytes ns n in
       let l : length o ≤ suc (length s) = front-long o (b ∷ s) (drop (length o) (b ∷ s)) (r .front) in
       let e : v ≡ record { number = number-of ns n; size = length o } = i .0 ∙ written-read ns n (drop (length o) (b ∷ s)) (b ∷ s) (r .front) in
-      let k : v .number ≡ number-of ns n = ap (λ (z : VariableToken). z .number) e in
       let m : v .size ≡ length o = ap (λ (z : VariableToken). z .size) e in
-      (subst (λ (z : ℕ). z < length ns) (sym k) (number-there n (r .is-right)), omega arith, subst (λ (z : ℕ). Written ns (p + z) end (drop z (b ∷ s)) gs) (sym m) (r .others))
+      (named v n (b ∷ s) e (r .is-right) (omega arith), omega arith, subst (λ (z : ℕ). Written ns (p + z) end (drop z (b ∷ s)) gs) (sym m) (r .others))
 
   pub less-constant : Written ns p end (b ∷ s) (constant (take 6 s) ∷ gs) → Left Constant
   unfolding own-bytes begins? size-of end-after right-token?
@@ -277,13 +280,13 @@ module _ (ns : List (List ℕ)) (d : Numbered ns) (p end b : ℕ) (s : List ℕ)
   more-target v i h w =
       let n : List ℕ = getD ns (v .number) [] in
       let o : List ℕ = variable-bytes ns n in
-      let x = read-written ns n (drop 1 s) (subst (λ (z : VariableToken). z .size ≡ 0 → ⊥) (i .2) (i .3)) (d (v .number) (h .0) ∙ ap (λ (z : VariableToken). z .number) (i .2)) in
+      let x = read-written ns n (drop 1 s) (subst (λ (z : VariableToken). z .size ≡ 0 → ⊥) (i .2) (i .3)) (d (v .number) (h .0 .name) ∙ ap (λ (z : VariableToken). z .number) (i .2)) (subst (λ (z : VariableToken). length (number-bytes (z .number)) ≡ z .size) (i .2) (h .0 .form)) (subst (λ (z : VariableToken). z .size ≤ length (drop 1 s)) (i .2) (h .0 .there)) in
       let m : length o ≡ v .size = x .0 ∙ ap (λ (z : VariableToken). z .size) (sym (i .2)) in
       let j : drop (length o) (drop 1 s) ≡ drop (suc (length o)) s = drop-drop (length o) 1 s ∙ (let z : 1 + length o ≡ suc (length o) = omega arith in ap (λ (k : ℕ). drop k s) z) in
       let l : 1 ≤ length s = omega (arith, bytes-some ns n, ap length (x .1), length-append o (drop (length o) (drop 1 s)), length-drop 1 s) in
       subst (λ (e : ℕ). Written ns p e (b ∷ s) (assigned n ∷ gs)) (i .0)
       (begun-up ns (assigned n) gs p b s refl (record {
-        is-right = and-both (known? ns n) _ (known-there ns d (v .number) (h .0)) (h .1);
+        is-right = and-both (known? ns n) _ (known-there ns d (v .number) (h .0 .name)) (h .1);
         front = ap (λ (z : List ℕ). 0x36 ∷ (o ++ z)) (sym j) ∙ ap (λ (z : List ℕ). 0x36 ∷ z) (x .1) ∙ one-front s 0x36 l (sym (i .1));
         others = at-place (omega arith) (at-bytes (sym (after-offset ns p end b s gs (suc (length o)) (2 + v .size) (omega arith))) w);
       }))
@@ -292,10 +295,10 @@ module _ (ns : List (List ℕ)) (d : Numbered ns) (p end b : ℕ) (s : List ℕ)
   unfolding own-bytes begins? size-of end-after right-token?
   more-variable v i h w =
       let n : List ℕ = getD ns (v .number) [] in
-      let x = read-written ns n (b ∷ s) (subst (λ (z : VariableToken). z .size ≡ 0 → ⊥) (i .0) (i .1)) (d (v .number) h ∙ ap (λ (z : VariableToken). z .number) (i .0)) in
+      let x = read-written ns n (b ∷ s) (subst (λ (z : VariableToken). z .size ≡ 0 → ⊥) (i .0) (i .1)) (d (v .number) (h .name) ∙ ap (λ (z : VariableToken). z .number) (i .0)) (subst (λ (z : VariableToken). length (number-bytes (z .number)) ≡ z .size) (i .0) (h .form)) (subst (λ (z : VariableToken). z .size ≤ suc (length s)) (i .0) (h .there)) in
       let m : v .size ≡ length (variable-bytes ns n) = ap (λ (z : VariableToken). z .size) (i .0) ∙ sym (x .0) in
       within-up ns (variable n) gs p end (b ∷ s) refl (record {
-        is-right = known-there ns d (v .number) h;
+        is-right = known-there ns d (v .number) (h .name);
         front = x .1;
         others = subst (λ (z : ℕ). Written ns (p + z) end (drop z (b ∷ s)) gs) m w;
       })

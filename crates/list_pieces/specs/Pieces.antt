@@ -1,6 +1,7 @@
 -- A line as pieces: what stands at a place, its tokens, its size, and where the statement that goes on after it ends.
 use Prim.Native.Nat.{ℕ, _+_, _≤_, _<_}
 use mathlib.Core.Bool.{not}
+use mathlib.Core.Path.{_≡_}
 use mathlib.Core.List.{List, [], _∷_}
 use lib.Dec.{T, eqb}
 use lib.ListN.{length, take, drop, getD}
@@ -10,9 +11,10 @@ use Rattle.paper.specs.Tokens.{Token, statement, assigned, operator, variable, 
 use Rattle.paper.specs.Constants.{right-constant?}
 use Rattle.paper.specs.Names.{less-open}
 use Rattle.paper.specs.Items.{raw-byte?, string-byte?}
-use Rattle.paper.specs.Line.{variable-name, raw-statement?}
+use Rattle.paper.specs.Line.{number-bytes, variable-name, raw-statement?}
 use Rattle.list_pieces.specs.declared.Piece.{Piece}
 use Rattle.list_pieces.specs.declared.Piece.the-variants.{Word, Text, Target, NoTarget, Variable, Constant, Quoted, Operator}
+use Rattle.list_pieces.specs.declared.VariableToken.{VariableToken}
 use Rattle.list_pieces.specs.Variables.{variable-at}
 
 -- the piece at the front of the bytes s, which begin at offset p of the line, in a statement that ends at `end`
@@ -58,13 +60,19 @@ end-after end s Constant = end
 end-after end s (Quoted n) = end
 end-after end s (Operator t) = end
 
+-- a variable's token at the front of s in a well-formed line: its number is that of a name, it has the form of its number, and its bytes are there
+pub record Named (ns : List (List ℕ)) (s : List ℕ) (v : VariableToken) : Type 0 where
+  pub name : v .number < length ns
+  pub form : length (number-bytes (v .number)) ≡ v .size
+  pub there : v .size ≤ length s
+
 -- what a piece of a well-formed line has besides its place in the grammar: its bytes are there, its variable is one of the names, and so on
 abbrev pub Holds : List (List ℕ) → List ℕ → Piece → Type 0
 Holds ns s (Word t) = 2 ≤ length s
 Holds ns s (Text t n) = 3 + n ≤ length s
-Holds ns s (Target v) = (v .number < length ns) × T (not (statement-word? (less-open (getD ns (v .number) []))))
+Holds ns s (Target v) = Named ns (drop 2 s) v × T (not (statement-word? (less-open (getD ns (v .number) []))))
 Holds ns s NoTarget = ⊥
-Holds ns s (Variable v) = v .number < length ns
+Holds ns s (Variable v) = Named ns s v
 Holds ns s Constant = T (right-constant? (take 6 (drop 1 s)))
 Holds ns s (Quoted n) = (2 + n ≤ length s) × T (every string-byte? (take n (drop 2 s)))
 Holds ns s (Operator t) = Unit {0}

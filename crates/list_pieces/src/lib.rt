@@ -9,7 +9,7 @@ ghost use Rattle.list_pieces.specs.Pieces.{piece-at, size-of, end-after}
 
 // A variable's token: the variable's number, and how many bytes the token is; no bytes where no such token stands.
 pub struct VariableToken {
-    pub number: u8,
+    pub number: u16,
     pub size: u8,
 }
 
@@ -30,16 +30,28 @@ pub enum Piece {
 // The byte from which on a byte is a variable's token.
 const FIRST_VARIABLE: u8 = 0x80;
 
+// The byte that a token of two bytes begins with, and the first number that has such a token.
+const LONG_FORM: u8 = 0;
+const FIRST_LONG: u16 = 128;
+
 // The variable's token at a place of a line.
 fn variable_at(line: &[u8], at: usize) -> VariableToken
+    requires { ⌜ at < length (now line) + 2 ⌝ }
     ensures { λ r. ⌜ r ≡ variable-at (drop at (now (line .entry))) ⌝ }
 {
     let b = buffers::byte_at(line, at);
+    if b == LONG_FORM {
+        let low = buffers::byte_at(line, at + 1);
+        return VariableToken {
+            number: FIRST_LONG + low as u16,
+            size: 2,
+        };
+    }
     if b < FIRST_VARIABLE {
         return VariableToken { number: 0, size: 0 };
     }
     VariableToken {
-        number: b - FIRST_VARIABLE,
+        number: (b - FIRST_VARIABLE) as u16,
         size: 1,
     }
 }

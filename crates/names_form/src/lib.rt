@@ -3,4 +3,4 @@ pub mod shape;
 pub mod table;
 
 // The most names that a table may hold.
-pub const MOST_NAMES: usize = 128;
+pub const MOST_NAMES: usize = 256;

@@ -28,19 +28,19 @@ module _ (name-room size value-room count : ℕ) (fresh : List ℕ) where
       go [] h = refl
       go (b ∷ bs) h = absurd (omega arith)
 
-  pub passes-limit : (length fresh ≡ 0 → ⊥) → 128 < count + length (names-in fresh) → true ≡ lacks name-room size value-room count (names-in fresh)
+  pub passes-limit : (length fresh ≡ 0 → ⊥) → 256 < count + length (names-in fresh) → true ≡ lacks name-room size value-room count (names-in fresh)
   unfolding lacks
-  passes-limit h k = sym (rw (some h, lt-ltb 128 (count + length (names-in fresh)) k))
+  passes-limit h k = sym (rw (some h, lt-ltb 256 (count + length (names-in fresh)) k))
 
   pub lacks-names : (length fresh ≡ 0 → ⊥) → name-room < size + length fresh → true ≡ lacks name-room size value-room count (names-in fresh)
   unfolding lacks
   lacks-names h k =
       let less : ltb name-room (size + length (name-bytes (names-in fresh))) ≡ true = lt-ltb name-room (size + length (name-bytes (names-in fresh))) (omega (arith, length-bytes fresh)) in
-      sym (rw (some h, less) (or-true (ltb 128 (count + length (names-in fresh)))))
+      sym (rw (some h, less) (or-true (ltb 256 (count + length (names-in fresh)))))
 
-  pub lacks-values : (length fresh ≡ 0 → ⊥) → count + length (names-in fresh) ≤ 128 → size + length fresh ≤ name-room
+  pub lacks-values : (length fresh ≡ 0 → ⊥) → count + length (names-in fresh) ≤ 256 → size + length fresh ≤ name-room
       → ltb value-room (8 * (count + length (names-in fresh))) ≡ lacks name-room size value-room count (names-in fresh)
   unfolding lacks
   lacks-values h k l =
       let more : ltb name-room (size + length (name-bytes (names-in fresh))) ≡ false = le-ltb name-room (size + length (name-bytes (names-in fresh))) (omega (arith, length-bytes fresh)) in
-      sym (rw (some h, le-ltb 128 (count + length (names-in fresh)) k, more))
+      sym (rw (some h, le-ltb 256 (count + length (names-in fresh)) k, more))

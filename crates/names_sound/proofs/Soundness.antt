@@ -168,19 +168,19 @@ after-whole ms (n ∷ ns) (suc count) =
     (shuffled (name? n) (not (reserved? (less-open n))) (not (known? ms n)) (eqb (length ns) count) (every name? ns) (apart ms ns) (not (known? ns n)) (all-different ns) (every no-word? ns))
 
 -- a count within the limit is the test of the limit
-within : (n count : ℕ) (x : Bool) → count ≤ 128 → eqb n count && (leb n 128 && x) ≡ eqb n count && x
+within : (n count : ℕ) (x : Bool) → count ≤ 256 → eqb n count && (leb n 256 && x) ≡ eqb n count && x
 within n count x h = go (eqb n count) refl
   where
-    go : (t : Bool) → eqb n count ≡ t → t && (leb n 128 && x) ≡ t && x
-    go true e = let z : leb n 128 ≡ true = le-leb n 128 (omega (arith, eqb-true n count e)) in rw (z)
+    go : (t : Bool) → eqb n count ≡ t → t && (leb n 256 && x) ≡ t && x
+    go true e = let z : leb n 256 ≡ true = le-leb n 256 (omega (arith, eqb-true n count e)) in rw (z)
     go false e = refl
 
 -- and one past it fails
-beyond : (n count : ℕ) (x : Bool) → 128 < count → eqb n count && (leb n 128 && x) ≡ false
+beyond : (n count : ℕ) (x : Bool) → 256 < count → eqb n count && (leb n 256 && x) ≡ false
 beyond n count x h = go (eqb n count) refl
   where
-    go : (t : Bool) → eqb n count ≡ t → t && (leb n 128 && x) ≡ false
-    go true e = let z : leb n 128 ≡ false = lt-leb n 128 (omega (arith, eqb-true n count e)) in rw (z)
+    go : (t : Bool) → eqb n count ≡ t → t && (leb n 256 && x) ≡ false
+    go true e = let z : leb n 256 ≡ false = lt-leb n 256 (omega (arith, eqb-true n count e)) in rw (z)
     go false e = refl
 
 module _ (table : List ℕ) (size count : ℕ) where
@@ -188,24 +188,24 @@ module _ (table : List ℕ) (size count : ℕ) where
   unfolding sound-table
   too-short h = sym (rw (lt-leb size (length table) h))
 
-  pub too-many : 128 < count → false ≡ sound-table table size count
+  pub too-many : 256 < count → false ≡ sound-table table size count
   unfolding sound-table sound-names no-word?
   too-many h =
       let ns = names-in (take size table) in
-      let none : eqb (length ns) count && (leb (length ns) 128 && (every name? ns && (all-different ns && every no-word? ns))) ≡ false =
+      let none : eqb (length ns) count && (leb (length ns) 256 && (every name? ns && (all-different ns && every no-word? ns))) ≡ false =
       beyond (length ns) count (every name? ns && (all-different ns && every no-word? ns)) h in
       sym (rw (none, and-false (same (name-bytes ns) (take size table)), and-false (leb size (length table))))
 
-  whole : size ≤ length table → count ≤ 128 → sound-table table size count ≡ closed? (take size table) && sound-after [] (names-in (take size table)) count
+  whole : size ≤ length table → count ≤ 256 → sound-table table size count ≡ closed? (take size table) && sound-after [] (names-in (take size table)) count
   unfolding sound-table sound-names no-word?
   whole h k =
       let ns = names-in (take size table) in
       rw (le-leb size (length table) h, same-bytes (take size table), within (length ns) count (every name? ns && (all-different ns && every no-word? ns)) k, after-whole [] ns count, apart-none ns)
 
-  pub no-end : {r : Bool} → size ≤ length table → count ≤ 128 → r ≡ closed? (take size table) → r ≡ false → false ≡ sound-table table size count
+  pub no-end : {r : Bool} → size ≤ length table → count ≤ 256 → r ≡ closed? (take size table) → r ≡ false → false ≡ sound-table table size count
   no-end h k e f = let z : closed? (take size table) ≡ false = sym e ∙ f in sym (rw (whole h k, z))
 
-  pub all-sound : {r s : Bool} → size ≤ length table → count ≤ 128 → r ≡ closed? (take size table) → r ≡ true → s ≡ sound-after [] (names-in (take size table)) count
+  pub all-sound : {r s : Bool} → size ≤ length table → count ≤ 256 → r ≡ closed? (take size table) → r ≡ true → s ≡ sound-after [] (names-in (take size table)) count
       → s ≡ sound-table table size count
   all-sound {r} {s} h k e f g =
       let z : closed? (take size table) ≡ true = sym e ∙ f in
