@@ -204,7 +204,7 @@ fn main() {
     let mut row = [0u8; LONGEST];
     let mut source = [0u8; LONGEST];
     let mut names = [0u8; 2048];
-    let mut values = [0u8; 1024];
+    let mut values = [0u8; 2048];
     let mut store = [0u8; 32768];
     run(
         &mut buffer,

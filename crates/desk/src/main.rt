@@ -189,7 +189,7 @@ fn main() {
     let mut buffer = io::buffer();
     let mut text = [0u8; KEPT];
     let mut names = [0u8; 2048];
-    let mut values = [0u8; 1024];
+    let mut values = [0u8; 2048];
     let mut store = [0u8; 32768];
     let mut line = [0u8; 255];
     let mut out = [0u8; 1024];

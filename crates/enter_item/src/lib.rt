@@ -31,7 +31,9 @@ pub const NAMES_ROOM: usize = 240;
 
 // The token of the variable with number 0; from the first number with a token of two bytes on, the byte that this begins with.
 const FIRST_VARIABLE: u8 = 0x80;
+
 const FIRST_LONG: usize = 128;
+
 const LONG_FORM: u8 = 0;
 
 // Where a reader stands: its place in the part, how many bytes of the line are written, and how many bytes of new names.

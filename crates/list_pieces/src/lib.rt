@@ -32,6 +32,7 @@ const FIRST_VARIABLE: u8 = 0x80;
 
 // The byte that a token of two bytes begins with, and the first number that has such a token.
 const LONG_FORM: u8 = 0;
+
 const FIRST_LONG: u16 = 128;
 
 // The variable's token at a place of a line.

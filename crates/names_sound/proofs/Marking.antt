@@ -1,75 +1,116 @@
--- Marks: a name's place byte by byte, a name that is not marked, and one more name marked.
+-- Marks: a name's mix byte by byte, a name that is not marked, and one more name marked.
 use Prim.Native.Nat.{ℕ, _+_, _≤_, _<_}
 use native.Mathlib.Numerals.{add-one}
 use native.Mathlib.Omega.{arith}
 use mathlib.Core.Path.{_≡_, refl, sym, ap, _∙_}
-use mathlib.Core.Bool.{Bool, true, false}
+use mathlib.Core.Bool.{Bool, true, false, _||_}
 use mathlib.Core.List.{List, [], _∷_, _++_}
 use lib.Dec.{eqb}
 use lib.ListN.{length, drop, getD, set, length-set, drop-of-length-le}
 use lib.Seq.{drop-cons, getD-set-same, getD-set-other}
-use borrow.Author.Tests.{eqb-true, eqb-false}
-use Rattle.paper.specs.Bytes.{same, every}
+use borrow.Author.Tests.{eqb-true, eqb-false, ne-eqb, eq-eqb}
+use Rattle.paper.specs.Bytes.{pick, same, every}
 use Rattle.paper.specs.Names.{number-of, known?}
 use Rattle.laws.specs.Names.{same-ne, most-unknown, every-append, every-first, every-rest}
-use Rattle.names_sound.specs.Marks.{places, mixed, placed, place-of, marked?, Marks}
+use Rattle.names_sound.specs.Marks.{places, mixes, mixed, mixed-on, mix-of, place-in, sign-in, many, marked?, one-more, Marks}
 
--- ---- a place
+-- ---- a mix
 
-placed-small : (place : ℕ) (n : List ℕ) → place < places → placed place n < places
-unfolding placed
-placed-small place [] h = h
-placed-small place (b ∷ bs) h = placed-small (mixed place b) bs (omega arith)
+mixed-small : (mix : ℕ) (n : List ℕ) → mix < mixes → mixed-on mix n < mixes
+unfolding mixed-on
+mixed-small mix [] h = h
+mixed-small mix (b ∷ bs) h = mixed-small (mixed mix b) bs (omega arith)
 
-place-small : (n : List ℕ) → place-of n < places
-unfolding place-of
-place-small n = placed-small 0 n (omega arith)
+pub mix-small : (n : List ℕ) {mix : ℕ} → mix ≡ mix-of n → mix < mixes
+unfolding mix-of
+mix-small n e = omega (arith, e, mixed-small 0 n (omega arith))
 
-module _ (front : List ℕ) (last i place : ℕ) (all : place-of (front ++ last ∷ []) ≡ placed place (drop i front ++ last ∷ [])) where
-  pub place-more : {next : ℕ} → i < length front → next ≡ mixed place (getD front i 0) → place-of (front ++ last ∷ []) ≡ placed next (drop (i + 1) front ++ last ∷ [])
-  unfolding placed
-  place-more {next} h e = all ∙ rw (drop-cons front i 0 h, e, add-one)
+module _ (front : List ℕ) (last i mix : ℕ) (all : mix-of (front ++ last ∷ []) ≡ mixed-on mix (drop i front ++ last ∷ [])) where
+  pub mix-more : {next : ℕ} → i < length front → next ≡ mixed mix (getD front i 0) → mix-of (front ++ last ∷ []) ≡ mixed-on next (drop (i + 1) front ++ last ∷ [])
+  unfolding mixed-on
+  mix-more {next} h e = all ∙ rw (drop-cons front i 0 h, e, add-one)
 
-  pub place-last : {r : ℕ} → length front ≤ i → r ≡ mixed place last → r ≡ place-of (front ++ last ∷ [])
-  unfolding placed
-  place-last {r} h e = e ∙ sym (all ∙ rw (drop-of-length-le front h))
+  pub mix-last : {r : ℕ} → length front ≤ i → r ≡ mixed mix last → r ≡ mix-of (front ++ last ∷ [])
+  unfolding mixed-on
+  mix-last {r} h e = e ∙ sym (all ∙ rw (drop-of-length-le front h))
 
 -- ---- marks
 
-pub place-inside : (n : List ℕ) {place : ℕ} {marks : List ℕ} {ns : List (List ℕ)} → Marks marks ns → place ≡ place-of n → place < length marks
-place-inside n m e = omega (arith, place-small n, m .whole)
+-- the second of two tests passes
+second : (a b : Bool) → a || b ≡ true → a ≡ false → b ≡ true
+second a b e f = rw f at e
 
-pub unmarked-unknown : (n : List ℕ) {place : ℕ} {marks : List ℕ} {ns : List (List ℕ)} → Marks marks ns → place ≡ place-of n → (getD marks place 0 ≡ 1 → ⊥) → false ≡ known? ns n
+or-second : (a b : Bool) → b ≡ true → a || b ≡ true
+or-second true b e = refl
+or-second false b e = e
+
+pub unmarked-unknown : (n : List ℕ) {mix mark : ℕ} {marks : List ℕ} {ns : List (List ℕ)} → Marks marks ns → mix ≡ mix-of n → mark ≡ getD marks (place-in mix) 0 → (mark ≡ many → ⊥) → (mark ≡ sign-in mix → ⊥) → false ≡ known? ns n
 unfolding number-of marked?
-unmarked-unknown n {place} {marks} {ns} m p h = sym (most-unknown ns n (go ns (m .set)))
+unmarked-unknown n {mix} {mark} {marks} {ns} m p g h k = sym (most-unknown ns n (go ns (m .set)))
   where
+    other : (l : List ℕ) → marked? marks l ≡ true → same l n ≡ false
+    other l t = same-ne l n (λ e.
+        let here : mix ≡ mix-of l = p ∙ ap mix-of (sym e) in
+        let at : getD marks (place-in (mix-of l)) 0 ≡ mark = ap (λ (i : ℕ). getD marks (place-in i) 0) (sym here) ∙ sym g in
+        let no : eqb (getD marks (place-in (mix-of l)) 0) (sign-in (mix-of l)) ≡ false = ne-eqb _ _ (λ z. k (sym at ∙ z ∙ ap sign-in (sym here))) in
+        h (sym at ∙ eqb-true (getD marks (place-in (mix-of l)) 0) many (second _ _ t no)))
+
     go : (ms : List (List ℕ)) → every (marked? marks) ms ≡ true → length ms ≤ number-of ms n
-    go [] k = omega arith
-    go (l ∷ ls) k =
-        let other : same l n ≡ false = same-ne l n (λ e.
-        let here : place ≡ place-of l = p ∙ ap place-of (sym e) in
-        h (ap (λ (i : ℕ). getD marks i 0) here ∙ eqb-true (getD marks (place-of l) 0) 1 (every-first (marked? marks) l ls k))) in
-        rw (other) (omega (arith, go ls (every-rest (marked? marks) l ls k)))
+    go [] t = omega arith
+    go (l ∷ ls) t = rw (other l (every-first (marked? marks) l ls t)) (omega (arith, go ls (every-rest (marked? marks) l ls t)))
 
-marked-set : (marks : List ℕ) (i : ℕ) (n : List ℕ) → i < length marks → marked? marks n ≡ true → marked? (set marks i 1) n ≡ true
-unfolding marked?
-marked-set marks i n h k = go (eqb (place-of n) i) refl
+-- the mark of a marked name's place becomes that of many
+crowded : (mark mix sign : ℕ) → eqb mark (sign-in sign) || eqb mark many ≡ true → one-more mark mix ≡ many
+unfolding one-more
+crowded mark mix sign t = go (eqb mark 0) refl
   where
-    go : (t : Bool) → eqb (place-of n) i ≡ t → eqb (getD (set marks i 1) (place-of n) 0) 1 ≡ true
-    go true e = rw (eqb-true (place-of n) i e, getD-set-same marks i 1 0 h)
-    go false e = rw (getD-set-other marks i (place-of n) 1 0 (eqb-false (place-of n) i e)) k
+    go : (b : Bool) → eqb mark 0 ≡ b → pick b (sign-in mix) many ≡ many
+    go false e = refl
+    go true e =
+        let z : mark ≡ 0 = eqb-true mark 0 e in
+        let a : eqb mark (sign-in sign) ≡ false = ne-eqb mark (sign-in sign) (λ y. omega arith) in
+        let b : mark ≡ many = eqb-true mark many (second _ _ t a) in
+        absurd (omega arith)
 
-every-set : (marks : List ℕ) (i : ℕ) (ns : List (List ℕ)) → i < length marks → every (marked? marks) ns ≡ true → every (marked? (set marks i 1)) ns ≡ true
-unfolding every
-every-set marks i [] h k = refl
-every-set marks i (n ∷ ns) h k = rw (marked-set marks i n h (every-first (marked? marks) n ns k)) (every-set marks i ns h (every-rest (marked? marks) n ns k))
+module _ (marks : List ℕ) (mix : ℕ) (inside : place-in mix < length marks) where
+  -- the marks with one name more
+  abbrev more : List ℕ
+  more = set marks (place-in mix) (one-more (getD marks (place-in mix) 0) mix)
 
-pub marks-more : {marks : List ℕ} {ns : List (List ℕ)} (n : List ℕ) → Marks marks ns → Marks (set marks (place-of n) 1) (ns ++ n ∷ [])
+  marked-set : (n : List ℕ) → marked? marks n ≡ true → marked? more n ≡ true
+  unfolding marked?
+  marked-set n k = go (eqb (place-in (mix-of n)) (place-in mix)) refl
+    where
+      go : (t : Bool) → eqb (place-in (mix-of n)) (place-in mix) ≡ t → eqb (getD more (place-in (mix-of n)) 0) (sign-in (mix-of n)) || eqb (getD more (place-in (mix-of n)) 0) many ≡ true
+      go true e =
+          let z : place-in (mix-of n) ≡ place-in mix = eqb-true _ _ e in
+          let m : one-more (getD marks (place-in mix) 0) mix ≡ many = crowded (getD marks (place-in mix) 0) mix (mix-of n) (ap (λ (i : ℕ). eqb (getD marks i 0) (sign-in (mix-of n)) || eqb (getD marks i 0) many) (sym z) ∙ k) in
+          let g : getD more (place-in (mix-of n)) 0 ≡ many = ap (λ (i : ℕ). getD more i 0) z ∙ getD-set-same marks (place-in mix) _ 0 inside ∙ m in
+          or-second (eqb (getD more (place-in (mix-of n)) 0) (sign-in (mix-of n))) (eqb (getD more (place-in (mix-of n)) 0) many) (ap (λ (i : ℕ). eqb i many) g)
+      go false e = rw (getD-set-other marks (place-in mix) (place-in (mix-of n)) (one-more (getD marks (place-in mix) 0) mix) 0 (eqb-false _ _ e)) k
+
+  every-set : (ns : List (List ℕ)) → every (marked? marks) ns ≡ true → every (marked? more) ns ≡ true
+  unfolding every
+  every-set [] k = refl
+  every-set (n ∷ ns) k = rw (marked-set n (every-first (marked? marks) n ns k)) (every-set ns (every-rest (marked? marks) n ns k))
+
+  own : (mark : ℕ) → eqb (one-more mark mix) (sign-in mix) || eqb (one-more mark mix) many ≡ true
+  unfolding one-more
+  own mark = go (eqb mark 0)
+    where
+      go : (b : Bool) → eqb (pick b (sign-in mix) many) (sign-in mix) || eqb (pick b (sign-in mix) many) many ≡ true
+      go true = rw (eq-eqb (sign-in mix) (sign-in mix) refl)
+      go false = or-second (eqb many (sign-in mix)) (eqb many many) refl
+
+pub marks-more : {marks : List ℕ} {ns : List (List ℕ)} {mix mark : ℕ} (n : List ℕ) → Marks marks ns → mix ≡ mix-of n → mark ≡ one-more (getD marks (place-in mix) 0) mix → Marks (set marks (place-in mix) mark) (ns ++ n ∷ [])
 unfolding marked? every
-marks-more {marks} {ns} n m =
-    let inside : place-of n < length marks = place-inside n m refl in
-    let one : marked? (set marks (place-of n) 1) n ≡ true = rw (getD-set-same marks (place-of n) 1 0 inside) in
-    record {
-      whole = length-set marks (place-of n) 1 ∙ m .whole;
-      set = every-append (marked? (set marks (place-of n) 1)) ns (n ∷ []) (every-set marks (place-of n) ns inside (m .set)) (rw (one));
-    }
+marks-more {marks} {ns} {mix} {mark} n m e f =
+    let inside : place-in mix < length marks = omega (arith, m .whole) in
+    let new : List ℕ = more marks mix inside in
+    let here : getD new (place-in mix) 0 ≡ one-more (getD marks (place-in mix) 0) mix = getD-set-same marks (place-in mix) _ 0 inside in
+    let one : marked? new n ≡ true = rw (← e, here) (own marks mix inside (getD marks (place-in mix) 0)) in
+    rw f
+    (record {
+      whole = length-set marks (place-in mix) _ ∙ m .whole;
+      set = every-append (marked? new) ns (n ∷ []) (every-set marks mix inside ns (m .set)) (rw (one));
+    })

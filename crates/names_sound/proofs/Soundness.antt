@@ -16,7 +16,7 @@ use Rattle.laws.specs.Tables.{same-sym, known-none, known-cons, known-snoc}
 use Rattle.names_form.specs.Tables.{cleared, unmarked, first-size}
 use Rattle.names_form.specs.Places.{name-bounds, name-parts, name-here, none-left, closed-before, closed-after, names-before}
 use Rattle.names_sound.specs.Lawful.{lawful, sound-after}
-use Rattle.names_sound.specs.Marks.{places, place-of, Marks}
+use Rattle.names_sound.specs.Marks.{places, mix-of, place-in, one-more, Marks}
 use Rattle.names_sound.proofs.Marking.{marks-more}
 
 -- ---- the last byte
@@ -97,17 +97,17 @@ module _ {t : List ℕ} {count : ℕ} {marks : List ℕ} {at left : ℕ} (p : Pa
         let bad : lawful (take (end - 1 - at) (drop at t) ++ b ∷ []) (names-in (take at t)) ≡ false = sym l ∙ n in
         sym (p .rest ∙ ap (λ (ns : List (List ℕ)). sound-after (names-in (take at t)) ns left) here ∙ rw (bad) (and-false (ltb 0 left)))
 
-    pub one-passed : {r : Bool} {place : ℕ} → (left ≡ 0 → ⊥) → place ≡ place-of (take (end - 1 - at) (drop at t) ++ b ∷ [])
-        → r ≡ lawful (take (end - 1 - at) (drop at t) ++ b ∷ []) (names-in (take at t)) → r ≡ true → Passed t count (set marks place 1) end (left - 1)
+    pub one-passed : {r : Bool} {mix mark : ℕ} → (left ≡ 0 → ⊥) → mix ≡ mix-of (take (end - 1 - at) (drop at t) ++ b ∷ []) → mark ≡ one-more (getD marks (place-in mix) 0) mix
+        → r ≡ lawful (take (end - 1 - at) (drop at t) ++ b ∷ []) (names-in (take at t)) → r ≡ true → Passed t count (set marks (place-in mix) mark) end (left - 1)
     unfolding sound-after
-    one-passed {r} {place} z e l n =
+    one-passed {r} {mix} {mark} z e f l n =
         let good : lawful (take (end - 1 - at) (drop at t) ++ b ∷ []) (names-in (take at t)) ≡ true = sym l ∙ n in
         let some : ltb 0 left ≡ true = lt-ltb 0 left (positive left z) in
         record {
           within = name-bounds t at end inside ends .1;
           before = closed-before t at end inside ends (p .before) (p .after);
           after = closed-after t at end inside ends (p .before) (p .after);
-          marked = subst (λ (i : ℕ). Marks (set marks i 1) (names-in (take end t))) (sym e) (subst (Marks (set marks (place-of (take (end - 1 - at) (drop at t) ++ b ∷ [])) 1)) (sym more) (marks-more (take (end - 1 - at) (drop at t) ++ b ∷ []) (p .marked)));
+          marked = subst (Marks (set marks (place-in mix) mark)) (sym more) (marks-more (take (end - 1 - at) (drop at t) ++ b ∷ []) (p .marked) e f);
           rest =
               p .rest ∙ ap (λ (ns : List (List ℕ)). sound-after (names-in (take at t)) ns left) here
               ∙ rw (good, some) (ap (λ (ns : List (List ℕ)). sound-after ns (names-in (drop end t)) (left - 1)) (sym more));

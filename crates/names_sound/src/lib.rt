@@ -7,13 +7,13 @@ use names_form::table;
 ghost use mathlib.Core.Path.{_≡_};
 ghost use mathlib.Core.Bool.{true, _&&_};
 ghost use mathlib.Core.List.{[], _∷_, _++_};
-ghost use Prim.Native.Nat.{_*_};
+ghost use Prim.Native.Nat.{_*_, _<_};
 ghost use lib.Dec.{leb};
 ghost use lib.ListN.{length};
 ghost use Rattle.paper.specs.Names.{names-in, sound-table};
 ghost use Rattle.laws.specs.Names.{closed?};
 ghost use Rattle.names_sound.specs.Lawful.{lawful, sound-after};
-ghost use Rattle.names_sound.specs.Marks.{places, place-of, Marks};
+ghost use Rattle.names_sound.specs.Marks.{places, mixes, mix-of, Marks};
 
 // Whether bytes are none, or end with a name's last byte.
 fn is_closed(bytes: &[u8]) -> bool
@@ -26,9 +26,9 @@ fn is_closed(bytes: &[u8]) -> bool
     128 <= bytes[size - 1]
 }
 
-// Whether a name may stand in a table after the names of some bytes, which are marked; its own place for a mark is `place`.
-fn is_lawful(bytes: &[u8], marks: &[u8], place: usize, front: &[u8], last: u8) -> bool
-    requires { ⌜ Marks (now marks) (names-in (now bytes)) × (place ≡ place-of (now front ++ last ∷ [])) ⌝ }
+// Whether a name may stand in a table after the names of some bytes, which are marked; its own mix is `mixed`.
+fn is_lawful(bytes: &[u8], marks: &[u8], mixed: usize, front: &[u8], last: u8) -> bool
+    requires { ⌜ Marks (now marks) (names-in (now bytes)) × (mixed ≡ mix-of (now front ++ last ∷ [])) × (mixed < mixes) ⌝ }
     ensures { λ r. ⌜ r ≡ lawful (now (front .entry) ++ last ∷ []) (names-in (now (bytes .entry))) ⌝ }
 {
     if !shape::is_name(front, last) {
@@ -37,7 +37,7 @@ fn is_lawful(bytes: &[u8], marks: &[u8], place: usize, front: &[u8], last: u8) -
     if shape::is_reserved(front, last) {
         return false;
     }
-    !mark::is_known(bytes, marks, place, front, last)
+    !mark::is_known(bytes, marks, mixed, front, last)
 }
 
 // Whether bytes are this many names that a sound table may hold. Each name that may stand there is marked, for those after it.
@@ -55,11 +55,12 @@ fn are_marked(bytes: &[u8], count: usize, marks: &mut [u8]) -> bool
         let last_at = end - 1;
         let front = &bytes[at..last_at];
         let last = table::clear(bytes[last_at]);
-        let place = mark::place(front, last);
-        if !is_lawful(&bytes[..at], marks, place, front, last) {
+        let mixed = mark::mix_of(front, last);
+        if !is_lawful(&bytes[..at], marks, mixed, front, last) {
             return false;
         }
-        marks[place] = 1;
+        let place = mixed % mark::PLACES;
+        marks[place] = mark::one_more(marks[place], mixed);
         at = end;
         left -= 1;
     }
