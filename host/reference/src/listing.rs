@@ -2,7 +2,7 @@
 
 use crate::constants::{is_constant, spell_constant, Constant};
 use crate::errors::error_text;
-use crate::tables::{line_number, Names, Variable, DIRECT_LINE};
+use crate::tables::{line_number, Names, Variable, DIRECT_LINE, FIRST_LONG, LONG_MARK};
 use crate::words::{
     function, function_use, is_string_comparison, joins_terms, operator, statement, FunctionUse,
     FUNCTION_WORDS, STATEMENT_WORDS, TEXT_END, WORD_OPERATORS,
@@ -56,10 +56,21 @@ impl Walk<'_> {
         holds.then_some(())
     }
 
-    /// What variable the byte in view is, if it is one of the table.
+    /// The number of the variable in view and how many bytes it is, if there is one.
+    fn variable_token(&self) -> Option<(usize, usize)> {
+        variable_at(self.line, self.at)
+    }
+
+    /// What variable is in view, if it is one of the table.
     fn variable(&self) -> Option<Variable> {
-        let number = self.peek()?.checked_sub(0x80)?;
-        self.names.variable(number as usize)
+        self.names.variable(self.variable_token()?.0)
+    }
+
+    /// Takes the variable in view, if it is one of the table.
+    fn take_variable(&mut self) -> Option<Variable> {
+        let (number, size) = self.variable_token()?;
+        self.at += size;
+        self.names.variable(number)
     }
 
     /// All statements, each with a right offset, up to the line's end.
@@ -101,7 +112,7 @@ impl Walk<'_> {
         match token {
             statement::SILENT_LET => {
                 self.variable()?;
-                let number = (self.peek()? - 0x80) as usize;
+                let (number, _) = self.variable_token()?;
                 self.require(!self.names.is_statement_word(number))?;
                 self.assignment()
             }
@@ -188,16 +199,13 @@ impl Walk<'_> {
 
     /// A plain variable of this sort.
     fn plain_variable(&mut self, wanted: Variable) -> Option<()> {
-        self.require(self.variable()? == wanted)?;
-        self.at += 1;
-        Some(())
+        let variable = self.take_variable()?;
+        self.require(variable == wanted)
     }
 
     /// Variable, element or substring, the right `=`, and N or S.
     fn assignment(&mut self) -> Option<()> {
-        let target = self.variable()?;
-        self.at += 1;
-        match target {
+        match self.take_variable()? {
             Variable::Number => {}
             Variable::Array => self.one_or_two(operator::OPEN_ARRAY)?,
             Variable::String => {
@@ -215,9 +223,7 @@ impl Walk<'_> {
     /// DIM's arrays and strings.
     fn dim_list(&mut self) -> Option<()> {
         loop {
-            let variable = self.variable()?;
-            self.at += 1;
-            match variable {
+            match self.take_variable()? {
                 Variable::Number => return None,
                 Variable::Array => self.one_or_two(operator::OPEN_DIM_ARRAY)?,
                 Variable::String => {
@@ -258,8 +264,8 @@ impl Walk<'_> {
     /// The plain variables of READ and INPUT.
     fn variable_list(&mut self) -> Option<()> {
         loop {
-            self.require(self.variable()? != Variable::Array)?;
-            self.at += 1;
+            let variable = self.take_variable()?;
+            self.require(variable != Variable::Array)?;
             if !self.accept(operator::COMMA) {
                 return Some(());
             }
@@ -336,15 +342,11 @@ impl Walk<'_> {
                 self.number()?;
                 self.expect(operator::CLOSE)
             }
-            0x80.. => {
-                let variable = self.variable()?;
-                self.at += 1;
-                match variable {
-                    Variable::Number => Some(()),
-                    Variable::Array => self.one_or_two(operator::OPEN_ARRAY),
-                    Variable::String => None,
-                }
-            }
+            LONG_MARK | 0x80.. => match self.take_variable()? {
+                Variable::Number => Some(()),
+                Variable::Array => self.one_or_two(operator::OPEN_ARRAY),
+                Variable::String => None,
+            },
             token => {
                 self.at += 1;
                 match function_use(token) {
@@ -495,6 +497,10 @@ fn spell_number(number: usize, sink: &mut impl Sink) {
 
 /// Spells the token at a place inside a statement, and gives the next place.
 fn spell_token(line: &[u8], at: usize, names: &Names, sink: &mut impl Sink) -> usize {
+    if let Some((number, size)) = variable_at(line, at) {
+        spell_name(names.stored(number), sink);
+        return at + size;
+    }
     let token = line[at];
     match token {
         operator::NUMBER => {
@@ -511,13 +517,24 @@ fn spell_token(line: &[u8], at: usize, names: &Names, sink: &mut impl Sink) -> u
             sink.put(b"\"");
             return end;
         }
-        0x80.. => spell_name(names.stored(token as usize - 0x80), sink),
         function::FIRST..=function::LAST => {
             sink.put(FUNCTION_WORDS[(token - function::FIRST) as usize]);
         }
         _ => spell_operator(token, sink),
     }
     at + 1
+}
+
+/// The number of the variable at a place of a line and how many bytes it is, if one stands there.
+fn variable_at(line: &[u8], at: usize) -> Option<(usize, usize)> {
+    match *line.get(at)? {
+        byte @ 0x80.. => Some((byte as usize - 0x80, 1)),
+        LONG_MARK => {
+            let low = *line.get(at + 1)? as usize;
+            (low < FIRST_LONG).then_some((FIRST_LONG + low, 2))
+        }
+        _ => None,
+    }
 }
 
 /// Spells a name with its top bit off and without `(`.

@@ -144,7 +144,7 @@ impl<'a> Program<'a> {
         }
     }
 
-    /// Says whether new names would pass 128 or lack name or value room.
+    /// Says whether new names would pass 256 or lack name or value room.
     fn lacks_name_room(&self, text: &[u8], new_names: &NewNames) -> bool {
         let lengths = (0..new_names.count()).map(|number| new_names.name(text, number).len());
         let count = self.record.name_count + new_names.count();

@@ -3,7 +3,10 @@
 use crate::words::{is_reserved, statement_token};
 
 /// The most names a table holds.
-pub const MOST_NAMES: usize = 128;
+pub const MOST_NAMES: usize = 256;
+/// The first number whose variable is two bytes in a line: this mark, and the number less this.
+pub const FIRST_LONG: usize = 128;
+pub const LONG_MARK: u8 = 0x00;
 /// The greatest line number.
 pub const GREATEST_LINE: usize = 32767;
 /// The number of a line that was entered without one.

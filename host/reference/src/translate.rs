@@ -2,7 +2,7 @@
 
 use crate::constants::{digit_run, Constant};
 use crate::items::{read_item, skip_blanks, Item, Kind};
-use crate::tables::{Names, Variable, GREATEST_LINE};
+use crate::tables::{Names, Variable, FIRST_LONG, GREATEST_LINE, LONG_MARK};
 use crate::words::{
     function_token, function_use, is_comparison, joins_terms, operator, operator_token, statement,
     statement_token, string_comparison, FunctionUse, TEXT_END,
@@ -284,7 +284,12 @@ impl Reader<'_> {
         let start = self.item.start;
         let end = self.item.end + (variable == Variable::Array) as usize;
         let number = self.name_number(start, end);
-        self.take(0x80_u8.wrapping_add(number as u8));
+        if number < FIRST_LONG {
+            self.take(0x80 | number as u8);
+        } else {
+            self.line.put(LONG_MARK);
+            self.take((number - FIRST_LONG) as u8);
+        }
     }
 
     /// The number of a name, old or new; a name seen for the first time is noted.
