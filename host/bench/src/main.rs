@@ -52,7 +52,7 @@ const TASKS: [Task; 17] = [
     Task::Examine(200),
     Task::Examine(2000),
 ];
-const NAME_COUNTS: [usize; 3] = [0, 18, 128];
+const NAME_COUNTS: [usize; 5] = [0, 18, 128, 200, 256];
 
 impl Task {
     /// How many lines the store has at first.

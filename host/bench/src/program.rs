@@ -85,7 +85,7 @@ pub fn text(names: usize, number: usize, place: usize) -> Vec<u8> {
 pub fn program(names: usize, lines: usize) -> Program {
     let mut program = Program {
         names: name_table(names),
-        values: vec![0; 1024],
+        values: vec![0; 2048],
         store: vec![0; 65535],
         record: Record::default(),
     };

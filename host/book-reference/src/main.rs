@@ -18,7 +18,7 @@ impl Program {
     fn new() -> Program {
         Program {
             names: vec![0; 2048],
-            values: vec![0; 1024],
+            values: vec![0; 2048],
             store: vec![0; 32768],
             record: Record::default(),
         }

@@ -571,7 +571,7 @@ impl Cases {
             0 => self.any_count(),
             1 => greatest,
             2 => 0,
-            3 => 128 + self.random.below(3),
+            3 => self.random.pick(&[128, 256]) + self.random.below(3),
             4 => count.saturating_add(self.random.below(20)),
             5 => count.saturating_sub(self.random.below(20)),
             6 => count.saturating_sub(1),
@@ -979,8 +979,10 @@ fn new_world(random: &mut Random) -> World {
         0..=3 => 0,
         4..=11 => random.between(1, 10),
         12..=15 => random.between(11, 40),
-        16 | 17 => random.between(100, 127),
-        _ => 128,
+        16 => random.between(100, 127),
+        17 => random.between(128, 140),
+        18 => random.between(141, 255),
+        _ => 256,
     };
     let mut names: Vec<Vec<u8>> = Vec::new();
     while names.len() < count {
@@ -997,7 +999,7 @@ fn new_world(random: &mut Random) -> World {
     // Lines come from texts entered one by one into an empty store, wrong ones too.
     let mut tables = Tables {
         names: stored_names(&names),
-        values: random.bytes(1024),
+        values: random.bytes(2048),
         store: vec![0; 300],
         record: Record::default(),
     };

@@ -8,6 +8,7 @@ fn token_byte(random: &mut Random) -> u8 {
         0 => random.byte(),
         1 | 2 => 0x80 + random.below(20) as u8,
         3 => random.below(0x38) as u8,
+        4 if random.chance(20) => 0x00,
         _ => random.between(0x0E, 0x55) as u8,
     }
 }
@@ -73,7 +74,7 @@ fn splice(line: &mut Vec<u8>, at: usize, count: usize, new: &[u8]) {
 
 /// A group of bytes that belong together.
 fn group(random: &mut Random) -> Vec<u8> {
-    match random.below(6) {
+    match random.below(7) {
         0 => {
             let mut constant = vec![0x0E, random.between(0x0D, 0x72) as u8];
             for _ in 0..5 {
@@ -102,8 +103,20 @@ fn group(random: &mut Random) -> Vec<u8> {
         2 => vec![0x25 + random.below(3) as u8, 0x80 + random.below(4) as u8],
         3 => vec![random.between(0x35, 0x36) as u8],
         4 => vec![0x28],
+        5 => long_form(random).to_vec(),
         _ => vec![token_byte(random)],
     }
+}
+
+/// A variable's token of two bytes; its second is mostly one that a name has.
+fn long_form(random: &mut Random) -> [u8; 2] {
+    let low = match random.below(8) {
+        0 => 0x7E + random.below(4) as u8,
+        1 => random.byte(),
+        2 => random.below(0x80) as u8,
+        _ => random.below(16) as u8,
+    };
+    [0x00, low]
 }
 
 /// Joins two lines into one, if there is room.
@@ -135,10 +148,14 @@ pub fn change(random: &mut Random, line: &[u8], other: &[u8]) -> Vec<u8> {
             0 | 1 => new[at] = token_byte(random),
             8 | 9 => new[at] = alike(random, new[at]),
             10 => new[at] = random.pick(&[b'"', 0x9B]),
+            11 if new[at] >= 0x80 && at > 4 && new.len() < 255 && random.chance(40) => {
+                splice(&mut new, at, 1, &long_form(random));
+            }
             11 if new[at] >= 0x80 => {
                 let count = random.between(1, 128);
                 new[at] = 0x80 + random.below(count) as u8;
             }
+            11 if new[at] == 0 && at + 1 < new.len() => new[at + 1] = long_form(random)[1],
             12 => swap_let(random, &mut new),
             2 => new[at] = new[at].wrapping_add(random.below(5) as u8).wrapping_sub(2),
             3 | 4 if at > 4 => {

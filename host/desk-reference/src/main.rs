@@ -9,7 +9,7 @@ fn main() -> io::Result<()> {
     io::stdin().read_to_end(&mut input)?;
     let mut output = BufWriter::new(io::stdout());
     let mut names = [0; 2048];
-    let mut values = [0; 1024];
+    let mut values = [0; 2048];
     let mut store = [0; 32768];
     let mut line = [0; 255];
     let mut record = Record::default();

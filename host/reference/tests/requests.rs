@@ -520,10 +520,78 @@ fn whole_listings_over_full_or_unsound_tables() {
         batch(&mut desk, b"10 A=1\x9B20 B=1\x9B30 A=2"),
         [2, 1, 6, 0, 0, 2]
     );
-    // A listing of 128 names and one more.
-    let lines = (0..129).map(|number| format!("{number} N{number}=1").into_bytes());
+    // A listing of 256 names and one more.
+    let lines = (0..257).map(|number| format!("{number} N{number}=1").into_bytes());
     let text = lines.collect::<Vec<_>>().join(&0x9B);
-    assert_eq!(batch(&mut Desk::new(), &text), [128, 1, 6, 0, 0, 129]);
+    assert_eq!(batch(&mut Desk::new(), &text), [256, 1, 6, 0, 0, 257]);
+}
+
+/// A desk with the names N0, N1 and so on, and nothing in the store.
+fn crowded(count: usize) -> Desk {
+    let mut desk = Desk::new();
+    for number in 0..count {
+        let answer = desk.enter(format!("1 N{number}=1").as_bytes());
+        assert_eq!((answer.number, answer.added), (0, 1));
+    }
+    assert_eq!(desk.enter(b"1").number, 0);
+    desk
+}
+
+#[test]
+fn more_than_128_names() {
+    let mut desk = crowded(256);
+    // The value entries' numbers run to 255.
+    for number in 0..256 {
+        assert_eq!(desk.values[8 * number + 1], number as u8);
+    }
+    for (text, bytes) in [
+        (
+            "10 N127=N128",
+            &[10, 0, 10, 10, 0x36, 0xFF, 0x2D, 0x00, 0x00, 0x16][..],
+        ),
+        (
+            "10 N255=N0",
+            &[10, 0, 10, 10, 0x36, 0x00, 0x7F, 0x2D, 0x80, 0x16],
+        ),
+        (
+            "10 IF N128 THEN N129=N130",
+            &[
+                10, 0, 16, 8, 7, 0x00, 0x00, 0x1B, 16, 0x36, 0x00, 0x01, 0x2D, 0x00, 0x02, 0x16,
+            ],
+        ),
+    ] {
+        assert_eq!(desk.enter(text.as_bytes()).number, 0);
+        assert_eq!(desk.store[..desk.record.used], *bytes, "{text}");
+    }
+    assert_eq!(desk.list(10).as_deref(), Ok("10 IF N128 THEN N129=N130"));
+    assert_eq!(desk.enter(b"10 N256=1").number, 6);
+    // 00 and a byte that no name has; the long form cut off; a wrong offset.
+    for line in [
+        [10, 0, 8, 8, 0x20, 0x00, 0x80, 0x16],
+        [10, 0, 8, 8, 0x20, 0x00, 0xFF, 0x16],
+        [10, 0, 8, 8, 0x20, 0x16, 0x00, 0x00],
+        [10, 0, 8, 7, 0x20, 0x00, 0x7F, 0x16],
+    ] {
+        desk.store[..8].copy_from_slice(&line);
+        desk.record.used = 8;
+        assert_eq!(desk.list(10), Err(10), "{line:?}");
+    }
+    let mut desk = crowded(200);
+    for (low, listing) in [(0x47, Ok("10 PRINT N199")), (0x48, Err(10))] {
+        desk.store[..8].copy_from_slice(&[10, 0, 8, 8, 0x20, 0x00, low, 0x16]);
+        (desk.record.used, desk.record.lines, desk.record.greatest) = (8, 1, 10);
+        assert_eq!(desk.list(10), listing.map(String::from));
+    }
+    // 7 and 8 count both bytes.
+    let long = |name: &str| format!("1 {name}=1{}", "+1".repeat(30)).into_bytes();
+    let mut desk = crowded(129);
+    assert_eq!(desk.enter(&long("N127")).number, 0);
+    assert_eq!(desk.record.used, 255);
+    assert_eq!(desk.enter(&long("N128")).number, 7);
+    let mut desk = crowded(129);
+    desk.store.truncate(7);
+    assert_eq!(desk.enter(b"10 NEXT N128").number, 8);
+    assert_eq!(desk.enter(b"10 NEXT N127").number, 0);
 }
 
 /// Over this desk with wrong lines kept, a text is refused with 4 at this item, and the store has these lines; names

@@ -17,7 +17,7 @@ pub struct Desk {
 impl Desk {
     /// A desk with the desk program's rooms.
     pub fn new() -> Desk {
-        Desk::with_rooms(2048, 1024, 32768)
+        Desk::with_rooms(2048, 2048, 32768)
     }
 
     /// A desk with these rooms.
