@@ -6,3 +6,4 @@ pub mod Batches
 pub mod Devices
 pub mod Kept
 pub mod Examined
+pub mod Crowded

@@ -1,6 +1,6 @@
--- Calls at each limit of document 01, one below and one above it; each pair of refusals that can meet; and tables that are unsound in one thing
+-- Calls at each limit of document 01 and at the limit of names of document 02, one below and one above it; each pair of refusals that can meet; and tables that are unsound in one thing
 -- alone. Each with its whole answer, worked out by hand.
-use Prim.Native.Nat.{ℕ, zero, suc, _+_, _/_, _%_}
+use Prim.Native.Nat.{ℕ, zero, suc, _+_, _*_, _/_, _%_}
 use Prim.Native.String.{String}
 use mathlib.Core.Path.{_≡_, refl}
 use mathlib.Core.List.{List, [], _∷_, _++_}
@@ -360,15 +360,26 @@ of-lines =
     ∷ line-not "0A 00 08 08 0A 10 80 16"
     ∷ []
 
--- ---- 128 names, 65,535 bytes of store
+-- ---- 256 names (document 02, §11), 65,535 bytes of store
 
--- 128 names, and room for one more
+-- n names of two bytes, with room for a name of one byte more, and for a line of so many bytes
+unfoldable pub nearly : ℕ → ℕ → State
+nearly n room = record { names = two-byte-names 0 n ++ 0 ∷ []; name-size = n + n; name-count = n; values = replicate (8 * suc n) 0; store = replicate room 0; used = 0; line-count = 0; greatest = 0 }
+
+-- the same with the name Z, its value, and this line
+unfoldable pub with-z : ℕ → List ℕ → State
+with-z n line = record { names = two-byte-names 0 n ++ 0xda ∷ []; name-size = n + n + 1; name-count = suc n; values = replicate (8 * n) 0 ++ 0 ∷ n ∷ replicate 6 0; store = line; used = length line; line-count = 1; greatest = 10 }
+
 unfoldable pub of-many-names : List Call
 of-many-names =
-    enters (bytes "10 NEXT Z") (record { names = two-byte-names 0 127 ++ 0 ∷ []; name-size = 254; name-count = 127; values = replicate 1024 0; store = replicate 7 0; used = 0; line-count = 0; greatest = 0 }) 0 0 0 1 (record { names = two-byte-names 0 127 ++ 0xda ∷ []; name-size = 255; name-count = 128; values = replicate 1017 0 ++ 127 ∷ replicate 6 0; store = hex "0A 00 07 07 09 FF 16"; used = 7; line-count = 1; greatest = 10 })
-    ∷ refuses (bytes "10 NEXT Z") (record { names = two-byte-names 0 128 ++ 0 ∷ []; name-size = 256; name-count = 128; values = replicate 1032 0; store = replicate 7 0; used = 0; line-count = 0; greatest = 0 }) 6
+    -- the last name with a token of one byte; the first with two; the last name
+    enters (bytes "10 NEXT Z") (nearly 127 7) 0 0 0 1 (with-z 127 (hex "0A 00 07 07 09 FF 16"))
+    ∷ enters (bytes "10 NEXT Z") (nearly 128 8) 0 0 0 1 (with-z 128 (hex "0A 00 08 08 09 00 00 16"))
     ∷ enters (bytes "10 NEXT M7") (over (two-byte-names 0 128) 128 1024 (replicate 7 0) 0) 0 0 0 0 (over (two-byte-names 0 128) 128 1024 (hex "0A 00 07 07 09 FF 16") 7)
-    ∷ refuses (bytes "10") (over (two-byte-names 0 129) 129 1032 [] 0) 1
+    ∷ enters (bytes "10 NEXT Z") (nearly 255 8) 0 0 0 1 (with-z 255 (hex "0A 00 08 08 09 00 7F 16"))
+    -- one name more; a table of one name more
+    ∷ refuses (bytes "10 NEXT Z") (nearly 256 8) 6
+    ∷ refuses (bytes "10") (over (two-byte-names 0 257) 257 2056 [] 0) 1
     ∷ []
 
 -- 65,529 bytes of lines, in a store of 65,536
@@ -384,5 +395,5 @@ of-the-greatest-store =
 
 -- the definitions give the answer of each of them
 pub limits : failing 0 (of-texts ++ of-rooms ++ of-pairs ++ of-names ++ of-stores ++ of-lines ++ of-many-names ++ of-the-greatest-store) ≡ []
-unfolding everything agreeing refuses-at refuses lists-not over storing roomy naming ten-end remark padded ones one-tokens two-byte-names long-lines of-texts of-rooms unsound not-well-formed of-pairs of-names of-stores line-lists line-not of-lines of-many-names nearly-full of-the-greatest-store same-state meets failing
+unfolding everything agreeing refuses-at refuses lists-not over storing roomy naming ten-end remark padded ones one-tokens two-byte-names long-lines of-texts of-rooms unsound not-well-formed of-pairs of-names of-stores line-lists line-not of-lines nearly with-z of-many-names nearly-full of-the-greatest-store same-state meets failing
 limits = refl
