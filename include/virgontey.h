@@ -43,7 +43,7 @@ extern "C" {
  */
 enum {
     VIRGONTEY_RECORD_NAME_BYTES = 0, /* bytes of name table in use */
-    VIRGONTEY_RECORD_NAME_COUNT = 1, /* names in the name table, at most 128 */
+    VIRGONTEY_RECORD_NAME_COUNT = 1, /* names in the name table, at most 256 */
     VIRGONTEY_RECORD_USED = 2,       /* bytes of store in use */
     VIRGONTEY_RECORD_LINES = 3,      /* lines in the store */
     VIRGONTEY_RECORD_GREATEST = 4,   /* the greatest number of a line, 0 where there is none */
@@ -86,7 +86,7 @@ enum {
     VIRGONTEY_NO_LINE_NUMBER = 3,  /* the text is empty or blank, or its number is above 32767 */
     VIRGONTEY_NO_READING = 4,      /* the grammar has no reading; see place and end */
     VIRGONTEY_OUT_OF_RANGE = 5,    /* a constant is out of range; see place and end */
-    VIRGONTEY_NAMES_FULL = 6,      /* names would pass 128, or lack name or value room */
+    VIRGONTEY_NAMES_FULL = 6,      /* names would pass 256, or lack name or value room */
     VIRGONTEY_LINE_TOO_LONG = 7,   /* the token line would pass 255 bytes */
     VIRGONTEY_STORE_FULL = 8,      /* the store would pass its room; for a text without a number: the line buffer is too short */
     VIRGONTEY_NO_SUCH_LINE = 9,    /* the line to delete or list is not there */

@@ -11,7 +11,7 @@
 /* One program with its rooms. */
 struct program {
     uint8_t names[2048];
-    uint8_t values[1024];
+    uint8_t values[2048];
     uint8_t store[32768];
     uint8_t line[VIRGONTEY_LINE_ROOM];
     size_t record[VIRGONTEY_RECORD_LENGTH];

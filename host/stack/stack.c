@@ -70,7 +70,7 @@ static const char *lines[] = {
 static uint64_t stack[STACK / sizeof(uint64_t)];
 static ucontext_t outside, inside;
 
-static uint8_t names[2048], values[1024], store[65535], line[255], out[1024];
+static uint8_t names[2048], values[2048], store[65535], line[255], out[1024];
 static size_t record[VIRGONTEY_RECORD_LENGTH], answer[VIRGONTEY_BATCH_LENGTH];
 static char text[TEXT + 1];
 
