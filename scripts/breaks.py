@@ -27,7 +27,7 @@ HOMES = {"lib.Dec": ["leb", "ltb"], "mathlib.Core.Bool": ["_&&_", "_||_", "true"
 # why an edit that nothing refuses is no wrong definition
 REASONS = {
     r"WellFormed.items-of-": "the places and sizes of a stored line's items are never looked at",
-    r"Line.variable-name-a-number-one-more-2": "what a variable has past the end: its byte always stands there",
+    r"Line.variable-(size-a-number-one-more-2|number-a-number-one-more-[268])$": "what a variable has past the end: its bytes always stand there",
     r"Calls.outcome-": "items that run out before the frames, or frames before the items: neither occurs",
 }
 FILES = ["Bytes", "Words", "Tokens", "Constants", "Names", "Items", "Machine", "Grammar", "Line", "WellFormed", "Listing", "Store", "Calls", "Direct"]
