@@ -34,7 +34,7 @@ line-of text = line-bytes (names-to 256) 10 (tokens-in (translate 0 (bytes text)
 -- In every place of a statement the name's own number tells the form, and offsets and length count both bytes.
 pub lines-written : map line-of ("M7=M8" ∷ "M8=M7" ∷ "READ A0,Z5,M8" ∷ "FOR Z0=Z1 TO Z2" ∷ "IF Z0 THEN PRINT Z1" ∷ "IF Z0 THEN Z1=Z2" ∷ "Z5=Z4:A0=Z5" ∷ [])
     ≡ map hex ("0A 00 0A 0A 36 FF 2D 00 00 16" ∷ "0A 00 0A 0A 36 00 00 2D FF 16" ∷ "0A 00 0D 0D 22 80 12 00 7F 12 00 00 16" ∷ "0A 00 0E 0E 08 00 7A 2D 00 7B 19 00 7C 16"
-      ∷ "0A 00 0D 08 07 00 7A 1B 0D 20 00 7B 16" ∷ "0A 00 10 08 07 00 7A 1B 10 36 00 7B 2D 00 7C 16" ∷ "0A 00 12 0B 36 00 7F 2D 00 7E 14 12 36 80 2D 00 7F 16" ∷ [])
+    ∷ "0A 00 0D 08 07 00 7A 1B 0D 20 00 7B 16" ∷ "0A 00 10 08 07 00 7A 1B 10 36 00 7B 2D 00 7C 16" ∷ "0A 00 12 0B 36 00 7F 2D 00 7E 14 12 36 80 2D 00 7F 16" ∷ [])
 unfolding everything two-byte-names names-to tokens-in line-of
 lines-written = refl
 
@@ -52,7 +52,7 @@ lines-read = refl
 
 -- Not well-formed: 00 before 80 or FF, after 36 too; an offset or a length that counts one byte of it; a token that the line's end cuts off.
 pub lines-not-read : map (listed-over (names-to 256))
-      ("0A 00 08 08 20 00 80 16" ∷ "0A 00 08 08 20 00 FF 16" ∷ "0A 00 0A 0A 36 00 80 2D FF 16" ∷ "0A 00 08 07 20 00 7F 16" ∷ "0A 00 07 08 20 00 7F 16" ∷ "0A 00 06 06 20 00" ∷ "0A 00 06 06 36 00" ∷ [])
+    ("0A 00 08 08 20 00 80 16" ∷ "0A 00 08 08 20 00 FF 16" ∷ "0A 00 0A 0A 36 00 80 2D FF 16" ∷ "0A 00 08 07 20 00 7F 16" ∷ "0A 00 07 08 20 00 7F 16" ∷ "0A 00 06 06 20 00" ∷ "0A 00 06 06 36 00" ∷ [])
     ≡ replicate 7 []
 unfolding everything two-byte-names names-to listed-over
 lines-not-read = refl
