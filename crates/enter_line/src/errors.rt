@@ -9,6 +9,7 @@ use buffers::put;
 use buffers::run_end;
 use enter_item::LINE_ROOM;
 use enter_scan::item_at;
+use tokens::StatementToken;
 ghost use mathlib.Core.Path.{_≡_};
 ghost use Prim.Native.Nat.{_≤_};
 ghost use lib.ListN.{length, take, getD};
@@ -18,7 +19,7 @@ ghost use Rattle.paper.specs.Errors.{flipped, marked-at, error-line};
 ghost use Rattle.enter_line.specs.Reading.{keeps?, Refuses};
 
 // The statement token of an error line.
-const ERROR_TOKEN: u8 = 0x37;
+const ERROR_TOKEN: u8 = StatementToken::ERROR.0;
 
 // The byte at a place of a text, a blank past its end.
 fn byte_or_blank(text: &[u8], place: usize) -> u8

@@ -1,5 +1,6 @@
 // Error lines (document 02, §9): whether a line is one, and what its listing has after the number.
 use buffers::Run;
+use tokens::StatementToken;
 ghost use mathlib.Core.Path.{_≡_};
 ghost use mathlib.Core.Bool.{true};
 ghost use mathlib.Core.List.{_++_};
@@ -9,7 +10,7 @@ ghost use Rattle.paper.specs.Errors.{error-line?, error-text};
 ghost use Rattle.list_text.specs.Texts.{Writes};
 
 // The statement token of an error line.
-const ERROR_TOKEN: u8 = 0x37;
+const ERROR_TOKEN: u8 = StatementToken::ERROR.0;
 
 // The word before an error line's text, and its blank.
 const ERROR: [u8; 7] = *b"ERROR- ";

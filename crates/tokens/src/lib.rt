@@ -135,6 +135,8 @@ impl StatementToken {
     pub const CLOAD: StatementToken = StatementToken(0x35);
 
     pub const LET_WITHOUT_WORD: StatementToken = StatementToken(0x36);
+    // The one statement of an error line.
+    pub const ERROR: StatementToken = StatementToken(0x37);
 }
 
 impl OperatorToken {
