@@ -83,7 +83,7 @@ struct most {
     char text[TEXT + 1];
 };
 
-static struct most entering, sending, listing, showing;
+static struct most entering, sending, listing, showing, examining;
 
 /* What a stack of its own takes for nothing. */
 static size_t idle;
@@ -123,6 +123,14 @@ static void show(void)
                    VIRGONTEY_LIST_LENGTH);
 }
 
+/* Examines the program. */
+static void examine(void)
+{
+    virgontey_examine(names, sizeof names, record[VIRGONTEY_RECORD_NAME_BYTES],
+                      record[VIRGONTEY_RECORD_NAME_COUNT], values, sizeof values, store, sizeof store,
+                      record[VIRGONTEY_RECORD_USED], answer, VIRGONTEY_EXAMINE_LENGTH);
+}
+
 /* How many bytes of stack a call takes. All of the stack is paint before and after. */
 static size_t used(void (*call)(void))
 {
@@ -152,14 +160,15 @@ static void measure(void (*call)(void), struct most *most)
     }
 }
 
-/* Measures the entry of the text with its number and without, and then the listing of the line: of a wrong text, too,
-   one is kept, but not in the line buffer. */
+/* Measures the entry of the text with its number and without, and then the listing of the line, and that it is examined:
+   of a wrong text, too, one is kept, but not in the line buffer. */
 static void measure_both(int whole)
 {
     entered = text;
     measure(enter, &entering);
     measure(batch, &sending);
     measure(list, &listing);
+    measure(examine, &examining);
     entered = text + 1;
     measure(enter, &entering);
     if (whole)
@@ -217,5 +226,6 @@ int main(int argc, char **argv)
     well &= within("batch", &sending, argc == 3 ? argv[1] : NULL);
     well &= within("list", &listing, argc == 3 ? argv[2] : NULL);
     well &= within("show", &showing, argc == 3 ? argv[2] : NULL);
+    well &= within("examine", &examining, argc == 3 ? argv[1] : NULL);
     return well ? 0 : 1;
 }

@@ -31,7 +31,7 @@ enum Task {
     Examine(usize),
 }
 
-const TASKS: [Task; 17] = [
+const TASKS: [Task; 19] = [
     Task::EnterAlone,
     Task::Enter(200),
     Task::Enter(2000),
