@@ -71,7 +71,16 @@ TABLE = {(f, c): ws for f, c, e, ws in grammar.ROWS}
 
 
 ASKED, ANSWERED = (open(f"crates/calls/{name}", newline="\n").read().split("\n")[:-1] for name in ("stdin", "stdout"))
-CALLS = [(a.split(" "), b.split(" ")) for a, b in zip(ASKED, ANSWERED)]
+
+
+def without_switch(asked, answer):
+    """A call as it was before the switch for wrong lines: without the field of it, if that is 0; None of a call that keeps them."""
+    if asked[0] not in ("enter", "batch") or answer == ["bad"]:
+        return asked, answer
+    return (asked[:-1], answer) if asked[-1] == "0" else None
+
+
+CALLS = [call for a, b in zip(ASKED, ANSWERED) if (call := without_switch(a.split(" "), b.split(" ")))]
 
 
 def is_call(call):
