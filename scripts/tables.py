@@ -37,7 +37,7 @@ def stacked(items):
 
 
 def opened():
-    files = "Bytes Words Tokens Constants Names Items Machine Grammar Line WellFormed Listing Errors Store Calls Direct Batch Examine Hex".split()
+    files = "Bytes Words Tokens Constants Names Items Machine Grammar Line WellFormed Listing Errors Store Calls Direct Batch Examine Files Hex".split()
     out = f"-- Bundles: to unfold one is to unfold all that its line names. For proofs that compute. ({MADE_BY})\n"
     for f in files:
         out += f"use Rattle.paper.specs.{f} as {f}′\n"

@@ -18,6 +18,7 @@ pub mod Calls
 pub mod Direct
 pub mod Batch
 pub mod Examine
+pub mod Files
 pub mod Hex
 pub mod Open
 pub mod Cases

@@ -16,6 +16,7 @@ use Rattle.paper.specs.Calls as Calls′
 use Rattle.paper.specs.Direct as Direct′
 use Rattle.paper.specs.Batch as Batch′
 use Rattle.paper.specs.Examine as Examine′
+use Rattle.paper.specs.Files as Files′
 use Rattle.paper.specs.Hex as Hex′
 
 unfoldable pub all-Bytes : Unit {0}
@@ -86,10 +87,14 @@ unfoldable pub all-Examine : Unit {0}
 unfolding Examine′.first-bad Examine′.examine Examine′.verdict-number Examine′.verdict-line
 all-Examine = tt
 
+unfoldable pub all-Files : Unit {0}
+unfolding Files′.word-bytes Files′.words-bytes Files′.word-at Files′.end-line Files′.saved-words Files′.saved-block Files′.saved-file Files′.not-saved Files′.too-long? Files′.save Files′.never-fall Files′.direct-whole? Files′.without-direct Files′.parts-of Files′.no-head? Files′.right-words? Files′.sound-parts? Files′.unless-faulty Files′.too-small? Files′.loaded-state Files′.not-loaded Files′.load
+all-Files = tt
+
 unfoldable pub all-Hex : Unit {0}
 unfolding Hex′.nibble Hex′.pairs Hex′.hex
 all-Hex = tt
 
 unfoldable pub everything : Unit {0}
-unfolding all-Bytes all-Words all-Tokens all-Constants all-Names all-Items all-Machine all-Grammar all-Line all-WellFormed all-Listing all-Errors all-Store all-Calls all-Direct all-Batch all-Examine all-Hex
+unfolding all-Bytes all-Words all-Tokens all-Constants all-Names all-Items all-Machine all-Grammar all-Line all-WellFormed all-Listing all-Errors all-Store all-Calls all-Direct all-Batch all-Examine all-Files all-Hex
 everything = tt
