@@ -1,2 +1,3 @@
+pub mod Programs
 pub mod Search
 pub mod Walk

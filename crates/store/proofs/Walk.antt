@@ -152,7 +152,7 @@ turn all count k n s g h own e rest d =
 
 -- ---- the lines that are left
 
-unfoldable left : ℕ → ℕ → List (List ℕ) → List (List ℕ)
+unfoldable pub left : ℕ → ℕ → List (List ℕ) → List (List ℕ)
 left k n [] = []
 left k n (l ∷ ls) = let r = left (suc (line-number l)) n ls in pick (passes? k n l) r (l ∷ ls)
 
@@ -199,7 +199,7 @@ ends-from (b ∷ s) zero k n =
     record { inside = g .0; lines = g .1 }
 
 -- the bytes of the lines that are passed
-abbrev walked : ℕ → ℕ → List ℕ → ℕ
+abbrev pub walked : ℕ → ℕ → List ℕ → ℕ
 walked k n s = length (joined (passed k n (lines-in s)))
 
 -- the walk ends within the bytes
@@ -208,7 +208,7 @@ unfolding lines-in
 walked-within k n s = ends-from s 0 k n .inside
 
 -- and what follows are the lines that are left
-lines-left : (k n : ℕ) (s : List ℕ) → lines-in (drop (walked k n s) s) ≡ left k n (lines-in s)
+pub lines-left : (k n : ℕ) (s : List ℕ) → lines-in (drop (walked k n s) s) ≡ left k n (lines-in s)
 unfolding lines-in
 lines-left k n s = ends-from s 0 k n .lines
 

@@ -7,7 +7,8 @@ ghost use lib.Dec.{T};
 ghost use lib.ListN.{take};
 ghost use Rattle.paper.specs.Store.{room, sound-lines, lines-in};
 ghost use Rattle.store.specs.Walks.{passing-size, sound-lines-from, Within, start, walked-on, all-passed};
-ghost use Rattle.store.specs.Answers.{place-of, sound-counts, found-answer};
+ghost use Rattle.paper.specs.Files.{direct-whole?};
+ghost use Rattle.store.specs.Answers.{place-of, sound-counts, found-answer, program-answer};
 
 // The bytes that a store may use at most.
 const MOST_ROOM: usize = 65535;
@@ -221,4 +222,46 @@ pub fn find(store: &[u8], counts: Counts, number: usize) -> Found
     } else {
         Found::Unsound
     }
+}
+
+// The number of a line without a number.
+pub const DIRECT_NUMBER: usize = GREATEST_NUMBER + 1;
+
+// Whether bytes are one whole line without a number.
+fn is_direct(line: &[u8]) -> bool
+    ensures { λ r. ⌜ r ≡ direct-whole? (now (line .entry)) ⌝ }
+{
+    if line.len() < SHORTEST_LINE {
+        return false;
+    }
+    if heads::size(line) != line.len() {
+        return false;
+    }
+    heads::number(line) == DIRECT_NUMBER
+}
+
+// What a walk over the lines of a saved program answers: that they are unsound, or what a record keeps of them.
+pub enum Program {
+    Unsound,
+    Sound(Counts),
+}
+
+// What a record keeps of the lines that some bytes are, but for a last one without a number, if these are sound.
+pub fn program_counts(lines: &[u8]) -> Program
+    ensures { λ r. ⌜ r ≡ program-answer (now (lines .entry)) ⌝ }
+{
+    let walk = first_not_below(lines, beginning(), DIRECT_NUMBER);
+    let used = walk.at;
+    let counts = Counts {
+        used,
+        lines: walk.lines,
+        greatest: last_number(walk),
+    };
+    if used == lines.len() {
+        return Program::Sound(counts);
+    }
+    if is_direct(&lines[used..]) {
+        return Program::Sound(counts);
+    }
+    Program::Unsound
 }
