@@ -8,13 +8,15 @@ use Rattle.paper.specs.Store.{lines-in, lines-from, greatest-number}
 use Rattle.paper.specs.Calls.{State, lines-of, sound-state, Entered, refusal, enter, enter-with, not-listed, list}
 use Rattle.paper.specs.Direct.{typed}
 use Rattle.laws.specs.Tests.{as-T}
-use Rattle.promises.specs.Terms.{Agrees, Edited, LineKept, Reached, empty-record, after-typed, state-after, after-batch}
+use Rattle.promises.specs.Terms.{Agrees, Edited, LineKept, Reached, empty-record, after-typed, state-after, after-batch, after-file}
 use Rattle.promises.specs.States.{state-says}
 use Rattle.promises.specs.Editing.{sound-after}
 use Rattle.promises.specs.KeptLines.{after-any-with}
 use Rattle.promises.specs.DirectLines.{after-any-typed}
 use Rattle.paper.specs.Batch.{text-lines, answers-to, batch}
 use Rattle.promises.specs.Batches.{batch-answers}
+use Rattle.paper.specs.Files.{Loaded, not-loaded, load}
+use Rattle.promises.specs.Loading.{LoadAnswer, refused, held, load-answer}
 
 -- an empty record agrees
 empty-agrees : (s : State) → s .used ≡ 0 → s .line-count ≡ 0 → s .greatest ≡ 0 → Agrees s
@@ -48,11 +50,21 @@ lines-agreeing keep (l ∷ ls) s a = lines-agreeing keep ls ((enter-with keep l 
 batch-agrees : (keep : Bool) (text : List ℕ) (s : State) → Agrees s → Agrees ((batch keep text s) .after)
 batch-agrees keep text s a = subst Agrees (sym (batch-answers keep text s .after)) (lines-agreeing keep (text-lines text) s a)
 
+-- and so does a file, loaded or refused
+load-agrees : (file : List ℕ) (s : State) → Agrees s → Agrees ((load file s) .after)
+unfolding not-loaded
+load-agrees file s a = go (load file s) (load-answer file s)
+  where
+    go : (e : Loaded) → LoadAnswer file s e → Agrees (e .after)
+    go e (refused k n) = a
+    go e (held o h) = state-says _ (h .sound) .agrees
+
 -- a record reached from an empty one agrees
 pub reached-agrees : (s : State) → Reached s → Agrees s
 reached-agrees s (empty-record t u n g) = empty-agrees t u n g
 reached-agrees s (after-typed keep text t buffer r) = typed-stays-agreeing keep text t buffer (reached-agrees t r)
 reached-agrees s (after-batch keep text t r) = batch-agrees keep text t (reached-agrees t r)
+reached-agrees s (after-file file t r) = load-agrees file t (reached-agrees t r)
 
 -- ---- a record that disagrees
 

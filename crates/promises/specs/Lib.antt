@@ -43,9 +43,10 @@ pub mod KeptLines
 pub mod DirectLines
 pub mod DirectAgain
 pub mod Batches
+pub mod Tested
+pub mod Loading
 pub mod Agreeing
 pub mod WellFormedLines
-pub mod Tested
 pub mod OnePlace
 pub mod Exactly
 pub mod ExactlyKept
@@ -53,5 +54,7 @@ pub mod ExactlyTyped
 pub mod Examining
 pub mod Rebuilding
 pub mod VariableForms
+pub mod Saving
+pub mod SavedAgain
 pub mod Main
 pub mod Requests

@@ -15,13 +15,14 @@ use Rattle.paper.specs.Line.{direct-number?, variable-bytes}
 use Rattle.paper.specs.WellFormed.{Formed, WellFormedDirect, formed?}
 use Rattle.paper.specs.Listing.{listing, direct-listing}
 use Rattle.paper.specs.Errors.{flipped, error-line?, listable?, line-text, line-listing}
-use Rattle.paper.specs.Store.{overwritten, room}
+use Rattle.paper.specs.Store.{overwritten, room, whole-line?}
 use Rattle.paper.specs.Calls.{State, names-of, sound-state, enter, enter-with, Listed, list, refusal, lines-of, sound-tables}
 use Rattle.paper.specs.Direct.{same-buffer, typed, line-in, show}
 use Rattle.laws.specs.Runs.{all-every}
-use Rattle.promises.specs.Terms.{number-in, direct?, NoReading, OutOfRange, EndsThere, Readable, Exactly, NoLineNumber, Unread, TooFar, text-refusals, typed-refusals, show-refusals, Listable, HoldsListable, Switched, RefusedLeaves, LineMade, over-store, typed-over-store, Written, Agrees, Reached, accepted-with, digit-count, Parting, EachExactly, Summed, one-then, all-unsound, HoldsWellFormed, examined, faults, FirstBad, short?, Rebuilt, Form, ReadsLong}
+use Rattle.promises.specs.Terms.{number-in, direct?, NoReading, OutOfRange, EndsThere, Readable, Exactly, NoLineNumber, Unread, TooFar, text-refusals, typed-refusals, show-refusals, Listable, HoldsListable, Switched, RefusedLeaves, LineMade, over-store, typed-over-store, Written, Agrees, Reached, accepted-with, digit-count, Parting, EachExactly, Summed, one-then, all-unsound, HoldsWellFormed, examined, faults, FirstBad, short?, Rebuilt, Form, ReadsLong, save-refusals, load-refusals, SavedWritten, Holding, RoomFor, ReadBack}
 use Rattle.paper.specs.Batch.{text-lines, answers-to, batch}
 use Rattle.paper.specs.Examine.{yes, bad-line, verdict-number}
+use Rattle.paper.specs.Files.{save, direct-whole?, without-direct, parts-of, load}
 use Rattle.laws.specs.Ends as Ends′
 use Rattle.promises.specs.Strings as Strings′
 use Rattle.promises.specs.Answers as Answers′
@@ -40,6 +41,9 @@ use Rattle.promises.specs.Batches as Batches′
 use Rattle.promises.specs.Examining as Examining′
 use Rattle.promises.specs.Rebuilding as Rebuilding′
 use Rattle.promises.specs.VariableForms as VariableForms′
+use Rattle.promises.specs.Saving as Saving′
+use Rattle.promises.specs.Loading as Loading′
+use Rattle.promises.specs.SavedAgain as SavedAgain′
 
 -- ---- §2 A quote left open
 
@@ -319,3 +323,42 @@ old-forms ns n h k = VariableForms′.old-forms ns n h k
 -- and 00 before any byte stands for no variable in a well-formed line, as it did not.
 pub no-long-form : (lawful? : ℕ → Bool) (ns : List (List ℕ)) (l : List ℕ) (byte : ℕ) → T (sound-names ns) → length ns ≤ 128 → ReadsLong ns l byte → Formed lawful? ns l → ⊥
 no-long-form lawful? ns l byte s h r w = VariableForms′.no-such-form lawful? ns l byte s (omega arith) r w
+
+-- ---- §7 The saved program file
+
+-- The writer: an accepted call writes the file of a sound program to the front of the buffer, answers its length, and writes no other byte.
+pub file-written : (s : State) (output : List ℕ) → (save s output) .number ≡ 0 → SavedWritten s output (save s output)
+file-written s output h = Saving′.file-written s output h
+
+-- A refused one writes nothing.
+pub refused-saving : (s : State) (output : List ℕ) → ((save s output) .number ≡ 0 → ⊥) → ((save s output) .output ≡ output) × ((save s output) .written ≡ 0)
+refused-saving s output h = Saving′.nothing-written s output h
+
+-- The reader: an accepted file leaves a sound state, whose record agrees, and which holds the file's names, values and lines, with every byte past the new ends
+-- as it was.
+pub accepted-file : (file : List ℕ) (s : State) → (load file s) .number ≡ 0 → Holding (parts-of file) s ((load file s) .after)
+accepted-file file s h = Loading′.file-held file s h
+
+-- A refused one leaves every buffer and count as given.
+pub refused-file : (file : List ℕ) (s : State) → ((load file s) .number ≡ 0 → ⊥) → (load file s) .after ≡ s
+refused-file file s h = Loading′.file-refused file s h
+
+-- A last line of number 32768 is left out, whatever it holds;
+pub last-left-out : (ls : List (List ℕ)) (l : List ℕ) → direct-whole? l ≡ true → without-direct (ls ++ l ∷ []) ≡ ls
+last-left-out ls l e = Loading′.last-out ls l e
+
+-- lines that a store may hold are kept, where there is none.
+pub lines-kept : (ls : List (List ℕ)) → T (every whole-line? ls) → without-direct ls ≡ ls
+lines-kept ls t = Loading′.all-kept ls t
+
+-- Reading what was written gives back the names, values and stored lines, into any buffers with room for them, whatever those held; the record comes back whole.
+pub saved-loads : (s t : State) (output : List ℕ) → (save s output) .number ≡ 0 → RoomFor s t → ReadBack s (load (take ((save s output) .written) ((save s output) .output)) t)
+saved-loads s t output h r = SavedAgain′.reads-back s t output h r
+
+-- Exactly when (see `Main`, 8): the writer's 1 and 8;
+pub saved-exactly : (s : State) (output : List ℕ) → Exactly (save-refusals s output) ((save s output) .number)
+saved-exactly s output = Saving′.saved-exactly s output
+
+-- the reader's 12, 13, 1 and 8.
+pub loaded-exactly : (file : List ℕ) (s : State) → Exactly (load-refusals file s) ((load file s) .number)
+loaded-exactly file s = Loading′.loaded-exactly file s

@@ -5,7 +5,7 @@ use mathlib.Core.Bool.{Bool, false, not, _&&_}
 use mathlib.Core.Logic.{_↔_, _⊎_}
 use mathlib.Core.List.{List, [], _∷_, _++_, List·Memᴰ}
 use lib.Dec.{T, eqb, leb}
-use lib.ListN.{length, take, drop}
+use lib.ListN.{length, take, drop, getD}
 use Rattle.paper.specs.Bytes.{pick, bytes, blank, every, joined, blank?, digit?, run}
 use Rattle.paper.specs.Tokens.{Token, out-of-range, out-of-range?}
 use Rattle.paper.specs.Constants.{value, five, six}
@@ -20,6 +20,7 @@ use Rattle.paper.specs.Calls.{State, names-of, lines-of, sound-state, Entered, 
 use Rattle.paper.specs.Direct.{Typed, typed, line-in}
 use Rattle.paper.specs.Batch.{RefusedLine, none-refused, Batched, no-lines, batch}
 use Rattle.paper.specs.Examine.{Verdict, examine}
+use Rattle.paper.specs.Files.{saved-words, saved-file, Saved, word-at, head-size, Parts, parts-of, Loaded, load}
 
 -- ---- a text's number and items
 
@@ -271,6 +272,41 @@ show-refusals buffer names size count values output =
     ∷ (11, length output < length (line-text (names-in (take size names)) (line-in buffer)))
     ∷ []
 
+-- 8 of the writer: the last word is above 65,535, or the buffer is shorter than the file
+abbrev pub FileTooLong : State → List ℕ → Type 0
+FileTooLong s output = (65535 < getD (saved-words s) 6 0) ⊎ (length output < length (saved-file s))
+
+-- writing a file
+abbrev pub save-refusals : State → List ℕ → List (ℕ × Type 0)
+save-refusals s output = (1, Unsound s) ∷ (8, FileTooLong s output) ∷ []
+
+-- 12: a file under 14 bytes, or a first word that is not zero
+abbrev pub NoHead : List ℕ → Type 0
+NoHead file = (length file < 14) ⊎ (word-at file 0 ≡ 0 → ⊥)
+
+-- 13 if not: words never fall, the block is as long as the last word less the second, the values start just past the place of the third, and a zero byte
+-- stands there
+pub record RightWords (file : List ℕ) : Type 0 where
+  pub rise : (i : ℕ) → i < 6 → word-at file i ≤ word-at file (suc i)
+  pub block : length (drop head-size file) ≡ word-at file 6 - word-at file 1
+  pub values : word-at file 3 ≡ suc (word-at file 2)
+  pub zero-byte : getD (drop head-size file) (word-at file 2 - word-at file 1) 1 ≡ 0
+
+-- 1 if not: the bytes of the names are sound names, the values are eight bytes a name, the lines are sound
+pub record SoundParts (p : Parts) : Type 0 where
+  pub bytes : name-bytes (names-in (p .names)) ≡ p .names
+  pub names : T (sound-names (names-in (p .names)))
+  pub values : length (p .values) ≡ 8 * length (names-in (p .names))
+  pub lines : T (sound-lines (p .lines))
+
+-- 8 of the reader: a lent buffer is too small
+abbrev pub BufferTooSmall : Parts → State → Type 0
+BufferTooSmall p s = (length (s .names) < length (p .names)) ⊎ ((length (s .values) < length (p .values)) ⊎ (room (s .store) < length (joined (p .lines))))
+
+-- reading a file
+abbrev pub load-refusals : List ℕ → State → List (ℕ × Type 0)
+load-refusals file s = (12, NoHead file) ∷ (13, (RightWords file → ⊥)) ∷ (1, (SoundParts (parts-of file) → ⊥)) ∷ (8, BufferTooSmall (parts-of file) s) ∷ []
+
 -- ---- what an edit leaves
 
 -- What an edit that adds these names carries over: the state is sound again; the old names and values stand as they did, and the new ones
@@ -408,6 +444,7 @@ pub data Reached : State → Type 0 where
   empty-record : (s : State) → s .used ≡ 0 → s .line-count ≡ 0 → s .greatest ≡ 0 → Reached s
   after-typed : (keep : Bool) (text : List ℕ) (s : State) (buffer : List ℕ) → Reached s → Reached ((typed keep text s buffer) .entered .after)
   after-batch : (keep : Bool) (text : List ℕ) (s : State) → Reached s → Reached ((batch keep text s) .after)
+  after-file : (file : List ℕ) (s : State) → Reached s → Reached ((load file s) .after)
 
 -- ---- constants
 
@@ -553,3 +590,44 @@ pub record ReadsLong (ns : List (List ℕ)) (l : List ℕ) (byte : ℕ) : Type 0
   pub bytes : List ℕ
   pub read : line-tokens ns l ≡ before ++ tokens-from ns 0 at end bytes
   pub long : LongForm byte at end bytes
+
+-- ---- the saved program file (document 02, §7)
+
+-- What an accepted call writes: the program is sound; its file stands at the buffer's front, no other byte has changed, and its length is answered.
+pub record SavedWritten (s : State) (output : List ℕ) (e : Saved) : Type 0 where
+  pub sound : T (sound-state s)
+  pub count : e .written ≡ length (saved-file s)
+  pub there : AtFront (saved-file s) output (e .output)
+
+-- What an accepted file leaves: a sound state, whose record agrees, and which holds the file's parts; from the new ends on every byte is as it was, and no
+-- buffer has another length.
+pub record Holding (p : Parts) (s after : State) : Type 0 where
+  pub sound : T (sound-state after)
+  pub names : take (after .name-size) (after .names) ≡ p .names
+  pub values : take (8 * after .name-count) (after .values) ≡ p .values
+  pub lines : lines-of after ≡ p .lines
+  pub store : take (after .used) (after .store) ≡ joined (p .lines)
+  pub past-names : drop (after .name-size) (after .names) ≡ drop (after .name-size) (s .names)
+  pub past-values : drop (8 * after .name-count) (after .values) ≡ drop (8 * after .name-count) (s .values)
+  pub past-store : drop (after .used) (after .store) ≡ drop (after .used) (s .store)
+  pub names-size : length (after .names) ≡ length (s .names)
+  pub values-size : length (after .values) ≡ length (s .values)
+  pub store-size : length (after .store) ≡ length (s .store)
+
+-- buffers with room for a program
+pub record RoomFor (s t : State) : Type 0 where
+  pub names : s .name-size ≤ length (t .names)
+  pub values : 8 * s .name-count ≤ length (t .values)
+  pub store : s .used ≤ room (t .store)
+
+-- a program read back: names, values, lines and the whole record are as they were
+pub record ReadBack (s : State) (l : Loaded) : Type 0 where
+  pub number : l .number ≡ 0
+  pub names : take (s .name-size) (l .after .names) ≡ take (s .name-size) (s .names)
+  pub values : take (8 * s .name-count) (l .after .values) ≡ take (8 * s .name-count) (s .values)
+  pub lines : take (s .used) (l .after .store) ≡ take (s .used) (s .store)
+  pub name-size : l .after .name-size ≡ s .name-size
+  pub name-count : l .after .name-count ≡ s .name-count
+  pub used : l .after .used ≡ s .used
+  pub line-count : l .after .line-count ≡ s .line-count
+  pub greatest : l .after .greatest ≡ s .greatest

@@ -2,7 +2,8 @@
 use Prim.Native.Nat.{ℕ, _<_}
 use native.Mathlib.Omega.{arith}
 use mathlib.Core.Path.{_≡_, refl, subst, sym}
-use mathlib.Core.Bool.{Bool, true, false, not, _&&_}
+use mathlib.Core.Bool.{Bool, true, false, not, _&&_, _||_}
+use mathlib.Core.Logic.{_⊎_, inl, inr, ⊎-elim}
 use mathlib.Core.List.{List, [], _∷_}
 use lib.Dec.{T, ltb, ltb→lt}
 use borrow.Author.Tests.{ltb-true, ltb-false}
@@ -53,6 +54,11 @@ says-less a b = ((λ e. ltb-true a b e), (λ e h. let k = ltb-false a b e in ome
 pub says-not : {C : Type 0} (b : Bool) → (T b → C) → (C → T b) → Says (not b) (C → ⊥)
 says-not true f g = ((λ e. absurd (subst T (sym e) tt)), (λ e n. n (f tt)))
 says-not false f g = ((λ e. g), (λ e n. subst T e tt))
+
+-- one of two is so
+pub says-either : {C D : Type 0} (a b : Bool) → Says a C → Says b D → Says (a || b) (C ⊎ D)
+says-either true b s t = ((λ e. inl (s .0 refl)), (λ e. absurd (subst T e tt)))
+says-either false b s t = ((λ e. inr (t .0 e)), (λ e. ⊎-elim (s .1 refl) (t .1 e)))
 
 -- a test that refuses, and those after it
 pub tested : {A C : Type 0} {cs : List (ℕ × Type 0)} (number : A → ℕ) (b : Bool) (x y : A) → Says b C → (b ≡ false → FirstHolding cs (number y)) → FirstHolding ((number x, C) ∷ cs) (number (pick b x y))
