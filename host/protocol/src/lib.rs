@@ -7,6 +7,7 @@ use reference::{BatchAnswer, Record};
 /// The most bytes of each field.
 pub const MOST_TEXT: usize = 4096;
 pub const MOST_LINES_TEXT: usize = 70_000;
+pub const MOST_FILE: usize = 70_000;
 pub const MOST_NAMES: usize = 8192;
 pub const MOST_VALUES: usize = 4096;
 pub const MOST_STORE: usize = 70_000;
@@ -61,6 +62,14 @@ pub enum Call {
     },
     /// The record's pair is not lent, and is 0 and 0 here.
     Examine { tables: Tables },
+    Save {
+        tables: Tables,
+        out: Vec<u8>,
+    },
+    Load {
+        file: Vec<u8>,
+        tables: Tables,
+    },
 }
 
 impl Call {
@@ -68,9 +77,10 @@ impl Call {
     pub fn kind(&self) -> Kind {
         match self {
             Call::Enter { .. } => Kind::Enter,
-            Call::List { .. } | Call::Show { .. } => Kind::List,
+            Call::List { .. } | Call::Show { .. } | Call::Save { .. } => Kind::List,
             Call::Batch { .. } => Kind::Batch,
             Call::Examine { .. } => Kind::Examine,
+            Call::Load { .. } => Kind::Load,
         }
     }
 }
@@ -79,9 +89,11 @@ impl Call {
 #[derive(Clone, Copy, PartialEq, Eq, Debug)]
 pub enum Kind {
     Enter,
+    /// A listing, or a file written.
     List,
     Batch,
     Examine,
+    Load,
 }
 
 /// What a call answers and leaves, whole.
@@ -109,13 +121,19 @@ pub enum Answer {
         which: usize,
         line: usize,
     },
+    Load {
+        number: usize,
+        tables: Tables,
+    },
 }
 
 impl Answer {
     /// The answer's number; of many lines that of the first refusal, of a program which it is.
     pub fn number(&self) -> usize {
         match self {
-            Answer::Enter { number, .. } | Answer::List { number, .. } => *number,
+            Answer::Enter { number, .. }
+            | Answer::List { number, .. }
+            | Answer::Load { number, .. } => *number,
             Answer::Batch { answer, .. } => answer.number,
             Answer::Examine { which, .. } => *which,
         }
@@ -169,6 +187,16 @@ pub fn read_call(line: &[u8]) -> Option<Call> {
         b"examine" => Call::Examine {
             tables: fields.program()?,
         },
+        b"save" => {
+            let tables = fields.tables()?;
+            let out = fields.bytes(MOST_OUT)?;
+            Call::Save { tables, out }
+        }
+        b"load" => {
+            let file = fields.bytes(MOST_FILE)?;
+            let tables = fields.tables()?;
+            Call::Load { file, tables }
+        }
         _ => return None,
     };
     fields.at_end().then_some(call)
@@ -222,6 +250,16 @@ pub fn write_call(call: &Call) -> Vec<u8> {
             row.word("examine");
             row.program(tables);
         }
+        Call::Save { tables, out } => {
+            row.word("save");
+            row.tables(tables);
+            row.bytes(out);
+        }
+        Call::Load { file, tables } => {
+            row.word("load");
+            row.bytes(file);
+            row.tables(tables);
+        }
     }
     row.text
 }
@@ -265,6 +303,10 @@ pub fn read_answer(line: &[u8], kind: Kind) -> Option<Answer> {
         Kind::Examine => Answer::Examine {
             which: fields.number()?,
             line: fields.number()?,
+        },
+        Kind::Load => Answer::Load {
+            number: fields.number()?,
+            tables: fields.tables_after()?,
         },
     };
     fields.at_end().then_some(answer)
@@ -311,6 +353,10 @@ pub fn write_answer(answer: &Answer) -> Vec<u8> {
         Answer::Examine { which, line } => {
             row.number(*which);
             row.number(*line);
+        }
+        Answer::Load { number, tables } => {
+            row.number(*number);
+            row.tables_after(tables.record.used, tables);
         }
     }
     row.text
@@ -409,6 +455,30 @@ pub fn run_reference(call: Call) -> Answer {
             )
             .numbers();
             Answer::Examine { which, line }
+        }
+        Call::Save { tables, mut out } => {
+            let answer = reference::save(
+                &tables.names,
+                &tables.values,
+                &tables.store,
+                &tables.record,
+                &mut out,
+            );
+            Answer::List {
+                number: answer.number,
+                written: answer.written,
+                out,
+            }
+        }
+        Call::Load { file, mut tables } => {
+            let number = reference::load(
+                &file,
+                &mut tables.names,
+                &mut tables.values,
+                &mut tables.store,
+                &mut tables.record,
+            );
+            Answer::Load { number, tables }
         }
     }
 }
@@ -639,7 +709,7 @@ mod tests {
 
     #[test]
     fn lines_that_are_no_call() {
-        let bad: [&[u8]; 43] = [
+        let bad: [&[u8]; 47] = [
             b"",
             b" ",
             b"enter",
@@ -683,6 +753,10 @@ mod tests {
             b"examine - 0 0 - -",
             b"examine - 0 0 - - 0 0",
             b"examine - 0 0 - - -",
+            b"save - 0 0 - - 0 0 0",
+            b"save - 0 0 - - 0 0 0 - -",
+            b"load - - 0 0 - - 0 0",
+            b"load 0 - 0 0 - - 0 0 0",
         ];
         for line in bad {
             assert_eq!(
@@ -761,6 +835,15 @@ mod tests {
         answers("examine - 0 0 - 0a0006061516ff 6", "0 0");
         answers("examine c1 1 1 00000000000000 01 1", "2 0");
         answers("examine - 0 0 - 00000606379b 6", "4 0");
+        answers(
+            "save - 0 0 - - 0 0 0 ffffffffffffffffffffffffffffffffffffffffffff",
+            "0 21 000000010001010101010101070100008006061516ff",
+        );
+        answers(
+            "load 000000010001010101010101070100008006061516 ff 1 2 ff ff 3 4 5",
+            "0 0 0 0 0 0 ff ff ff",
+        );
+        answers("load - ff 1 2 ff ff 3 4 5", "12 3 4 5 1 2 ff ff ff");
     }
 
     #[test]

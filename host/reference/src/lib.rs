@@ -1,13 +1,14 @@
 //! Document 01 in plain Rust, with the requests of document 02 that have landed: the entry of a
 //! numbered text line into a store of token lines, of many at once, or of one without a number into a
-//! line buffer, the listing of a line, and the examination of a program. Written from the documents alone, to be compared with the proved library. No
-//! heap, no unsafe code.
+//! line buffer, the listing of a line, the examination of a program, and saved program files. Written
+//! from the documents alone, to be compared with the proved library. No heap, no unsafe code.
 
 #![cfg_attr(not(test), no_std)]
 #![forbid(unsafe_code)]
 
 mod constants;
 mod errors;
+mod files;
 mod items;
 mod listing;
 mod program;
@@ -15,6 +16,7 @@ mod tables;
 mod translate;
 mod words;
 
+pub use files::{load, save, SaveAnswer};
 use listing::{listable, spell_line, well_formed, Count, Write};
 use program::Program;
 use tables::{find_line, line_length, line_number, values_sound, walk_store};

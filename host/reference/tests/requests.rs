@@ -854,3 +854,180 @@ fn error_lines_are_listed() {
         }
     }
 }
+
+/// Bytes from hexadecimal digits, with blanks between them or none.
+fn hex(text: &str) -> Vec<u8> {
+    let digits: Vec<u8> = text.bytes().filter(|byte| *byte != b' ').collect();
+    let pair = |pair: &[u8]| u8::from_str_radix(std::str::from_utf8(pair).unwrap(), 16).unwrap();
+    digits.chunks(2).map(pair).collect()
+}
+
+/// The number that reading a file answers, with what it leaves in buffers of these lengths, all EE before.
+fn read(file: &[u8], rooms: [usize; 3]) -> (usize, [Vec<u8>; 3], Record) {
+    let [mut names, mut values, mut store] = rooms.map(|room| vec![0xEE; room]);
+    let mut record = Record {
+        name_bytes: 9,
+        name_count: 9,
+        used: 9,
+        lines: 9,
+        greatest: 9,
+    };
+    let number = reference::load(file, &mut names, &mut values, &mut store, &mut record);
+    (number, [names, values, store], record)
+}
+
+/// A program of two names and two lines, 10 A=B and 20 END, and its file.
+const NAMES: &str = "C1 C2";
+const VALUES: &str = "00 00 00 00 00 00 00 00 00 01 00 00 00 00 00 00";
+const LINES: &str = "0A 00 09 09 36 80 2D 81 16 14 00 06 06 15 16";
+const WORDS: &str = "00 00 00 01 02 01 03 01 13 01 22 01 28 01";
+const LAST: &str = "00 80 06 06 15 16";
+
+fn file() -> Vec<u8> {
+    hex(&[WORDS, NAMES, "00", VALUES, LINES, LAST].concat())
+}
+
+#[test]
+fn files_written() {
+    let record = Record {
+        name_bytes: 2,
+        name_count: 2,
+        used: 15,
+        lines: 2,
+        greatest: 20,
+    };
+    let save = |record: &Record, room: usize| {
+        let mut out = vec![0xEE; room];
+        let answer = reference::save(&hex(NAMES), &hex(VALUES), &hex(LINES), record, &mut out);
+        (answer.number, answer.written, out)
+    };
+    let mut whole = file();
+    assert_eq!(save(&record, 54), (0, 54, whole.clone()));
+    whole.push(0xEE);
+    assert_eq!(save(&record, 55), (0, 54, whole));
+    assert_eq!(save(&record, 53), (8, 0, vec![0xEE; 53]));
+    let other = Record {
+        greatest: 21,
+        ..record
+    };
+    assert_eq!(save(&other, 0), (1, 0, vec![]));
+}
+
+#[test]
+fn files_read() {
+    let held = |file: &[u8]| {
+        let (number, [names, values, store], record) = read(file, [2, 16, 15]);
+        assert_eq!(number, 0);
+        assert_eq!(
+            (names, values, store),
+            (hex(NAMES), hex(VALUES), hex(LINES))
+        );
+        assert_eq!((record.name_bytes, record.name_count), (2, 2));
+        assert_eq!((record.used, record.lines, record.greatest), (15, 2, 20));
+    };
+    held(&file());
+    // another second word, a current line anywhere from the statements on, a last line 32768 that holds anything, or none
+    held(&hex(&[
+        "00 00 2C 01 2E 01 2F 01 3F 01 4E 01 54 01",
+        NAMES,
+        "00",
+        VALUES,
+        LINES,
+        LAST,
+    ]
+    .concat()));
+    held(&hex(&[
+        "00 00 00 01 02 01 03 01 13 01 13 01 28 01",
+        NAMES,
+        "00",
+        VALUES,
+        LINES,
+        LAST,
+    ]
+    .concat()));
+    held(&hex(&[
+        WORDS,
+        NAMES,
+        "00",
+        VALUES,
+        LINES,
+        "00 80 06 FF FF FF",
+    ]
+    .concat()));
+    held(&hex(&[
+        "00 00 00 01 02 01 03 01 13 01 22 01 22 01",
+        NAMES,
+        "00",
+        VALUES,
+        LINES,
+    ]
+    .concat()));
+    let refuses = |file: &[u8], number: usize| {
+        for rooms in [[4, 40, 40], [0, 0, 0]] {
+            let (found, [names, values, store], record) = read(file, rooms);
+            assert_eq!(found, number, "{file:02X?}");
+            assert_eq!([names, values, store], rooms.map(|room| vec![0xEE; room]));
+            assert_eq!(record.lines, 9);
+        }
+    };
+    refuses(&[0; 13], 12);
+    refuses(&[0; 14], 13);
+    // cut anywhere, or one byte longer
+    for cut in 0..file().len() {
+        refuses(&file()[..cut], if cut < 14 { 12 } else { 13 });
+    }
+    refuses(&[file(), vec![0]].concat(), 13);
+    // two last lines, one cut, one with number 32769, value bytes other than eight a name
+    refuses(
+        &hex(&[
+            "00 00 00 01 02 01 03 01 13 01 22 01 2E 01",
+            NAMES,
+            "00",
+            VALUES,
+            LINES,
+            LAST,
+            LAST,
+        ]
+        .concat()),
+        1,
+    );
+    refuses(
+        &hex(&[
+            "00 00 00 01 02 01 03 01 13 01 22 01 27 01",
+            NAMES,
+            "00",
+            VALUES,
+            LINES,
+            "00 80 06 06 15",
+        ]
+        .concat()),
+        1,
+    );
+    refuses(
+        &hex(&[WORDS, NAMES, "00", VALUES, LINES, "01 80 06 06 15 16"].concat()),
+        1,
+    );
+    refuses(
+        &hex(&[
+            "00 00 00 01 02 01 03 01 12 01 22 01 28 01",
+            NAMES,
+            "00",
+            VALUES,
+            LINES,
+            LAST,
+        ]
+        .concat()),
+        1,
+    );
+    for rooms in [[1, 16, 15], [2, 15, 15], [2, 16, 14]] {
+        assert_eq!(read(&file(), rooms).0, 8);
+    }
+    assert_eq!(
+        read(
+            &hex("00 00 00 01 00 01 01 01 01 01 01 01 01 01 00"),
+            [0, 0, 0]
+        )
+        .0,
+        0
+    );
+}
