@@ -1,5 +1,5 @@
 /*
- * Virgontey: enter and list lines of tokenized Atari BASIC.
+ * Virgontey: enter and list lines of tokenized Atari BASIC, and write and read its program files.
  *
  * The calls work only in the buffers that are lent to them. Every length, count and byte may have any
  * value: tables that are not sound, and a record that disagrees with the store, are refused. No call keeps
@@ -34,11 +34,11 @@ extern "C" {
 /*
  * The editor record: the counts that go with the buffers. All five are 0 for an empty program.
  *
- * virgontey_enter and virgontey_batch keep them true. So a terminal that shows how many lines the program has and which is the
+ * virgontey_enter, virgontey_batch and virgontey_load keep them true. So a terminal that shows how many lines the program has and which is the
  * last reads LINES and GREATEST from the record as it stands between two calls: that takes no call, and
  * no walk over the store. Where LINES is 0 there is no line; line 0 alone has 1 and 0.
  *
- * virgontey_enter, virgontey_batch and virgontey_list test the record: one whose counts are not those of the
+ * virgontey_enter, virgontey_batch, virgontey_list and virgontey_save test the record: one whose counts are not those of the
  * lent store is refused with 1.
  */
 enum {
@@ -78,6 +78,19 @@ enum {
     VIRGONTEY_LIST_LENGTH = 2
 };
 
+/* What virgontey_save answers. */
+enum {
+    VIRGONTEY_SAVE_NUMBER = 0,  /* 0 done, otherwise the refusal, see below */
+    VIRGONTEY_SAVE_WRITTEN = 1, /* bytes of the file, 0 on a refusal */
+    VIRGONTEY_SAVE_LENGTH = 2
+};
+
+/* What virgontey_load answers. */
+enum {
+    VIRGONTEY_LOAD_NUMBER = 0, /* 0 done, otherwise the refusal, see below */
+    VIRGONTEY_LOAD_LENGTH = 1
+};
+
 /* The numbers. */
 enum {
     VIRGONTEY_DONE = 0,
@@ -88,10 +101,12 @@ enum {
     VIRGONTEY_OUT_OF_RANGE = 5,    /* a constant is out of range; see place and end */
     VIRGONTEY_NAMES_FULL = 6,      /* names would pass 256, or lack name or value room */
     VIRGONTEY_LINE_TOO_LONG = 7,   /* the token line would pass 255 bytes */
-    VIRGONTEY_STORE_FULL = 8,      /* the store would pass its room; for a text without a number: the line buffer is too short */
+    VIRGONTEY_STORE_FULL = 8,      /* the store would pass its room; for a text without a number: the line buffer is too short; for a file: a lent buffer is too small, or its last word would pass 65,535 */
     VIRGONTEY_NO_SUCH_LINE = 9,    /* the line to delete or list is not there */
     VIRGONTEY_NOT_WELL_FORMED = 10, /* the line to list is not well-formed, or the line buffer holds none */
-    VIRGONTEY_OUTPUT_TOO_SHORT = 11 /* the listing is longer than the output buffer */
+    VIRGONTEY_OUTPUT_TOO_SHORT = 11, /* the listing is longer than the output buffer */
+    VIRGONTEY_NOT_A_FILE = 12,     /* a file under 14 bytes, or its first word is not zero */
+    VIRGONTEY_WORDS_WRONG = 13     /* the file's words, its length or the zero byte after its names are not right */
 };
 
 /*
@@ -207,6 +222,37 @@ enum {
 void virgontey_examine(const uint8_t *names, size_t names_len, size_t name_bytes, size_t name_count,
                        const uint8_t *values, size_t values_len, const uint8_t *store, size_t store_len,
                        size_t used, size_t *answer, size_t answer_len);
+
+/*
+ * Writes the program as an Atari SAVE file to the front of out: seven two-byte words, the names and a zero
+ * byte, the values, the stored lines, and END without a number as the current line. A file has 21 bytes
+ * more than names, values and lines together, and these may have at most 65,272. Only the bytes of the
+ * file change in out; on a refusal, 1 or 8, none do.
+ *
+ *   record  the editor record, only read; record_len is VIRGONTEY_RECORD_LENGTH
+ *   out     where the file goes; out_len is its room
+ *   answer  written; answer_len is VIRGONTEY_SAVE_LENGTH
+ */
+void virgontey_save(const uint8_t *names, size_t names_len, const uint8_t *values, size_t values_len,
+                    const uint8_t *store, size_t store_len, const size_t *record, size_t record_len,
+                    uint8_t *out, size_t out_len, size_t *answer, size_t answer_len);
+
+/*
+ * Reads an Atari SAVE file: its names, values and lines are copied to the fronts of the lent buffers, and
+ * the record becomes theirs. What buffers and record held before is neither tested nor read, and bytes past
+ * the new ends stay. A last line 32768 in the file is left out, whatever it holds. Lines that this editor would not list are
+ * taken too, if the tables are sound.
+ *
+ *   file    the file, only read; no copy of it is made
+ *   names, values, store   where the program goes, with their rooms, as for virgontey_enter
+ *   record  written, all five counts; record_len is VIRGONTEY_RECORD_LENGTH
+ *   answer  written; answer_len is VIRGONTEY_LOAD_LENGTH
+ *
+ * On a refusal, 12, 13, 1 or 8 in this order, nothing but the answer changes.
+ */
+void virgontey_load(const uint8_t *file, size_t file_len, uint8_t *names, size_t names_len,
+                    uint8_t *values, size_t values_len, uint8_t *store, size_t store_len,
+                    size_t *record, size_t record_len, size_t *answer, size_t answer_len);
 
 #ifdef __cplusplus
 }

@@ -5,6 +5,7 @@ use std::collections::{BTreeMap, VecDeque};
 use protocol::{run_reference, Answer, Call, Names, Tables};
 use reference::{BatchAnswer, Record};
 
+use crate::files::damage;
 use crate::lines::{any_line, change, error_line, error_text, spoil_buffer};
 use crate::random::Random;
 use crate::texts::{any_text, bulky_text, delete_text, lawful_text, new_name, spoil};
@@ -36,6 +37,8 @@ pub enum Promise {
     Listed(Option<Option<usize>>),
     /// The line was just entered, or kept: it must list.
     Lists,
+    /// The file was just written, and the buffers have room for its program: these tables must be there again.
+    SameProgram(Box<Tables>),
 }
 
 /// Makes cases without end, the same ones for the same seed.
@@ -79,7 +82,8 @@ impl Iterator for Cases {
         }
         self.left_in_world -= 1;
         Some(match self.random.below(100) {
-            0..=51 => self.enter_case(),
+            0..=47 => self.enter_case(),
+            48..=51 => self.file_case(),
             52..=66 => self.list_case(),
             67..=77 => self.foreign_case(),
             78..=85 => self.show_case(),
@@ -364,6 +368,81 @@ impl Cases {
         let promise = Promise::Listed(first_refused(&tables));
         (tables.record.lines, tables.record.greatest) = (0, 0);
         let mut case = self.case(Call::Examine { tables }, promise);
+        case.table = 0;
+        case
+    }
+
+    /// Writes the file of the world's program; then reads it, or a damaged copy of it, into buffers of another world.
+    fn file_case(&mut self) -> Case {
+        let mut tables = self.world.tables.clone();
+        if self.random.chance(10) {
+            self.upset(&mut tables);
+        }
+        let size = file_size(&tables.record).min(65536);
+        let room = match self.random.below(10) {
+            0 => self.random.below(60),
+            1 => size.saturating_sub(1),
+            2..=5 => size,
+            _ => size + self.random.below(5),
+        };
+        let out = self.random.bytes(room.min(65536));
+        let call = Call::Save { tables, out };
+        let mut case = self.case(call.clone(), Promise::None);
+        case.table = 0;
+        let (
+            Call::Save { tables, .. },
+            Answer::List {
+                number: 0,
+                written,
+                out,
+            },
+        ) = (call, &case.expected)
+        else {
+            return case;
+        };
+        for _ in 0..self.random.between(1, 3) {
+            let file = out[..*written].to_vec();
+            let read = self.load_case(file, &tables);
+            self.waiting.push_back(read);
+        }
+        case
+    }
+
+    /// Reads the file of these tables, mostly damaged, into buffers with any bytes and counts.
+    fn load_case(&mut self, mut file: Vec<u8>, tables: &Tables) -> Case {
+        let whole = self.random.chance(30);
+        if !whole {
+            for _ in 0..self.random.between(1, 2) {
+                damage(&mut self.random, &mut file);
+            }
+        }
+        let record = &tables.record;
+        let needs = [record.name_bytes, 8 * record.name_count, record.used];
+        let roomy = self.random.chance(70);
+        let mut rooms = needs.map(|need| need + self.random.below(9));
+        if !roomy {
+            let short = self.random.below(3);
+            rooms[short] = rooms[short].saturating_sub(self.random.between(1, 12));
+        }
+        let fits = (0..3).all(|part| needs[part] <= rooms[part]);
+        let lent = Tables {
+            names: self.random.bytes(rooms[0]),
+            values: self.random.bytes(rooms[1]),
+            store: self.random.bytes(rooms[2]),
+            record: Record {
+                name_bytes: self.any_count(),
+                name_count: self.any_count(),
+                used: self.any_count(),
+                lines: self.any_count(),
+                greatest: self.any_count(),
+            },
+        };
+        let promise = if whole && fits {
+            Promise::SameProgram(Box::new(tables.clone()))
+        } else {
+            Promise::None
+        };
+        let mut case = self.case(Call::Load { file, tables: lent }, promise);
         case.table = 0;
         case
     }
@@ -730,6 +809,13 @@ impl Cases {
         tables.record.name_bytes = tables.names.len();
         tables.names.extend(self.random.bytes(spare));
     }
+}
+
+/// The length of the file of a program with this record, whatever its counts.
+fn file_size(record: &Record) -> usize {
+    let values = record.name_count.saturating_mul(8);
+    let parts = [record.name_bytes, values, record.used, 21];
+    parts.into_iter().fold(0, usize::saturating_add)
 }
 
 /// A listing of this line buffer over the names of these tables.

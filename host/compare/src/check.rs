@@ -6,6 +6,7 @@ use protocol::{Answer, Call, Tables};
 use reference::BatchAnswer;
 
 use crate::cases::{Case, Promise};
+use crate::files::used_parts;
 use crate::lines::error_text;
 use crate::texts::has_number;
 
@@ -16,7 +17,7 @@ pub struct Checker {
     /// Listings over the present name table, each with its line.
     listings: HashMap<Vec<u8>, Vec<u8>>,
     /// How often each answer was given.
-    pub counts: [u64; 12],
+    pub counts: [u64; 14],
     /// Listings entered again, with a number and without, and pairs of equal listings seen.
     pub entered_again: u64,
     pub direct_again: u64,
@@ -33,6 +34,10 @@ pub struct Checker {
     pub errors_listed: u64,
     /// How often each answer to a program was given.
     pub verdicts: [u64; 5],
+    /// Files written, read, and read again as they were written.
+    pub saved: u64,
+    pub loaded: u64,
+    pub read_again: u64,
     /// Records that disagree with a store of lines end to end.
     pub disagreeing: u64,
 }
@@ -163,6 +168,35 @@ impl Checker {
                     Some(Some(number)) => (*which, *line) == (4, *number),
                 };
                 require(listed, "listings say something else")
+            }
+            (
+                Call::Save { tables, out },
+                Answer::List {
+                    number,
+                    written,
+                    out: after,
+                },
+            ) => {
+                self.check_record(tables, *number)?;
+                let written = check_output(case, *number, out, *written, after)?;
+                self.saved += written.is_some() as u64;
+                Ok(())
+            }
+            (
+                Call::Load { tables, .. },
+                Answer::Load {
+                    number,
+                    tables: after,
+                },
+            ) => {
+                if *number != 0 {
+                    require(tables == after, "a refused file changed something")?;
+                    let same = matches!(case.promise, Promise::SameProgram(_));
+                    return require(!same, "a written file was refused");
+                }
+                self.loaded += 1;
+                self.read_again += check_loaded(&case.promise, tables, after)? as u64;
+                Ok(())
             }
             (
                 Call::Batch { text, tables, keep },
@@ -508,4 +542,29 @@ fn tail(before: &[u8], after: &[u8], end: usize) -> Result<(), String> {
         before[end..] == after[end..],
         "bytes behind a new end changed",
     )
+}
+
+/// What a file that was read leaves: lines end to end with rising numbers, a record that is theirs, and every byte past the new
+/// ends as it was. Says whether the program is held to the one that was written, which it must then be.
+fn check_loaded(promise: &Promise, before: &Tables, after: &Tables) -> Result<bool, String> {
+    let Some(new) = lines(after) else {
+        return Err("the store does not hold lines end to end".into());
+    };
+    require(
+        pair(after) == walk(&new),
+        "the record is not what a walk of the store finds",
+    )?;
+    let record = &after.record;
+    tail(&before.names, &after.names, record.name_bytes)?;
+    tail(&before.values, &after.values, 8 * record.name_count)?;
+    tail(&before.store, &after.store, record.used)?;
+    let Promise::SameProgram(written) = promise else {
+        return Ok(false);
+    };
+    require(*record == written.record, "another record was read")?;
+    require(
+        used_parts(after) == used_parts(written),
+        "another program was read",
+    )?;
+    Ok(true)
 }

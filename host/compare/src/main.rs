@@ -9,6 +9,7 @@
 
 mod cases;
 mod check;
+mod files;
 mod lines;
 mod paths;
 mod random;
@@ -194,6 +195,10 @@ impl Run {
             self.checker.verdicts[4]
         );
         println!(
+            "  files written: {}, read: {}, read again as written: {}",
+            self.checker.saved, self.checker.loaded, self.checker.read_again
+        );
+        println!(
             "  records that disagree with the store: {}",
             self.checker.disagreeing
         );
@@ -231,5 +236,7 @@ mod tests {
         assert!(run.checker.kept > 0 && run.checker.errors_listed > 0);
         assert!(run.checker.verdicts.iter().all(|count| *count > 0));
         assert!(run.checker.disagreeing > 0);
+        assert!(run.checker.saved > 0 && run.checker.loaded > run.checker.read_again);
+        assert!(run.checker.read_again > 0);
     }
 }

@@ -129,6 +129,33 @@ pub fn through_library(call: &Call) -> Option<Answer> {
             };
             Answer::Examine { which, line }
         }
+        Call::Save { tables, mut out } => {
+            let record = lend(&tables.record);
+            let answer = virgontey::save(
+                &tables.names,
+                &tables.values,
+                &tables.store,
+                &record,
+                &mut out,
+            );
+            Answer::List {
+                number: answer.number,
+                written: answer.written,
+                out,
+            }
+        }
+        Call::Load { file, mut tables } => {
+            let mut record = lend(&tables.record);
+            let number = virgontey::load(
+                &file,
+                &mut tables.names,
+                &mut tables.values,
+                &mut tables.store,
+                &mut record,
+            );
+            tables.record = given_back(&record);
+            Answer::Load { number, tables }
+        }
     })
 }
 

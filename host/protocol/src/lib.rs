@@ -61,7 +61,9 @@ pub enum Call {
         keep: bool,
     },
     /// The record's pair is not lent, and is 0 and 0 here.
-    Examine { tables: Tables },
+    Examine {
+        tables: Tables,
+    },
     Save {
         tables: Tables,
         out: Vec<u8>,

@@ -208,6 +208,65 @@ pub unsafe extern "C" fn virgontey_examine(
     (answer[0], answer[1]) = given.numbers();
 }
 
+/// # Safety
+/// Each pointer must be good for its length, and no two buffers may overlap.
+#[no_mangle]
+pub unsafe extern "C" fn virgontey_save(
+    names: *const u8,
+    names_len: usize,
+    values: *const u8,
+    values_len: usize,
+    store: *const u8,
+    store_len: usize,
+    record: *const usize,
+    record_len: usize,
+    out: *mut u8,
+    out_len: usize,
+    answer: *mut usize,
+    answer_len: usize,
+) {
+    let given = reference::save(
+        lent(names, names_len),
+        lent(values, values_len),
+        lent(store, store_len),
+        &read_record(lent(record, record_len)),
+        lent_mut(out, out_len),
+    );
+    let answer = lent_mut(answer, answer_len);
+    answer[0] = given.number;
+    answer[1] = given.written;
+}
+
+/// # Safety
+/// Each pointer must be good for its length, and no two buffers may overlap.
+#[no_mangle]
+pub unsafe extern "C" fn virgontey_load(
+    file: *const u8,
+    file_len: usize,
+    names: *mut u8,
+    names_len: usize,
+    values: *mut u8,
+    values_len: usize,
+    store: *mut u8,
+    store_len: usize,
+    record: *mut usize,
+    record_len: usize,
+    answer: *mut usize,
+    answer_len: usize,
+) {
+    let lent_record = lent_mut(record, record_len);
+    let mut record = read_record(lent_record);
+    let number = reference::load(
+        lent(file, file_len),
+        lent_mut(names, names_len),
+        lent_mut(values, values_len),
+        lent_mut(store, store_len),
+        &mut record,
+    );
+    write_record(&record, lent_record);
+    lent_mut(answer, answer_len)[0] = number;
+}
+
 /// The reference does not panic; if it did, it would stop here.
 #[panic_handler]
 fn stop(_: &core::panic::PanicInfo) -> ! {

@@ -66,12 +66,19 @@ pub enum Verdict {
     BadLine(usize),
 }
 
+/// What writing a file answers.
+#[derive(Clone, Copy, PartialEq, Eq, Debug)]
+pub struct SaveAnswer {
+    pub number: usize,
+    pub written: usize,
+}
+
 #[cfg(feature = "library")]
-pub use linked::{batch, enter, examine, list, show};
+pub use linked::{batch, enter, examine, list, load, save, show};
 
 #[cfg(feature = "library")]
 mod linked {
-    use super::{BatchAnswer, EnterAnswer, ListAnswer, Record, Verdict};
+    use super::{BatchAnswer, EnterAnswer, ListAnswer, Record, SaveAnswer, Verdict};
 
     extern "C" {
         fn virgontey_enter(
@@ -143,6 +150,34 @@ mod linked {
             store: *mut u8,
             store_len: usize,
             keep: bool,
+            record: *mut usize,
+            record_len: usize,
+            answer: *mut usize,
+            answer_len: usize,
+        );
+        fn virgontey_save(
+            names: *const u8,
+            names_len: usize,
+            values: *const u8,
+            values_len: usize,
+            store: *const u8,
+            store_len: usize,
+            record: *const usize,
+            record_len: usize,
+            out: *mut u8,
+            out_len: usize,
+            answer: *mut usize,
+            answer_len: usize,
+        );
+        fn virgontey_load(
+            file: *const u8,
+            file_len: usize,
+            names: *mut u8,
+            names_len: usize,
+            values: *mut u8,
+            values_len: usize,
+            store: *mut u8,
+            store_len: usize,
             record: *mut usize,
             record_len: usize,
             answer: *mut usize,
@@ -243,6 +278,69 @@ mod linked {
             end,
             line,
         }
+    }
+
+    /// Writes the program as a SAVE file to the front of `out`.
+    pub fn save(
+        names: &[u8],
+        values: &[u8],
+        store: &[u8],
+        record: &Record,
+        out: &mut [u8],
+    ) -> SaveAnswer {
+        let counts = counts_of(record);
+        let mut answer = [0; 2];
+        // Safe: as above.
+        unsafe {
+            virgontey_save(
+                names.as_ptr(),
+                names.len(),
+                values.as_ptr(),
+                values.len(),
+                store.as_ptr(),
+                store.len(),
+                counts.as_ptr(),
+                counts.len(),
+                out.as_mut_ptr(),
+                out.len(),
+                answer.as_mut_ptr(),
+                answer.len(),
+            );
+        }
+        let [number, written] = answer;
+        SaveAnswer { number, written }
+    }
+
+    /// Reads a SAVE file into the buffers, whatever they and the record held; answers the refusal, 0 if
+    /// there is none. A refused file changes nothing.
+    pub fn load(
+        file: &[u8],
+        names: &mut [u8],
+        values: &mut [u8],
+        store: &mut [u8],
+        record: &mut Record,
+    ) -> usize {
+        let mut counts = counts_of(record);
+        let mut answer = [0; 1];
+        // Safe: as above.
+        unsafe {
+            virgontey_load(
+                file.as_ptr(),
+                file.len(),
+                names.as_mut_ptr(),
+                names.len(),
+                values.as_mut_ptr(),
+                values.len(),
+                store.as_mut_ptr(),
+                store.len(),
+                counts.as_mut_ptr(),
+                counts.len(),
+                answer.as_mut_ptr(),
+                answer.len(),
+            );
+        }
+        *record = record_of(counts);
+        answer[0]
     }
 
     /// Lists the line with this number into `out`.
