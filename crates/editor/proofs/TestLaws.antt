@@ -1,6 +1,5 @@
 -- The test of tables and store, which every call begins with, and what a call answers after it.
 use Prim.Native.Nat.{ℕ, _*_, _≤_}
-use native.Mathlib.Omega.{arith}
 use mathlib.Core.Path.{_≡_, refl, sym, ap, _∙_}
 use mathlib.Core.Bool.{Bool, true, false, _&&_}
 use mathlib.Core.List.{List}
@@ -8,8 +7,7 @@ use lib.Dec.{T, leb}
 use lib.ListN.{length, take}
 use Rattle.paper.specs.Items.{no-span}
 use Rattle.paper.specs.Names.{names-in, sound-table}
-use Rattle.paper.specs.Store.{sound-store}
-use Rattle.paper.specs.Calls.{State, lines-of, sound-tables, agrees, sound-state, refusal, head-of, enter, enter-with, not-listed, list-sound, list}
+use Rattle.paper.specs.Calls.{State, sound-state, refusal, head-of, enter, enter-with, not-listed, list-sound, list}
 use Rattle.paper.specs.Calls.{Listed as Written-out}
 use Rattle.paper.specs.Direct.{same-buffer, typed, show-sound, show}
 use Rattle.laws.specs.Tests.{and-left, as-T, is-true}
@@ -24,29 +22,15 @@ use Rattle.editor_edit.specs.declared.Editor.{Editor}
 use Rattle.editor_edit.specs.declared.Entered.{Entered}
 use Rattle.editor_edit.specs.States.{state, typed-outcome, refusing, Lies}
 use Rattle.editor_edit.specs.Sound.{counts-kept, lines-kept}
+use Rattle.editor_sound.specs.Tests.{store-decides}
 use Rattle.editor_list.specs.declared.Listed.{Listed}
 use Rattle.editor_list.specs.Answers.{unlisted, listed}
 use Rattle.editor.proofs.EnterLaws.{not-four}
 use Rattle.list_pieces.specs.NameLaws.{sound-own}
 use Rattle.list_pieces.specs.Rest.{Sound}
 
-both : (a b c d : Bool) → a && b ≡ true → c && d ≡ (a && (b && c)) && d
-both true true c d h = refl
-both true false c d h = let z : _≡_ {A = ℕ} 0 1 = cc in absurd (omega arith)
-both false b c d h = let z : _≡_ {A = ℕ} 0 1 = cc in absurd (omega arith)
-
-first-fails : (a b c d : Bool) → a && b ≡ false → false ≡ (a && (b && c)) && d
-first-fails true true c d h = let z : _≡_ {A = ℕ} 0 1 = cc in absurd (omega arith)
-first-fails true false c d h = refl
-first-fails false b c d h = refl
-
 -- the test of the name table and of the room for values
 module _ (s : State) (b : Bool) (e : b ≡ sound-table (s .names) (s .name-size) (s .name-count) && leb (8 * s .name-count) (length (s .values))) where
-  -- where they are not sound, nothing else counts
-  pub unsound-tables : b ≡ false → false ≡ sound-state s
-  unfolding sound-state sound-tables
-  unsound-tables t = first-fails (sound-table (s .names) (s .name-size) (s .name-count)) (leb (8 * s .name-count) (length (s .values))) (sound-store (s .store) (s .used)) (agrees s) (sym e ∙ t)
-
   module _ (t : b ≡ true) where
     -- the names have the bytes that are counted
     pub names-within : s .name-size ≤ length (s .names)
@@ -55,24 +39,16 @@ module _ (s : State) (b : Bool) (e : b ≡ sound-table (s .names) (s .name-size)
         (is-true (sound-table (s .names) (s .name-size) (s .name-count)) (and-left (sound-table (s .names) (s .name-size) (s .name-count)) _ (as-T _ (sym e ∙ t)))) .within
 
     module _ (kept : Counts) (so : kept ≡ counts-kept s) where
-      -- where they are, the store decides, with what the record keeps of it
-      pub store-decides : (c : Bool) → c ≡ sound-counts (s .store) kept → c ≡ sound-state s
-      unfolding sound-state sound-tables agrees sound-counts lines-of
-      store-decides c h =
-          h
-          ∙ ap (sound-counts (s .store)) so
-          ∙ both (sound-table (s .names) (s .name-size) (s .name-count)) (leb (8 * s .name-count) (length (s .values))) (sound-store (s .store) (s .used)) (agrees s) (sym e ∙ t)
-
       module _ (n : ℕ) (f : Found) (is : f ≡ found-answer (s .store) kept n) where
         -- a place was found
         pub sound-there : (p : Place) → f ≡ At p → (T (sound-state s)) × Lies p n s
         sound-there p q =
             let found = found-sound (s .store) kept n p (sym is ∙ q) in
-            (as-T (sound-state s) (sym (store-decides true (sym (is-true (sound-counts (s .store) kept) (found .0))))), found .1 ∙ ap (place-of n) (lines-kept s kept so))
+            (as-T (sound-state s) (sym (store-decides s b e t kept so true (sym (is-true (sound-counts (s .store) kept) (found .0))))), found .1 ∙ ap (place-of n) (lines-kept s kept so))
 
         -- none was
         pub unsound-store : f ≡ Unsound → false ≡ sound-state s
-        unsound-store q = store-decides false (sym (found-unsound (s .store) kept n (sym is ∙ q)))
+        unsound-store q = store-decides s b e t kept so false (sym (found-unsound (s .store) kept n (sym is ∙ q)))
 
 -- ---- entering
 

@@ -22,17 +22,6 @@ ghost use Rattle.paper.specs.Direct.{typed, show as show-call};
 ghost use Rattle.editor_edit.specs.States.{state, entered, typed-outcome};
 ghost use Rattle.editor_list.specs.Answers.{listed};
 
-// Whether tables and store are sound, and the record agrees with the store.
-pub fn sound(names: &[u8], values: &[u8], store: &[u8], e: Editor) -> bool
-    ensures { λ r. ⌜ r ≡ sound-state (state (now (names .entry)) (now (values .entry)) (now (store .entry)) e) ⌝ }
-{
-    if names_sound::sound(names, e.name_bytes, e.name_count, values.len()) {
-        store::sound(store, store_counts(e))
-    } else {
-        false
-    }
-}
-
 // Enters a text over sound tables and a sound store, or refuses it with 2 to 9; one without a number with 3. `keep` says whether a wrong line is kept.
 pub fn enter_sound(
     text: &[u8],

@@ -119,7 +119,7 @@ pub fn batch(
 ) -> Batched
     ensures { λ r. ⌜ batched r (now (names .exit)) (now (values .exit)) (now (store .exit)) ≡ batch-call keep (now (text .entry)) (state (now (names .entry)) (now (values .entry)) (now (store .entry)) e) ⌝ }
 {
-    let sound = editor::sound(names, values, store, e);
+    let sound = editor_sound::sound(names, values, store, e);
     let mut rest = text;
     let mut b = no_lines(e);
     while 0 < rest.len() {

@@ -14,6 +14,8 @@ use Rattle.paper.specs.Direct.{Typed, same-buffer, typed}
 use Rattle.paper.specs.Batch.{text-lines, batch}
 use Rattle.paper.specs.Batch.{Batched as Outcome}
 use Rattle.paper.specs.Examine.{Verdict, verdict-number, verdict-line}
+use Rattle.paper.specs.Files.{not-saved, save, not-loaded, load}
+use Rattle.paper.specs.Files.{Saved as Saved-out, Loaded as Loaded-out}
 use Rattle.promises.specs.Terms.{all-unsound}
 use Rattle.editor_batch.specs.declared.Batched.{Batched}
 use Rattle.editor_batch.specs.Answers.{batched}
@@ -22,7 +24,11 @@ use Rattle.editor_edit.specs.declared.Entered.{Entered}
 use Rattle.editor_list.specs.declared.Listed.{Listed}
 use Rattle.editor_edit.specs.States.{state, typed-outcome, refusing}
 use Rattle.editor_list.specs.Answers.{unlisted, listed}
-use Rattle.tag.specs.Lent.{editor-of, counts, entered-numbers, listed-numbers, batched-numbers, enter-by-counts, list-by-counts, batch-by-counts, Leaves, LeavesAll, Lists, Examines}
+use Rattle.file_save.specs.declared.Saved.{Saved}
+use Rattle.file_save.specs.Answers.{unsaved, saved}
+use Rattle.file_load.specs.declared.Loaded.{Loaded}
+use Rattle.file_load.specs.Answers.{unloaded, loaded}
+use Rattle.tag.specs.Lent.{editor-of, counts, entered-numbers, listed-numbers, batched-numbers, enter-by-counts, list-by-counts, batch-by-counts, save-by-counts, load-by-counts, Leaves, LeavesAll, Lists, Examines, Saves, Loads}
 
 -- numbers put at the front, one by one
 pub two-put : (s s₁ s₂ : List ℕ) (a b : ℕ) → s₁ ≡ set s 0 a → s₂ ≡ set s₁ 1 b → s₂ ≡ sets s 0 (a ∷ b ∷ [])
@@ -96,6 +102,37 @@ module _ (line : ℕ) (names values store r output : List ℕ) where
       ∙ ap (λ (x : Editor). list line (state names values store x) output) so
       ∙ ap (λ (t : Bool). pick t (not-listed 1 output) (list line (state names values store (editor-of r)) output)) (sym (le-ltb (length r) 5 h))
 
+module _ (names values store r output : List ℕ) where
+  -- a record that lacks a count
+  pub save-lacking : (x : Saved) → x ≡ unsaved 1 → length r < 5 → saved x output ≡ save-by-counts names values store r output
+  unfolding not-saved
+  save-lacking x given h =
+      ap (λ (y : Saved). saved y output) given
+      ∙ ap (λ (t : Bool). pick t (not-saved 1 output) (save (state names values store (editor-of r)) output)) (sym (lt-ltb (length r) 5 h))
+
+  -- a record that has them all
+  pub save-counted : (e : Editor) → e ≡ editor-of r → (o : Saved-out) → 5 ≤ length r → o ≡ save (state names values store e) output → o ≡ save-by-counts names values store r output
+  save-counted e so o h given =
+      given
+      ∙ ap (λ (x : Editor). save (state names values store x) output) so
+      ∙ ap (λ (t : Bool). pick t (not-saved 1 output) (save (state names values store (editor-of r)) output)) (sym (le-ltb (length r) 5 h))
+
+module _ (file names values store r : List ℕ) (e : Editor) (so : e ≡ editor-of r) where
+  -- a record that lacks a count
+  pub load-lacking : (x : Loaded) → x ≡ unloaded 1 e → length r < 5 → loaded x names values store ≡ load-by-counts file names values store r
+  unfolding not-loaded
+  load-lacking x given h =
+      ap (λ (y : Loaded). loaded y names values store) given
+      ∙ ap (λ (y : Editor). not-loaded (state names values store y) 1) so
+      ∙ ap (λ (t : Bool). pick t (not-loaded (state names values store (editor-of r)) 1) (load file (state names values store (editor-of r)))) (sym (lt-ltb (length r) 5 h))
+
+  -- a record that has them all
+  pub load-counted : (o : Loaded-out) → 5 ≤ length r → o ≡ load file (state names values store e) → o ≡ load-by-counts file names values store r
+  load-counted o h given =
+      given
+      ∙ ap (λ (x : Editor). load file (state names values store x)) so
+      ∙ ap (λ (t : Bool). pick t (not-loaded (state names values store (editor-of r)) 1) (load file (state names values store (editor-of r)))) (sym (le-ltb (length r) 5 h))
+
 -- what entering leaves
 pub leaves-so : (o : Typed) (x : Entered) (r a names values store line r′ a′ : List ℕ) → typed-outcome x names values store line ≡ o
     → r′ ≡ sets r 0 (counts ((typed-outcome x names values store line) .entered .after)) → a′ ≡ sets a 0 (entered-numbers ((typed-outcome x names values store line) .entered))
@@ -137,3 +174,22 @@ verdict-put v a a₁ a₂ n l e f h k = two-put a a₁ a₂ n l h k ∙ ap₂ (�
 -- the answer written is that of the definitions
 pub examines-so : (v w : Verdict) (a a′ : List ℕ) → v ≡ w → Examines v a a′ → Examines w a a′
 examines-so v w a a′ e h = h ∙ ap (λ (x : Verdict). sets a 0 (verdict-number x ∷ verdict-line x ∷ [])) e
+
+-- ---- files
+
+-- what writing a file leaves
+pub saves-so : (o : Saved-out) (x : Saved) (a output a′ : List ℕ) → saved x output ≡ o → a′ ≡ sets a 0 (x .number ∷ x .written ∷ []) → Saves o a output a′
+saves-so o x a output a′ e q = record {
+  output-so = ap (λ (y : Saved-out). y .output) e;
+  answer-so = q ∙ ap (λ (y : Saved-out). sets a 0 (y .number ∷ y .written ∷ [])) e;
+}
+
+-- what reading a file leaves
+pub loads-so : (o : Loaded-out) (x : Loaded) (r a names values store r′ a′ : List ℕ) → loaded x names values store ≡ o → r′ ≡ sets r 0 (counts ((loaded x names values store) .after)) → a′ ≡ set a 0 (x .number) → Loads o r a names values store r′ a′
+loads-so o x r a names values store r′ a′ e p q = record {
+  names-so = ap (λ (y : Loaded-out). y .after .names) e;
+  values-so = ap (λ (y : Loaded-out). y .after .values) e;
+  store-so = ap (λ (y : Loaded-out). y .after .store) e;
+  record-so = p ∙ ap (λ (y : Loaded-out). sets r 0 (counts (y .after))) e;
+  answer-so = q ∙ ap (λ (y : Loaded-out). sets a 0 (y .number ∷ [])) e;
+}

@@ -13,6 +13,7 @@ use Rattle.paper.specs.Calls.{Entered as Outcome, Listed as Written-out}
 use Rattle.paper.specs.Direct.{Typed, same-buffer, typed}
 use Rattle.paper.specs.Batch.{text-lines, Batched, batch}
 use Rattle.paper.specs.Examine.{Verdict, verdict-number, verdict-line}
+use Rattle.paper.specs.Files.{Saved, not-saved, save, Loaded, not-loaded, load}
 use Rattle.promises.specs.Terms.{all-unsound}
 use Rattle.editor_edit.specs.declared.Editor.{Editor}
 use Rattle.editor_edit.specs.States.{state}
@@ -54,6 +55,14 @@ batch-by-counts keep text names values store r =
     let s = state names values store (editor-of r) in
     pick (ltb (length r) 5) (all-unsound (length (text-lines text)) s) (batch keep text s)
 
+-- a file written: a record that lacks a count is refused with 1
+abbrev pub save-by-counts : List ℕ → List ℕ → List ℕ → List ℕ → List ℕ → Saved
+save-by-counts names values store r output = pick (ltb (length r) 5) (not-saved 1 output) (save (state names values store (editor-of r)) output)
+
+-- a file read: a record that lacks a count is refused with 1
+abbrev pub load-by-counts : List ℕ → List ℕ → List ℕ → List ℕ → List ℕ → Loaded
+load-by-counts file names values store r = let s = state names values store (editor-of r) in pick (ltb (length r) 5) (not-loaded s 1) (load file s)
+
 -- Entering left names, values, store, line buffer, record and answer so: as the outcome says. The record's counts and the answer's numbers stand at the front,
 -- as many as there is room for; what stands behind them is as it was.
 pub record Leaves (o : Typed) (r a names values store line r′ a′ : List ℕ) : Type 0 where
@@ -80,6 +89,19 @@ pub record Lists (o : Written-out) (a output a′ : List ℕ) : Type 0 where
 -- Examining left the answer so.
 abbrev pub Examines : Verdict → List ℕ → List ℕ → Type 0
 Examines v a a′ = a′ ≡ sets a 0 (verdict-number v ∷ verdict-line v ∷ [])
+
+-- Writing a file left the buffer and the answer so.
+pub record Saves (o : Saved) (a output a′ : List ℕ) : Type 0 where
+  pub output-so : output ≡ o .output
+  pub answer-so : a′ ≡ sets a 0 (o .number ∷ o .written ∷ [])
+
+-- Reading a file left names, values, store, record and answer so.
+pub record Loads (o : Loaded) (r a names values store r′ a′ : List ℕ) : Type 0 where
+  pub names-so : names ≡ o .after .names
+  pub values-so : values ≡ o .after .values
+  pub store-so : store ≡ o .after .store
+  pub record-so : r′ ≡ sets r 0 (counts (o .after))
+  pub answer-so : a′ ≡ sets a 0 (o .number ∷ [])
 
 -- the counts of a record, written back, leave it as it was
 pub kept : (r names values store : List ℕ) → sets r 0 (counts (state names values store (editor-of r))) ≡ r

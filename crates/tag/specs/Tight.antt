@@ -6,7 +6,8 @@ use Rattle.paper.specs.Calls.{Listed as Written-out}
 use Rattle.paper.specs.Direct.{Typed}
 use Rattle.paper.specs.Batch.{Batched}
 use Rattle.paper.specs.Examine.{Verdict}
-use Rattle.tag.specs.Lent.{Leaves, LeavesAll, Lists, Examines}
+use Rattle.tag.specs.Lent.{Leaves, LeavesAll, Lists, Examines, Saves, Loads}
+use Rattle.paper.specs.Files.{Saved, Loaded}
 
 -- of a text entered
 pub one-left : (o : Typed) (r a n v s l e b n′ v′ s′ l′ e′ b′ : List ℕ) → Leaves o r a n v s l e b → Leaves o r a n′ v′ s′ l′ e′ b′
@@ -26,3 +27,12 @@ one-listed o a out b out′ b′ h k = (h .output-so ∙ sym (k .output-so), h .
 -- of a program examined
 pub one-examined : (v : Verdict) (a b b′ : List ℕ) → Examines v a b → Examines v a b′ → b ≡ b′
 one-examined v a b b′ h k = h ∙ sym k
+
+-- of a file written
+pub one-saved : (o : Saved) (a out b out′ b′ : List ℕ) → Saves o a out b → Saves o a out′ b′ → (out ≡ out′) × (b ≡ b′)
+one-saved o a out b out′ b′ h k = (h .output-so ∙ sym (k .output-so), h .answer-so ∙ sym (k .answer-so))
+
+-- of a file read
+pub one-loaded : (o : Loaded) (r a n v s e b n′ v′ s′ e′ b′ : List ℕ) → Loads o r a n v s e b → Loads o r a n′ v′ s′ e′ b′ → (n ≡ n′) × (v ≡ v′) × (s ≡ s′) × (e ≡ e′) × (b ≡ b′)
+one-loaded o r a n v s e b n′ v′ s′ e′ b′ h k =
+    (h .names-so ∙ sym (k .names-so), h .values-so ∙ sym (k .values-so), h .store-so ∙ sym (k .store-so), h .record-so ∙ sym (k .record-so), h .answer-so ∙ sym (k .answer-so))

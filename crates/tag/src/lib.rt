@@ -6,6 +6,10 @@ use editor_edit::refused;
 use editor_examine::Verdict;
 use editor_list::Listed;
 use editor_list::not_listed;
+use file_load::Loaded;
+use file_load::not_loaded;
+use file_save::Saved;
+use file_save::not_saved;
 ghost use mathlib.Core.Path.{_≡_};
 ghost use mathlib.Core.List.{[], _∷_};
 ghost use lib.ListN.{getD, set};
@@ -16,7 +20,9 @@ ghost use Rattle.editor_edit.specs.States.{typed-outcome};
 ghost use Rattle.editor_list.specs.Answers.{listed};
 ghost use Rattle.editor_batch.specs.Answers.{batched};
 ghost use Rattle.editor_examine.specs.Verdicts.{verdict};
-ghost use Rattle.tag.specs.Lent.{editor-of, enter-by-counts, list-by-counts, batch-by-counts, Leaves, LeavesAll, Lists, Examines};
+ghost use Rattle.file_save.specs.Answers.{saved};
+ghost use Rattle.file_load.specs.Answers.{loaded};
+ghost use Rattle.tag.specs.Lent.{editor-of, enter-by-counts, list-by-counts, batch-by-counts, save-by-counts, load-by-counts, Leaves, LeavesAll, Lists, Examines, Saves, Loads};
 
 // How many counts a record has.
 const COUNTS: usize = 5;
@@ -101,6 +107,14 @@ fn write_verdict(answer: &mut [usize], v: Verdict)
     put(answer, 1, editor_examine::line_of(v));
 }
 
+// Writes what writing a file answered, as many numbers as there is room for.
+fn write_saved(answer: &mut [usize], r: Saved)
+    ensures { λ _. ⌜ now (answer .exit) ≡ sets (now (answer .entry)) 0 (r .number ∷ r .written ∷ []) ⌝ }
+{
+    put(answer, 0, r.number as usize);
+    put(answer, 1, r.written);
+}
+
 // Enters a text, or refuses it with 1 where the record lacks a count.
 fn enter_by_counts(
     text: &[u8],
@@ -153,6 +167,39 @@ fn batch_by_counts(
         return editor_batch::refuse_all(text, e);
     }
     editor_batch::batch(text, keep, names, values, store, e)
+}
+
+// Writes the file of a program, or refuses with 1 where the record lacks a count.
+fn save_by_counts(
+    names: &[u8],
+    values: &[u8],
+    store: &[u8],
+    record: &[usize],
+    out: &mut [u8],
+) -> Saved
+    ensures { λ r. ⌜ saved r (now (out .exit)) ≡ save-by-counts (now (names .entry)) (now (values .entry)) (now (store .entry)) (now («record» .entry)) (now (out .entry)) ⌝ }
+{
+    if record.len() < COUNTS {
+        return not_saved(1);
+    }
+    file_save::save(names, values, store, read_record(record), out)
+}
+
+// Reads a file, or refuses it with 1 where the record lacks a count.
+fn load_by_counts(
+    file: &[u8],
+    names: &mut [u8],
+    values: &mut [u8],
+    store: &mut [u8],
+    record: &[usize],
+) -> Loaded
+    ensures { λ r. ⌜ loaded r (now (names .exit)) (now (values .exit)) (now (store .exit)) ≡ load-by-counts (now (file .entry)) (now (names .entry)) (now (values .entry)) (now (store .entry)) (now («record» .entry)) ⌝ }
+{
+    let e = read_record(record);
+    if record.len() < COUNTS {
+        return not_loaded(1, e);
+    }
+    file_load::load(file, names, values, store, e)
 }
 
 // Enters a text, and writes the answer and the record's counts. `keep` says whether a wrong line is kept.
@@ -241,4 +288,37 @@ pub extern "C" fn virgontey_examine(
 {
     let v = editor_examine::examine(names, name_bytes, name_count, values, store, used);
     write_verdict(answer, v);
+}
+
+// Writes the file of a program, and writes the answer.
+#[no_mangle]
+pub extern "C" fn virgontey_save(
+    names: &[u8],
+    values: &[u8],
+    store: &[u8],
+    record: &[usize],
+    out: &mut [u8],
+    answer: &mut [usize],
+)
+    ensures { λ _. ⌜ Saves (save-by-counts (now (names .entry)) (now (values .entry)) (now (store .entry)) (now («record» .entry)) (now (out .entry))) (now (answer .entry)) (now (out .exit)) (now (answer .exit)) ⌝ }
+{
+    let r = save_by_counts(names, values, store, record, out);
+    write_saved(answer, r);
+}
+
+// Reads a file, and writes the answer and the record's counts.
+#[no_mangle]
+pub extern "C" fn virgontey_load(
+    file: &[u8],
+    names: &mut [u8],
+    values: &mut [u8],
+    store: &mut [u8],
+    record: &mut [usize],
+    answer: &mut [usize],
+)
+    ensures { λ _. ⌜ Loads (load-by-counts (now (file .entry)) (now (names .entry)) (now (values .entry)) (now (store .entry)) (now («record» .entry))) (now («record» .entry)) (now (answer .entry)) (now (names .exit)) (now (values .exit)) (now (store .exit)) (now («record» .exit)) (now (answer .exit)) ⌝ }
+{
+    let r = load_by_counts(file, names, values, store, record);
+    write_record(record, r.editor);
+    put(answer, 0, r.number as usize);
 }

@@ -2,7 +2,8 @@ use mathlib.Core.Path.{ap, _∙_}
 use native.Mathlib.Omega.{arith}
 use Rattle.store.specs.Answers.{found-answer}
 use Rattle.editor_edit.specs.States.{state}
-use Rattle.editor.proofs.TestLaws.{unsound-tables, names-within, sound-there, unsound-store, typed-refused}
+use Rattle.editor_sound.specs.Tests.{unsound-tables}
+use Rattle.editor.proofs.TestLaws.{names-within, sound-there, unsound-store, typed-refused}
 use borrow.Author.Needs.{needs}
 use Rattle.editor.proofs.enter.Statement.{statement}
 use Rattle.editor.proofs.enter.Tie as tie

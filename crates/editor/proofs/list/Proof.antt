@@ -1,6 +1,7 @@
 use Rattle.editor_edit.specs.States.{state}
 use Rattle.store.specs.Places.{own-place}
-use Rattle.editor.proofs.TestLaws.{unsound-tables, sound-there, unsound-store, list-so, list-refused}
+use Rattle.editor_sound.specs.Tests.{unsound-tables}
+use Rattle.editor.proofs.TestLaws.{sound-there, unsound-store, list-so, list-refused}
 use borrow.Author.Needs.{needs}
 use Rattle.editor.proofs.list.Statement.{statement}
 use Rattle.editor.proofs.list.Tie as tie
