@@ -7,3 +7,4 @@ pub mod Devices
 pub mod Kept
 pub mod Examined
 pub mod Crowded
+pub mod Files

@@ -7,7 +7,6 @@ use console::next_line;
 use console::print;
 use console::whole;
 use editor_edit::Editor;
-use editor_list::Listed;
 use fields::bytes_field;
 use fields::ends;
 use fields::number_field;
@@ -85,10 +84,10 @@ fn batch(
     print(b"\n");
 }
 
-// Prints the answer of a listing: number, bytes written and the output buffer afterwards.
-fn print_listed(r: Listed, out: &[u8]) {
-    console::print_number(r.number as usize);
-    print_number(r.written);
+// Prints the answer of a call that writes to an output buffer: number, bytes written and the buffer afterwards.
+fn print_written(number: u8, written: usize, out: &[u8]) {
+    console::print_number(number as usize);
+    print_number(written);
     print_bytes(out);
     print(b"\n");
 }
@@ -96,7 +95,7 @@ fn print_listed(r: Listed, out: &[u8]) {
 // Lists a line and prints the answer.
 fn list(line: usize, names: &[u8], values: &[u8], store: &[u8], record: Editor, out: &mut [u8]) {
     let r = editor::list(line, names, values, store, record, out);
-    print_listed(r, out);
+    print_written(r.number, r.written, out);
 }
 
 // Lists the line in a line buffer and prints the answer.
@@ -109,10 +108,24 @@ fn show(
     out: &mut [u8],
 ) {
     let r = editor::show(direct, names, name_bytes, name_count, values, out);
-    print_listed(r, out);
+    print_written(r.number, r.written, out);
 }
 
-// The fields that calls of enter, batch and list have: how many bytes each buffer has, the record, and where the next field begins.
+// Writes the file of a program and prints the answer.
+fn save(names: &[u8], values: &[u8], store: &[u8], record: Editor, out: &mut [u8]) {
+    let r = file_save::save(names, values, store, record, out);
+    print_written(r.number, r.written, out);
+}
+
+// Reads a file and prints the answer: number, the record's counts and the buffers afterwards.
+fn load(file: &[u8], names: &mut [u8], values: &mut [u8], store: &mut [u8], record: Editor) {
+    let r = file_load::load(file, names, values, store, record);
+    console::print_number(r.number as usize);
+    print_after(r.editor, names, values, store);
+    print(b"\n");
+}
+
+// The fields that calls of enter, batch, list, save and load have: how many bytes each buffer has, the record, and where the next field begins.
 struct Tables {
     names: usize,
     values: usize,
@@ -340,6 +353,69 @@ fn answer_list(
     true
 }
 
+// Answers a call of save, whose fields begin at place 5: false where it is none.
+fn answer_save(
+    line: &[u8],
+    names: &mut [u8],
+    values: &mut [u8],
+    store: &mut [u8],
+    out: &mut [u8],
+) -> bool {
+    let tables = read_tables(line, 5, names, values, store);
+    let room = bytes_field(line, tables.next, out);
+    if !ends(line, room.next) {
+        return false;
+    }
+    let n = within(room.n, out);
+    let record = tables.record;
+    save(
+        front(names, tables.names),
+        front(values, tables.values),
+        front(store, tables.store),
+        record,
+        &mut out[..n],
+    );
+    true
+}
+
+// Reads a file into the first bytes of buffers, as many as the fields had.
+fn load_within(
+    file: &[u8],
+    names: &mut [u8],
+    values: &mut [u8],
+    store: &mut [u8],
+    tables: Tables,
+) {
+    let a = within(tables.names, names);
+    let b = within(tables.values, values);
+    let c = within(tables.store, store);
+    let record = tables.record;
+    load(
+        file,
+        &mut names[..a],
+        &mut values[..b],
+        &mut store[..c],
+        record,
+    );
+}
+
+// Answers a call of load, whose fields begin at place 5: false where it is none.
+fn answer_load(
+    line: &[u8],
+    text: &mut [u8],
+    names: &mut [u8],
+    values: &mut [u8],
+    store: &mut [u8],
+) -> bool {
+    let file = bytes_field(line, 5, text);
+    let tables = read_tables(line, file.next, names, values, store);
+    if !ends(line, tables.next) {
+        return false;
+    }
+    load_within(front(text, file.n), names, values, store, tables);
+    true
+}
+
 // The fields of a call of show before the output: how many bytes each buffer has, the counts, and where the next field begins.
 struct Showing {
     direct: usize,
@@ -436,6 +512,12 @@ fn answer_call(
     }
     if check::same(front(line, 8), b"examine ") {
         return answer_examine(line, names, values, store);
+    }
+    if check::same(front(line, 5), b"save ") {
+        return answer_save(line, names, values, store, out);
+    }
+    if check::same(front(line, 5), b"load ") {
+        return answer_load(line, text, names, values, store);
     }
     false
 }

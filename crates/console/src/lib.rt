@@ -14,3 +14,5 @@ pub use output::print;
 pub use output::print_bytes;
 pub use output::print_hex;
 pub use output::print_number;
+pub use output::tell;
+pub use output::tell_field;

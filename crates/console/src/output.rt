@@ -1,7 +1,8 @@
-// Standard output: bytes as they are, numbers in decimal, bytes in lowercase hexadecimal.
+// Standard output: bytes as they are, numbers in decimal, bytes in lowercase hexadecimal. And standard error: bytes as they are and fields.
 use buffers::front;
 use buffers::lesser;
 use buffers::put;
+use libc::STDERR_FILENO;
 use libc::STDOUT_FILENO;
 ghost use Prim.Native.Nat.{_≤_};
 ghost use lib.ListN.{length};
@@ -14,6 +15,17 @@ pub fn print(text: &[u8]) {
 // Prints a number in decimal.
 pub fn print_number(n: usize) {
     io::print_decimal(STDOUT_FILENO, n as u64);
+}
+
+// Writes bytes as they are to standard error.
+pub fn tell(text: &[u8]) {
+    io::write_all(STDERR_FILENO, text);
+}
+
+// Writes a tab and a number in decimal to standard error.
+pub fn tell_field(n: usize) {
+    tell(b"\t");
+    io::print_decimal(STDERR_FILENO, n as u64);
 }
 
 // The last hexadecimal digit of a number.
