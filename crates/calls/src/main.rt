@@ -379,13 +379,7 @@ fn answer_save(
 }
 
 // Reads a file into the first bytes of buffers, as many as the fields had.
-fn load_within(
-    file: &[u8],
-    names: &mut [u8],
-    values: &mut [u8],
-    store: &mut [u8],
-    tables: Tables,
-) {
+fn load_within(file: &[u8], names: &mut [u8], values: &mut [u8], store: &mut [u8], tables: Tables) {
     let a = within(tables.names, names);
     let b = within(tables.values, values);
     let c = within(tables.store, store);

@@ -57,13 +57,7 @@ fn tell_loaded(r: Loaded, size: usize) {
 }
 
 // Reads the file on standard input and lists its program. The buffer is longer than any file can be that is not refused.
-fn run(
-    file: &mut [u8],
-    names: &mut [u8],
-    values: &mut [u8],
-    store: &mut [u8],
-    out: &mut [u8],
-) {
+fn run(file: &mut [u8], names: &mut [u8], values: &mut [u8], store: &mut [u8], out: &mut [u8]) {
     let size = io::read_full(STDIN_FILENO, file);
     let r = file_load::load(front(file, size), names, values, store, empty());
     list_all(names, values, store, r.editor, out);
@@ -76,11 +70,5 @@ fn main() {
     let mut values = [0u8; 2048];
     let mut store = [0u8; 65535];
     let mut out = [0u8; 65536];
-    run(
-        &mut file,
-        &mut names,
-        &mut values,
-        &mut store,
-        &mut out,
-    );
+    run(&mut file, &mut names, &mut values, &mut store, &mut out);
 }
