@@ -1,5 +1,6 @@
 -- The saved program file (document 02, §7). It begins with seven words of two bytes, low byte first: zero, and where the names lie, their end, the values, the
--- statements, the current line and the end of all. Then comes the block of these tables, which the second word counts from.
+-- statements, the current line and the end of all (source document 000, chapter 10: they are the pointers to the tables less the first pointer). Then comes the
+-- block of these tables, which begins where the second word says.
 use Prim.Native.Nat.{ℕ, zero, suc, _+_, _-_, _*_, _/_, _%_}
 use mathlib.Core.Bool.{Bool, true, not, _&&_, _||_}
 use mathlib.Core.List.{List, [], _∷_, _++_}

@@ -225,7 +225,7 @@ pub fn find(store: &[u8], counts: Counts, number: usize) -> Found
 }
 
 // The number of a line without a number.
-pub const DIRECT_NUMBER: usize = GREATEST_NUMBER + 1;
+const DIRECT_NUMBER: usize = GREATEST_NUMBER + 1;
 
 // Whether bytes are one whole line without a number.
 fn is_direct(line: &[u8]) -> bool
