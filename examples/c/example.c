@@ -94,6 +94,26 @@ static void count(const struct program *p)
            p->record[VIRGONTEY_RECORD_GREATEST]);
 }
 
+/* Writes the program `from` as a SAVE file, and reads that file into `to`. */
+static void carry(const struct program *from, struct program *to)
+{
+    static uint8_t file[1024];
+    size_t saved[VIRGONTEY_SAVE_LENGTH], loaded[VIRGONTEY_LOAD_LENGTH];
+
+    virgontey_save(from->names, sizeof from->names, from->values, sizeof from->values, from->store,
+                   sizeof from->store, from->record, VIRGONTEY_RECORD_LENGTH, file, sizeof file, saved,
+                   VIRGONTEY_SAVE_LENGTH);
+    printf("file:    %zu bytes, number %zu\n", saved[VIRGONTEY_SAVE_WRITTEN], saved[VIRGONTEY_SAVE_NUMBER]);
+    virgontey_load(file, saved[VIRGONTEY_SAVE_WRITTEN] - 1, to->names, sizeof to->names, to->values,
+                   sizeof to->values, to->store, sizeof to->store, to->record, VIRGONTEY_RECORD_LENGTH,
+                   loaded, VIRGONTEY_LOAD_LENGTH);
+    printf("cut:     number %zu\n", loaded[VIRGONTEY_LOAD_NUMBER]);
+    virgontey_load(file, saved[VIRGONTEY_SAVE_WRITTEN], to->names, sizeof to->names, to->values,
+                   sizeof to->values, to->store, sizeof to->store, to->record, VIRGONTEY_RECORD_LENGTH,
+                   loaded, VIRGONTEY_LOAD_LENGTH);
+    printf("read:    number %zu\n", loaded[VIRGONTEY_LOAD_NUMBER]);
+}
+
 int main(void)
 {
     static struct program program, other;
@@ -136,5 +156,9 @@ int main(void)
     count(&other);
     enter(&other, "30 GOTO 10");
     list(&other, 30);
+
+    carry(&other, &program);
+    count(&program);
+    list(&program, 900);
     return 0;
 }
