@@ -60,7 +60,7 @@ writes s n k f = record { over = s; room = n; number = k; file = f }
 
 unfoldable pub writes? : Writing → Bool
 writes? c =
-    let old = replicate (c .room) 0xee in
+    let old : List ℕ = replicate (c .room) 0xee in
     let w = save (c .over) old in
     eqb (w .number) (c .number) && (eqb (w .written) (length (c .file)) && same (w .output) (overwritten (c .file) old))
 
@@ -171,7 +171,7 @@ refused =
     ∷ refuses 1 (with-byte 42 5) large
     -- two lines 32768; one that is not last; one cut; a last line 32769
     ∷ refuses 1 (file-of (hex "00 00 00 01 02 01 03 01 13 01 22 01 2E 01") (last ++ last)) large
-    ∷ refuses 1 (with-byte 43 0x80) large
+    ∷ refuses 1 (set (with-byte 33 0) 34 0x80) large
     ∷ refuses 1 (file-of (hex "00 00 00 01 02 01 03 01 13 01 22 01 27 01") (take 5 last)) large
     ∷ refuses 1 (with-byte 48 1) none
     -- 8: each buffer one byte too short
