@@ -1,26 +1,25 @@
 -- The program that a file holds, as it lies in it; and the lent buffers after it is copied there.
-use Prim.Native.Nat.{ℕ, suc, _+_, _-_, _*_, _≤_, _<_}
+use Prim.Native.Nat.{ℕ, _+_, _-_, _*_, _≤_, _<_}
 use native.Mathlib.Omega.{arith}
 use mathlib.Core.Path.{_≡_, refl, subst, sym, ap, ap₂, _∙_}
-use mathlib.Core.Bool.{Bool, true, false, not, _&&_, _||_}
+use mathlib.Core.Bool.{Bool, true, false, not, _||_}
 use mathlib.Core.List.{List, [], _∷_, _++_}
 use lib.Dec.{T, leb, ltb, eqb, leb→le, eqb→eq}
 use lib.ListN.{length, take, drop, getD, length-take, length-drop, length-append}
-use lib.Seq.{sets, take-add, getD-take, length-take-le}
+use lib.Seq.{sets, take-add, getD-take}
 use borrow.Author.Tests.{ltb-false, lt-ltb, le-ltb}
 use Rattle.paper.specs.Bytes.{pick, every, joined}
 use Rattle.paper.specs.Names.{names-in, sound-table}
 use Rattle.paper.specs.Line.{line-number, lawful-number?}
-use Rattle.paper.specs.Store.{lines-from, lines-in, whole-line?, rising, sound-lines, room, overwritten}
+use Rattle.paper.specs.Store.{lines-from, lines-in, whole-line?, sound-lines, room, overwritten}
 use Rattle.paper.specs.Calls.{State}
-use Rattle.paper.specs.Files.{word-at, head-size, Parts, direct-whole?, without-direct, parts-of, no-head?, right-words?, sound-parts?, unless-faulty, too-small?, loaded-state, not-loaded, load}
+use Rattle.paper.specs.Files.{word-at, Parts, direct-whole?, without-direct, parts-of, no-head?, right-words?, sound-parts?, unless-faulty, too-small?, loaded-state, not-loaded, load}
 use Rattle.paper.specs.Files.{Loaded as Outcome}
 use Rattle.laws.specs.Tests.{and-left, and-right, as-T}
-use Rattle.laws.specs.Lines.{lines-next, room-lent, room-most}
+use Rattle.laws.specs.Lines.{lines-next, room-lent}
 use Rattle.buffers.specs.Sets.{overwrites}
 use Rattle.editor_edit.specs.declared.Editor.{Editor}
 use Rattle.editor_edit.specs.States.{state}
-use Rattle.file_load.specs.declared.Opened.{Opened}
 use Rattle.file_load.specs.declared.Opened.the-variants.{Refused, Holds}
 use Rattle.file_load.specs.declared.Loaded.{Loaded}
 use Rattle.file_load.specs.Answers.{record-of-parts, opened, unloaded, loaded, placed}

@@ -1,16 +1,16 @@
 -- The tables of a file whose words are right: where they lie, and what the tests of them say.
-use Prim.Native.Nat.{ℕ, suc, _+_, _-_, _*_, _/_, _≤_}
+use Prim.Native.Nat.{ℕ, _+_, _-_, _*_, _/_, _≤_}
 use native.Mathlib.Omega.{arith}
 use mathlib.Core.Path.{_≡_, refl, subst, sym, ap, ap₂, _∙_}
-use mathlib.Core.Bool.{Bool, true, false, not, _&&_, and-false}
+use mathlib.Core.Bool.{Bool, true, false, _&&_, and-false}
 use mathlib.Core.List.{List}
 use lib.Dec.{T, leb, eqb, eqb→eq}
 use lib.ListN.{length, take, drop, length-drop}
 use lib.Seq.{take-all, take-length, length-take-le, drop-drop}
 use borrow.Author.Tests.{le-leb, eq-eqb, ne-eqb}
-use Rattle.paper.specs.Bytes.{pick, joined}
+use Rattle.paper.specs.Bytes.{pick}
 use Rattle.paper.specs.Names.{names-in, sound-table}
-use Rattle.paper.specs.Store.{lines-in, sound-lines, greatest-number}
+use Rattle.paper.specs.Store.{lines-in, sound-lines}
 use Rattle.paper.specs.Files.{word-at, head-size, Parts, without-direct, parts-of, sound-parts?}
 use Rattle.laws.specs.Tests.{as-T}
 use Rattle.laws.specs.Names.{sound-facts}

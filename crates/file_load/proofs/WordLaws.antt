@@ -1,19 +1,19 @@
 -- The words of a file: what the tests of them say.
-use Prim.Native.Nat.{ℕ, zero, suc, _+_, _-_, _*_, _≤_, _<_}
+use Prim.Native.Nat.{ℕ, zero, suc, _+_, _-_, _≤_, _<_}
 use native.Mathlib.Numerals.{add-one}
 use native.Mathlib.Omega.{arith}
 use mathlib.Core.Path.{_≡_, refl, sym, ap, _∙_}
 use mathlib.Core.Bool.{Bool, true, false, not, _&&_, and-false}
 use mathlib.Core.List.{List, [], _∷_}
-use lib.Dec.{T, leb, ltb, eqb, leb→le, eqb→eq}
+use lib.Dec.{leb, eqb, leb→le, eqb→eq}
 use lib.ListN.{length, take, drop, getD, length-drop}
 use lib.Seq.{take-all}
 use borrow.Author.Tests.{lt-leb, le-leb, le-ltb, lt-ltb, eq-eqb, ne-eqb}
-use Rattle.paper.specs.Files.{word-at, head-size, never-fall, no-head?, right-words?, sound-parts?, parts-of, unless-faulty}
+use Rattle.paper.specs.Files.{word-at, head-size, never-fall, no-head?, right-words?, unless-faulty}
 use Rattle.laws.specs.Tests.{and-left, and-right, as-T, is-true}
 use Rattle.file_load.specs.declared.Opened.{Opened}
-use Rattle.file_load.specs.declared.Opened.the-variants.{Refused, Holds}
-use Rattle.file_load.specs.Answers.{record-of-parts, parted, opened}
+use Rattle.file_load.specs.declared.Opened.the-variants.{Refused}
+use Rattle.file_load.specs.Answers.{parted, opened}
 
 -- ---- words that never fall
 

@@ -1,7 +1,7 @@
 -- The lines of a saved program: sound lines, and after them none, or one of number 32768 (document 02, §7).
 use Prim.Native.Nat.{ℕ, zero, suc, pred, _≤_, _<_}
 use native.Mathlib.Omega.{arith}
-use mathlib.Core.Path.{_≡_, refl, sym, ap, ap₂, _∙_, subst}
+use mathlib.Core.Path.{_≡_, refl, sym, ap, _∙_, subst}
 use mathlib.Core.Bool.{Bool, true, false, _&&_, and-false}
 use mathlib.Core.List.{List, [], _∷_}
 use lib.Dec.{T, leb, ltb, eqb, eqb→eq}
@@ -12,10 +12,9 @@ use Rattle.paper.specs.Bytes.{pick, every, joined}
 use Rattle.paper.specs.Line.{line-number, lawful-number?, direct-number?}
 use Rattle.paper.specs.Store.{lines-from, lines-in, whole-line?, rising-above, rising, sound-lines, greatest-number}
 use Rattle.paper.specs.Files.{direct-whole?, without-direct}
-use Rattle.laws.specs.Tests.{and-left, and-right, as-T, is-true}
+use Rattle.laws.specs.Tests.{and-right, as-T}
 use Rattle.laws.specs.Lines.{lines-past}
 use Rattle.store.specs.declared.Walked.{Walked}
-use Rattle.store.specs.declared.Counts.{Counts}
 use Rattle.store.specs.declared.Program.{Program}
 use Rattle.store.specs.declared.Program.the-variants.{Unsound, Sound}
 use Rattle.store.specs.Walks.{passes?, passed, least-after, start, walked-on}

@@ -1,10 +1,11 @@
 use Prim.Native.Nat.{_-_}
 use native.Mathlib.Omega.{arith}
 use mathlib.Core.Path.{refl, sym, ap, _∙_}
-use lib.ListN.{length, drop, length-drop}
+use lib.ListN.{drop, length-drop}
 use Rattle.paper.specs.Files.{direct-whole?}
 use borrow.Author.Needs.{needs}
-use Rattle.store.proofs.Walk.{past, start-within, on-from-start, walk-inside}
+use Rattle.store.specs.Rising.{past}
+use Rattle.store.proofs.Walk.{start-within, on-from-start, walk-inside}
 use Rattle.store.proofs.Programs.{nothing-follows, something-follows, program-so, program-not-so}
 use Rattle.store.proofs.program_counts.Statement.{statement}
 use Rattle.store.proofs.program_counts.Tie as tie
