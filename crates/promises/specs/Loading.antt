@@ -1,25 +1,25 @@
 -- Reading the saved program file (document 02, §7): every answer, what an accepted file leaves, and exactly when each number is given.
 use Prim.Native.Nat.{ℕ, zero, suc, _+_, _-_, _*_, _≤_, _<_}
 use native.Mathlib.Omega.{arith}
-use mathlib.Core.Path.{_≡_, refl, subst, sym, ap, ap₂, _∙_}
-use mathlib.Core.Bool.{Bool, true, false, not, _&&_, _||_}
+use mathlib.Core.Path.{_≡_, refl, subst, sym, ap}
+use mathlib.Core.Bool.{Bool, true, false, not, _&&_}
 use mathlib.Core.List.{List, [], _∷_, _++_}
 use lib.Dec.{T, eqb, leb, ltb, leb→le, le→leb, eqb→eq, eqb-refl}
 use lib.ListN.{length, take, drop, getD}
 use lib.Seq.{take-length}
-use borrow.Author.Tests.{ltb-false, le-ltb, le-leb, eqb-true, eqb-false, eq-eqb}
+use borrow.Author.Tests.{ltb-false, le-ltb, eqb-true, eqb-false, eq-eqb}
 use Rattle.paper.specs.Bytes.{pick, every, joined}
 use Rattle.paper.specs.Names.{names-in, name-bytes, sound-names, sound-table}
 use Rattle.paper.specs.Line.{line-number, lawful-number?, direct-number?}
-use Rattle.paper.specs.Store.{whole-line?, sound-lines, greatest-number, room, overwritten}
+use Rattle.paper.specs.Store.{whole-line?, greatest-number, room, overwritten}
 use Rattle.paper.specs.Calls.{State, lines-of, sound-tables, agrees, sound-state}
 use Rattle.paper.specs.Files.{word-at, head-size, never-fall, Parts, direct-whole?, without-direct, parts-of, no-head?, right-words?, sound-parts?, unless-faulty, too-small?, loaded-state, Loaded, not-loaded, load}
 use Rattle.laws.specs.Tests.{and-left, and-right, and-both, is-true, as-T}
 use Rattle.laws.specs.Lines.{room-lent}
-use Rattle.promises.specs.Terms.{FirstHolding, none-holds, Exactly, NoHead, RightWords, SoundParts, BufferTooSmall, load-refusals, Holding}
+use Rattle.promises.specs.Terms.{FirstHolding, none-holds, Exactly, NoHead, RightWords, SoundParts, load-refusals, Holding}
 use Rattle.promises.specs.Lists.{or-false-left, or-false-right}
 use Rattle.promises.specs.States.{table-says, says-table}
-use Rattle.promises.specs.Stored.{over-length, over-take, over-past, Holds, holds}
+use Rattle.promises.specs.Stored.{over-length, over-take, at-front, Holds, holds}
 use Rattle.promises.specs.Tested.{exactly, Says, says-less, says-not, says-either, tested}
 
 -- ---- a last line of number 32768
@@ -105,8 +105,7 @@ holding p s o f =
     let c : ℕ = length (names-in (p .names)) in
     let ns : List ℕ = overwritten (p .names) (s .names) in
     let vs : List ℕ = overwritten (p .values) (s .values) in
-    let same-names : length ns ≡ length (s .names) = over-length (p .names) (s .names) (f .names) in
-    let fits-names : length (p .names) ≤ length ns = omega (arith, f .names) in
+    let fits-names : length (p .names) ≤ length ns = omega (arith, f .names, over-length (p .names) (s .names) (f .names)) in
     let fits-values : 8 * c ≤ length vs = omega (arith, o .values, f .values, over-length (p .values) (s .values) (f .values)) in
     record {
       sound =
@@ -115,16 +114,13 @@ holding p s o f =
           (and-both (leb (8 * c) (length vs)) _ (le→leb (8 * c) (length vs) fits-values) (h .sound)))
           (subst (λ (z : List (List ℕ)). T (eqb (length (p .lines)) (length z) && eqb (greatest-number (p .lines)) (greatest-number z))) (sym (h .lines))
           (and-both (eqb (length (p .lines)) (length (p .lines))) _ (eqb-refl (length (p .lines))) (eqb-refl (greatest-number (p .lines)))));
-      names = over-take (p .names) (s .names);
-      values = subst (λ (z : ℕ). take z vs ≡ p .values) (o .values) (over-take (p .values) (s .values));
+      name-size = refl;
+      value-size = sym (o .values);
+      used = refl;
       lines = h .lines;
-      store = over-take (joined (p .lines)) (s .store);
-      past-names = over-past (p .names) (s .names);
-      past-values = subst (λ (z : ℕ). drop z vs ≡ drop z (s .values)) (o .values) (over-past (p .values) (s .values));
-      past-store = over-past (joined (p .lines)) (s .store);
-      names-size = same-names;
-      values-size = over-length (p .values) (s .values) (f .values);
-      store-size = h .same-size;
+      names = at-front (p .names) (s .names) (f .names);
+      values = at-front (p .values) (s .values) (f .values);
+      store = at-front (joined (p .lines)) (s .store) (omega (arith, f .lines, room-lent (s .store)));
     }
 
 -- ---- every answer

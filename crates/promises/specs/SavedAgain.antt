@@ -196,9 +196,9 @@ parts-back s t sound f =
     let u : length (joined (lines-of s)) ≡ s .used = lines-size s sound in
     record {
       number = refl;
-      names = subst (λ (z : ℕ). take z (overwritten (take (s .name-size) (s .names)) (t .names)) ≡ take (s .name-size) (s .names)) n (h .names);
-      values = subst (λ (z : ℕ). take (8 * z) (overwritten (take (8 * s .name-count) (s .values)) (t .values)) ≡ take (8 * s .name-count) (s .values)) (o .table .counted) (h .values);
-      lines = subst (λ (z : ℕ). take z (overwritten (joined (lines-of s)) (t .store)) ≡ joined (lines-of s)) u (h .store) ∙ used-bytes s sound;
+      names = subst (λ (z : ℕ). take z (overwritten (take (s .name-size) (s .names)) (t .names)) ≡ take (s .name-size) (s .names)) n (h .names .front);
+      values = subst (λ (z : ℕ). take z (overwritten (take (8 * s .name-count) (s .values)) (t .values)) ≡ take (8 * s .name-count) (s .values)) (value-length s sound) (h .values .front);
+      lines = subst (λ (z : ℕ). take z (overwritten (joined (lines-of s)) (t .store)) ≡ joined (lines-of s)) u (h .store .front) ∙ used-bytes s sound;
       name-size = n;
       name-count = o .table .counted;
       used = u;

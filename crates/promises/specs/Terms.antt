@@ -13,7 +13,7 @@ use Rattle.paper.specs.Names.{most-names, names-in, sound-names, name-bytes, ad
 use Rattle.paper.specs.Items.{Item, Span, span-of, no-span, size-at, items, raw-byte?}
 use Rattle.paper.specs.Line.{line-bytes, line-number, lawful-number?, direct-number, direct-number?, tokens-from, line-tokens}
 use Rattle.paper.specs.WellFormed.{Lawful, Formed, WellFormed, WellFormedDirect}
-use Rattle.paper.specs.Listing.{decimal, listing, direct-listing}
+use Rattle.paper.specs.Listing.{decimal, listing}
 use Rattle.paper.specs.Errors.{marked-at, error-line, keepable?, error-line?, line-text, line-listing}
 use Rattle.paper.specs.Store.{greatest-number, sound-lines, room, stored?, line-at, overwritten}
 use Rattle.paper.specs.Calls.{State, names-of, lines-of, sound-state, Entered, refusal, enter, Listed}
@@ -599,20 +599,17 @@ pub record SavedWritten (s : State) (output : List ℕ) (e : Saved) : Type 0 whe
   pub count : e .written ≡ length (saved-file s)
   pub there : AtFront (saved-file s) output (e .output)
 
--- What an accepted file leaves: a sound state, whose record agrees, and which holds the file's parts; from the new ends on every byte is as it was, and no
--- buffer has another length.
+-- What an accepted file leaves: a sound state, whose record agrees; the file's names, values and lines stand at the fronts of the buffers, just the bytes that
+-- the record counts, and no other byte has changed.
 pub record Holding (p : Parts) (s after : State) : Type 0 where
   pub sound : T (sound-state after)
-  pub names : take (after .name-size) (after .names) ≡ p .names
-  pub values : take (8 * after .name-count) (after .values) ≡ p .values
+  pub name-size : after .name-size ≡ length (p .names)
+  pub value-size : 8 * after .name-count ≡ length (p .values)
+  pub used : after .used ≡ length (joined (p .lines))
   pub lines : lines-of after ≡ p .lines
-  pub store : take (after .used) (after .store) ≡ joined (p .lines)
-  pub past-names : drop (after .name-size) (after .names) ≡ drop (after .name-size) (s .names)
-  pub past-values : drop (8 * after .name-count) (after .values) ≡ drop (8 * after .name-count) (s .values)
-  pub past-store : drop (after .used) (after .store) ≡ drop (after .used) (s .store)
-  pub names-size : length (after .names) ≡ length (s .names)
-  pub values-size : length (after .values) ≡ length (s .values)
-  pub store-size : length (after .store) ≡ length (s .store)
+  pub names : AtFront (p .names) (s .names) (after .names)
+  pub values : AtFront (p .values) (s .values) (after .values)
+  pub store : AtFront (joined (p .lines)) (s .store) (after .store)
 
 -- buffers with room for a program
 pub record RoomFor (s t : State) : Type 0 where
