@@ -96,12 +96,12 @@ pub record Saves (o : Saved) (a output a′ : List ℕ) : Type 0 where
   pub answer-so : a′ ≡ sets a 0 (o .number ∷ o .written ∷ [])
 
 -- Reading a file left names, values, store, record and answer so.
-pub record Loads (o : Loaded) (r a names values store r′ a′ : List ℕ) : Type 0 where
-  pub names-so : names ≡ o .after .names
-  pub values-so : values ≡ o .after .values
-  pub store-so : store ≡ o .after .store
-  pub record-so : r′ ≡ sets r 0 (counts (o .after))
-  pub answer-so : a′ ≡ sets a 0 (o .number ∷ [])
+pub record Loads (l : Loaded) (r a names values store r′ a′ : List ℕ) : Type 0 where
+  pub names-so : names ≡ l .after .names
+  pub values-so : values ≡ l .after .values
+  pub store-so : store ≡ l .after .store
+  pub record-so : r′ ≡ sets r 0 (counts (l .after))
+  pub answer-so : a′ ≡ sets a 0 (l .number ∷ [])
 
 -- the counts of a record, written back, leave it as it was
 pub kept : (r names values store : List ℕ) → sets r 0 (counts (state names values store (editor-of r))) ≡ r

@@ -108,11 +108,11 @@ fn write_verdict(answer: &mut [usize], v: Verdict)
 }
 
 // Writes what writing a file answered, as many numbers as there is room for.
-fn write_saved(answer: &mut [usize], r: Saved)
-    ensures { λ _. ⌜ now (answer .exit) ≡ sets (now (answer .entry)) 0 (r .number ∷ r .written ∷ []) ⌝ }
+fn write_saved(answer: &mut [usize], file: Saved)
+    ensures { λ _. ⌜ now (answer .exit) ≡ sets (now (answer .entry)) 0 (file .number ∷ file .written ∷ []) ⌝ }
 {
-    put(answer, 0, r.number as usize);
-    put(answer, 1, r.written);
+    put(answer, 0, file.number as usize);
+    put(answer, 1, file.written);
 }
 
 // Enters a text, or refuses it with 1 where the record lacks a count.

@@ -16,7 +16,7 @@ same-length : tie.Need-same-length
 same-length c = search needs
 
 returns : tie.Need-returns
-returns c = two-put (c .before .before .before .before .before .before .before .before .before .before .args .answer .now) _ _ (c .before .before .before .before .before .before .before .before .before .before .args .r .number) _ (c .before .before .before .before .before .before .put .ensures) (c .before .before .put2 .ensures)
+returns c = two-put (c .before .before .before .before .before .before .before .before .before .before .args .answer .now) _ _ (c .before .before .before .before .before .before .before .before .before .before .args .file .number) _ (c .before .before .before .before .before .before .put .ensures) (c .before .before .put2 .ensures)
 
 pub write-saved-spec : {M : Type 1} → statement M
 write-saved-spec = tie.close (tie.spec cast-put put-requires put-requires-2 same-length returns)
