@@ -13,9 +13,10 @@
  * Width: counts, lengths, places and the numbers of an answer are size_t of 64 bits, as on x86-64 and
  * on 64-bit Arm. There is no library for other widths.
  *
- * Stack: virgontey_enter, virgontey_batch and virgontey_examine take at most 8 KB, virgontey_list and virgontey_show at most
- * 3 KB, in the fast and in the small library, as measured over 39,740 texts, each with its number, without, and
- * as a batch (docs/FIGURES.md); virgontey_save and virgontey_load are still to be measured. No call takes memory from elsewhere.
+ * Stack: virgontey_enter, virgontey_batch and virgontey_examine take at most 8 KB, virgontey_list,
+ * virgontey_show, virgontey_save and virgontey_load at most 3 KB, in the fast and in the small library, as
+ * measured over 39,740 texts, each with its number, without, and as a batch (docs/FIGURES.md). No call takes
+ * memory from elsewhere.
  *
  * Size: each function stands in a section of its own, so a build that links with --gc-sections leaves
  * out what it does not call.

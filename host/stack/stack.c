@@ -70,7 +70,7 @@ static const char *lines[] = {
 static uint64_t stack[STACK / sizeof(uint64_t)];
 static ucontext_t outside, inside;
 
-static uint8_t names[2048], values[2048], store[65535], line[255], out[1024];
+static uint8_t names[2048], values[2048], store[65535], line[255], out[1024], file[65549];
 static size_t record[VIRGONTEY_RECORD_LENGTH], answer[VIRGONTEY_BATCH_LENGTH];
 static char text[TEXT + 1];
 
@@ -83,7 +83,7 @@ struct most {
     char text[TEXT + 1];
 };
 
-static struct most entering, sending, listing, showing, examining;
+static struct most entering, sending, listing, showing, examining, saving, loading;
 
 /* What a stack of its own takes for nothing. */
 static size_t idle;
@@ -131,6 +131,20 @@ static void examine(void)
                       record[VIRGONTEY_RECORD_USED], answer, VIRGONTEY_EXAMINE_LENGTH);
 }
 
+/* Writes the program's file. */
+static void save(void)
+{
+    virgontey_save(names, sizeof names, values, sizeof values, store, sizeof store, record,
+                   VIRGONTEY_RECORD_LENGTH, file, sizeof file, answer, VIRGONTEY_SAVE_LENGTH);
+}
+
+/* Reads the file that was written. */
+static void load(void)
+{
+    virgontey_load(file, answer[VIRGONTEY_SAVE_WRITTEN], names, sizeof names, values, sizeof values, store,
+                   sizeof store, record, VIRGONTEY_RECORD_LENGTH, answer, VIRGONTEY_LOAD_LENGTH);
+}
+
 /* How many bytes of stack a call takes. All of the stack is paint before and after. */
 static size_t used(void (*call)(void))
 {
@@ -160,7 +174,7 @@ static void measure(void (*call)(void), struct most *most)
     }
 }
 
-/* Measures the entry of the text with its number and without, and then the listing of the line, and that it is examined:
+/* Measures the entry of the text with its number and without, and then the listing of the line, and the program examined, written and read:
    of a wrong text, too, one is kept, but not in the line buffer. */
 static void measure_both(int whole)
 {
@@ -169,6 +183,8 @@ static void measure_both(int whole)
     measure(batch, &sending);
     measure(list, &listing);
     measure(examine, &examining);
+    measure(save, &saving);
+    measure(load, &loading);
     entered = text + 1;
     measure(enter, &entering);
     if (whole)
@@ -227,5 +243,7 @@ int main(int argc, char **argv)
     well &= within("list", &listing, argc == 3 ? argv[2] : NULL);
     well &= within("show", &showing, argc == 3 ? argv[2] : NULL);
     well &= within("examine", &examining, argc == 3 ? argv[1] : NULL);
+    well &= within("save", &saving, argc == 3 ? argv[2] : NULL);
+    well &= within("load", &loading, argc == 3 ? argv[2] : NULL);
     return well ? 0 : 1;
 }
