@@ -11,8 +11,8 @@ use Rattle.paper.specs.Items.{no-span}
 use Rattle.paper.specs.Calls.{State, sound-state, refusal, enter-with}
 use Rattle.paper.specs.Batch.{Batched as Outcome, text-lines, no-lines, with-answer, batch}
 use Rattle.paper.specs.Open.{everything}
-use Rattle.promises.specs.Terms.{all-unsound}
-use Rattle.promises.specs.Batches.{unsound-entered, batch-unsound}
+use Rattle.requested.specs.RequestTerms.{all-unsound}
+use Rattle.requested.specs.Batches.{unsound-entered, batch-unsound}
 use Rattle.editor_edit.specs.declared.Editor.{Editor}
 use Rattle.editor_edit.specs.declared.Entered.{Entered}
 use Rattle.editor_edit.specs.States.{state, entered, refusing}

@@ -12,7 +12,7 @@ use Rattle.paper.specs.Bytes.{run}
 use Rattle.paper.specs.Items.{raw-byte?}
 use Rattle.paper.specs.Calls.{State, Entered, sound-state, enter-with}
 use Rattle.paper.specs.Batch.{text-lines, answers-to, none-refused, Batched, no-lines, with-answer, with-answers, batch}
-use Rattle.promises.specs.Batches.{first-line, answer-after, answer-counted, same-soundness}
+use Rattle.requested.specs.Batches.{first-line, answer-after, answer-counted, same-soundness}
 use Rattle.buffers.specs.Runs.{run-within}
 use Rattle.editor_edit.specs.declared.Editor.{Editor}
 use Rattle.editor_edit.specs.States.{state}

@@ -10,7 +10,7 @@ ghost use Prim.Native.Nat.{ℕ, suc, _+_, _<_, min};
 ghost use Rattle.paper.specs.Calls.{sound-state, enter-with};
 ghost use lib.ListN.{length};
 ghost use Rattle.paper.specs.Batch.{text-lines, with-answer, batch as batch-call};
-ghost use Rattle.promises.specs.Terms.{all-unsound};
+ghost use Rattle.requested.specs.RequestTerms.{all-unsound};
 ghost use Rattle.editor_edit.specs.States.{state, entered};
 ghost use Rattle.editor_batch.specs.Answers.{batched, nothing-entered};
 

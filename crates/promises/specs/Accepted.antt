@@ -21,11 +21,11 @@ use Rattle.laws.specs.Names.{name-passes}
 use Rattle.laws.specs.Given.{operator-given}
 use Rattle.promises.specs.NameTable.{add-knows, names-keep}
 use Rattle.promises.specs.Scanned.{new-name?, scanned-right?, scanned-items, AllRight, all-right}
-use Rattle.promises.specs.Place.{sources, told, Told}
-use Rattle.promises.specs.InRange.{out?, NoneOut, Agrees, agrees}
-use Rattle.promises.specs.TokenRuns.{on-taken, on-run, AllFit, RunFits}
-use Rattle.promises.specs.Given.{look-token, fits, run-fits, taken-fit, own-given, symbol-class?, no-symbol-statement, no-symbol-name, no-symbol-number, no-symbol-quoted, no-symbol-raw}
-use Rattle.promises.specs.RoundTrip.{token-of, as-tokens}
+use Rattle.grounds.specs.Place.{sources, told, Told}
+use Rattle.grounds.specs.InRange.{out?, NoneOut, Agrees, agrees}
+use Rattle.grounds.specs.TokenRuns.{on-taken, on-run, AllFit, RunFits}
+use Rattle.grounds.specs.Given.{look-token, fits, run-fits, taken-fit, own-given, symbol-class?, no-symbol-statement, no-symbol-name, no-symbol-number, no-symbol-quoted, no-symbol-raw}
+use Rattle.grounds.specs.RoundTrip.{token-of, as-tokens}
 
 -- ---- an accepted text
 
@@ -174,3 +174,8 @@ stored-well-formed ns n p s ts h e =
       lawful-number = h;
       right = subst (λ (z : List Token). T (every (right-token? (add-names ns ts)) z)) (a .gives) w;
     }
+
+-- with these tokens
+pub stored-tokens : (lawful? : ℕ → Bool) (ns : List (List ℕ)) (n p : ℕ) (s : List ℕ) (ts : List Token) (h : T (lawful? n)) (e : translate p s ≡ tokens ts) → (stored-well-formed {lawful? = lawful?} ns n p s ts h e) .tokens ≡ ts
+unfolding stored-well-formed
+stored-tokens lawful? ns n p s ts h e = refl

@@ -17,7 +17,7 @@ use Rattle.paper.specs.Store.{room, stored?, put-line, take-out}
 use Rattle.paper.specs.Calls.{State, names-of, lines-of, sound-state, Entered, refusal, Translated, tokens, refused-at, translate, stored, lacks-room, unless-short, accept, answered, delete, numbered, too-great, only-blanks, unnumbered, head-of, at-head, enter-sound, enter}
 use Rattle.laws.specs.Tests.{as-T}
 use Rattle.promises.specs.Terms.{after-blanks, digit-count, number-in, number-end, past-number, items-in, NoReading, OutOfRange, EndsThere, names-with, line-with}
-use Rattle.promises.specs.Lists.{run-whole}
+use Rattle.grounds.specs.Lists.{run-whole}
 use Rattle.promises.specs.Refusals.{Refusal, is-four, is-five, four-or-five, translation-refused, translation-ends}
 
 -- what is so of the refusals 6, 7 and 8, and of what comes of a line that has room, is so of the answer

@@ -20,8 +20,8 @@ use Rattle.paper.specs.Calls.{tokens, refused-at, place-of, outcome, translate}
 use Rattle.paper.specs.Open.{all-Bytes, all-Words, all-Tokens, all-Items, all-Grammar, all-Machine}
 use Rattle.laws.specs.Tests.{as-T}
 use Rattle.promises.specs.Terms.{after-blanks, digit-count, direct?}
-use Rattle.promises.specs.Lists.{run-whole}
-use Rattle.promises.specs.ConstantText.{number-item}
+use Rattle.grounds.specs.Lists.{run-whole}
+use Rattle.grounds.specs.ConstantText.{number-item}
 
 -- ---- blanks in front
 

@@ -12,7 +12,7 @@ use Rattle.paper.specs.Constants.{powers, six-at, six, five, in-range, zero-byt
 use Rattle.laws.specs.Tests.{and-left, and-right, and-both}
 use Rattle.laws.specs.Constants.{pow-add}
 use Rattle.promises.specs.Terms.{CutTo}
-use Rattle.promises.specs.Lists.{or-right}
+use Rattle.grounds.specs.Lists.{or-right}
 
 record Power (f n m k : ℕ) : Type 0 where
   pub low : n * 100 ^ k ≤ m

@@ -19,7 +19,7 @@ use Rattle.paper.specs.Direct.{Typed, same-buffer, accept-direct, answered-dire
 use Rattle.laws.specs.Names.{names-added, adds-front}
 use Rattle.laws.specs.Tests.{as-T, is-true}
 use Rattle.promises.specs.Terms.{after-blanks, digit-count, number-in, number-end, past-number, direct?, NoReading, OutOfRange, EndsThere, names-with, line-with, SoundState, Carried, Edited, LineKept, Unchanged, RefusedLeaves, over-store, typed-over-store, LineMade, with-lines}
-use Rattle.promises.specs.Lists.{run-whole}
+use Rattle.grounds.specs.Lists.{run-whole}
 use Rattle.promises.specs.Refusals.{Refusal, is-four, is-five, four-or-five, translation-refused, translation-ends}
 use Rattle.promises.specs.Accepted.{translated-lawful, stored-well-formed}
 use Rattle.promises.specs.Stored.{at-front, Holds, holds}

@@ -23,15 +23,15 @@ use Rattle.laws.specs.Tests.{and-left, and-both, or-else, is-true}
 use Rattle.laws.specs.Lines.{bytes-back, both-sides}
 use Rattle.laws.specs.Names.{names-added, adds-front}
 use Rattle.laws.specs.Variables.{number-some}
-use Rattle.promises.specs.Place.{sources}
-use Rattle.promises.specs.TokenRuns.{on-taken, on-run}
-use Rattle.promises.specs.Given.{look-token, tokens-given}
-use Rattle.promises.specs.Neighbours.{Apart, first-class?}
-use Rattle.promises.specs.Closed.{closed, end-class?}
-use Rattle.promises.specs.Reading.{side}
-use Rattle.promises.specs.Decoding.{Shapes, no-tokens, a-statement, a-text, a-target, an-operator, a-variable, a-constant, a-string, line-number-of}
-use Rattle.promises.specs.Shaped.{shapes, starts-statement, first-only}
-use Rattle.promises.specs.RoundTrip.{token-of, as-tokens, tokens-same, Known, known}
+use Rattle.grounds.specs.Place.{sources}
+use Rattle.grounds.specs.TokenRuns.{on-taken, on-run}
+use Rattle.grounds.specs.Given.{look-token, tokens-given}
+use Rattle.grounds.specs.Neighbours.{Apart, first-class?}
+use Rattle.grounds.specs.Closed.{closed, end-class?}
+use Rattle.grounds.specs.Reading.{side}
+use Rattle.grounds.specs.Decoding.{Shapes, no-tokens, a-statement, a-text, a-target, an-operator, a-variable, a-constant, a-string, line-number-of}
+use Rattle.grounds.specs.Shaped.{shapes, starts-statement, first-only}
+use Rattle.grounds.specs.RoundTrip.{token-of, as-tokens, tokens-same, Known, known}
 use Rattle.promises.specs.Accepted.{translated-lawful, names-new, stored-well-formed}
 use Rattle.promises.specs.NameTable.{NamesGood, adds-good}
 use Rattle.promises.specs.Refusals.{four-or-five}

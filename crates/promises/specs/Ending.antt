@@ -14,12 +14,12 @@ use Rattle.paper.specs.Grammar.{Gives, grammar, may-be-empty, look, look-item, 
 use Rattle.paper.specs.Open.{all-Bytes, all-Grammar, all-Machine}
 use Rattle.laws.specs.Tests.{and-left, and-right, or-else}
 use Rattle.laws.specs.RowTests.{at-rows}
-use Rattle.promises.specs.Viable.{Info, Good, StepGood, none, nil?, top-or, word, heads, under, step-good, every-member}
-use Rattle.promises.specs.ViableGrammar.{rows-good, start-good}
-use Rattle.promises.specs.FrameTables.{info, infos}
-use Rattle.promises.specs.Place.{by-class, step-class}
-use Rattle.promises.specs.PlaceGrammar.{class-of, every-at}
-use Rattle.promises.specs.Closed.{end-class?, StepEnds, step-ends}
+use Rattle.grounds.specs.Viable.{Info, Good, StepGood, none, nil?, top-or, word, heads, under, step-good, every-member}
+use Rattle.grounds.specs.ViableGrammar.{rows-good, start-good}
+use Rattle.grounds.specs.FrameTables.{info, infos}
+use Rattle.grounds.specs.Place.{by-class, step-class}
+use Rattle.grounds.specs.PlaceGrammar.{class-of, every-at}
+use Rattle.grounds.specs.Closed.{end-class?, StepEnds, step-ends}
 use Rattle.promises.specs.Scanned.{Scanned, Inner, Last, last?}
 
 -- ---- what stands under a frame

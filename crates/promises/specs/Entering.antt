@@ -18,9 +18,9 @@ use Rattle.paper.specs.WellFormed.{WellFormed}
 use Rattle.paper.specs.Calls.{State, names-of, sound-state, tokens, translate, accept, answered, numbered, head-of, at-head, enter-sound, enter}
 use Rattle.laws.specs.Tests.{is-true}
 use Rattle.laws.specs.Runs.{All, run-all}
-use Rattle.promises.specs.Lists.{run-whole}
+use Rattle.grounds.specs.Lists.{run-whole}
 use Rattle.promises.specs.Beginning.{not-blank, after-blank}
-use Rattle.promises.specs.RoundTrip.{blank-no-digit, number-text, translated-again, decoded, numbered-so}
+use Rattle.grounds.specs.RoundTrip.{blank-no-digit, number-text, translated-again, decoded, numbered-so}
 use Rattle.promises.specs.States.{state-says}
 
 digit-no-blank : (x : ℕ) → digit? x ≡ true → blank? x ≡ false

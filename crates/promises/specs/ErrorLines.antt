@@ -21,11 +21,12 @@ use Rattle.paper.specs.Store.{whole-line?}
 use Rattle.paper.specs.Open.{all-Bytes, all-Words}
 use Rattle.laws.specs.Tests.{and-left, and-right, and-both, is-true, is-false, as-T, or-else}
 use Rattle.laws.specs.Runs.{All, all-every, all-append, all-take, all-drop, run-all}
-use Rattle.promises.specs.Terms.{Listable}
-use Rattle.promises.specs.Lists.{or-left, or-right}
-use Rattle.promises.specs.Shaped.{Start, no-start, with-word, with-name}
-use Rattle.promises.specs.RoundTrip.{begun}
-use Rattle.promises.specs.WellFormedTest.{test-says, says-test}
+use Rattle.promises.specs.Terms.{Listable, AllListable, SomeUnlistable}
+use Rattle.grounds.specs.Lists.{or-left, or-right, every-member, some-fails}
+use Rattle.promises.specs.Tested.{Says}
+use Rattle.grounds.specs.Shaped.{Start, no-start, with-word, with-name}
+use Rattle.grounds.specs.RoundTrip.{begun}
+use Rattle.grounds.specs.WellFormedTest.{test-says, says-test}
 use Rattle.promises.specs.Editing.{number-is}
 
 -- ---- how one is made
@@ -145,3 +146,15 @@ text-else ns l e = rw e
 pub listing-else : (ns : List (List ℕ)) (l : List ℕ) → error-line? l ≡ false → line-listing ns l ≡ listing ns l
 unfolding line-listing line-text listing listing-text direct-listing
 listing-else ns l e = rw e
+
+-- lines that all pass the test can all be listed
+pub all-listable : (ns ls : List (List ℕ)) → T (every (listable? lawful-number? ns) ls) → AllListable ns ls
+all-listable ns ls t l m = listable-says ns l (every-member (listable? lawful-number? ns) ls t l m)
+
+-- and of others there is one that cannot
+pub says-unlistable : (ns ls : List (List ℕ)) → Says (not (every (listable? lawful-number? ns) ls)) (SomeUnlistable ns ls)
+says-unlistable ns ls = go (every (listable? lawful-number? ns) ls) refl
+  where
+    go : (b : Bool) → every (listable? lawful-number? ns) ls ≡ b → Says (not b) (SomeUnlistable ns ls)
+    go true e = ((λ x. absurd (subst T (sym x) tt)), (λ x s. s .2 (all-listable ns ls (as-T _ e) (s .0) (s .1))))
+    go false e = ((λ x. let r = some-fails (listable? lawful-number? ns) ls e in (r .0, r .1, (λ w. subst T (r .2) (says-listable ns (r .0) w)))), (λ x. absurd (subst T x tt)))

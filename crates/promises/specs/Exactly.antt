@@ -22,12 +22,12 @@ use Rattle.laws.specs.Tests.{and-left, and-right, as-T, or-else}
 use Rattle.laws.specs.Names.{names-added, adds-front, name-bytes-append}
 use Rattle.promises.specs.Terms.{after-blanks, digit-count, number-in, number-end, past-number, FirstHolding, none-holds, this-holds, later-holds, Exactly, SoundState, Unsound, TextTooLong, NoLineNumber, Unread, TooFar, Giving, names-with, NamesLackRoom, line-with, LineTooLong, old-size, StoreLacksRoom, NoSuchLine, OfLine, entry-refusals, deletion-refusals, text-refusals, listing-refusals}
 use Rattle.promises.specs.ErrorLines.{listable-says, says-listable}
-use Rattle.promises.specs.Decoding.{line-number-of}
+use Rattle.grounds.specs.Decoding.{line-number-of}
 use Rattle.promises.specs.Stored.{no-lower}
 use Rattle.promises.specs.States.{state-says, says-state, room-for}
 use Rattle.promises.specs.Refusals.{Refusal, no-reading, too-far, translation-refused}
 use Rattle.promises.specs.Accepted.{translated-lawful}
-use Rattle.promises.specs.Lists.{run-whole}
+use Rattle.grounds.specs.Lists.{run-whole}
 use Rattle.promises.specs.ReEntry.{put-size}
 use Rattle.promises.specs.OnePlace.{not-both, one-tokens, translated-readable, not-refused}
 use Rattle.promises.specs.Tested.{exactly, Says, says-less, says-not, tested, passed}

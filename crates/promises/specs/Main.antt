@@ -20,9 +20,9 @@ use Rattle.paper.specs.Store.{room, line-at, put-line}
 use Rattle.paper.specs.Calls.{State, names-of, lines-of, sound-state, enter, list}
 use Rattle.promises.specs.Terms.{number-end, past-number, items-in, NoReading, OutOfRange, Readable, Exactly, Unread, TooFar, text-refusals, listing-refusals, Edited, Written, HoldsWellFormed, CutTo, old-size, with-lines, accepted-with}
 use Rattle.promises.specs.ConstantRight as ConstantRight′
-use Rattle.promises.specs.ConstantSize as ConstantSize′
-use Rattle.promises.specs.RoundTrip as RoundTrip′
-use Rattle.promises.specs.WellFormedTest as WellFormedTest′
+use Rattle.grounds.specs.ConstantSize as ConstantSize′
+use Rattle.grounds.specs.RoundTrip as RoundTrip′
+use Rattle.grounds.specs.WellFormedTest as WellFormedTest′
 use Rattle.promises.specs.Answers as Answers′
 use Rattle.promises.specs.Listings as Listings′
 use Rattle.promises.specs.Editing as Editing′

@@ -11,7 +11,7 @@ use Rattle.paper.specs.Names.{names-in, name-bytes, name?, less-open, known?, a
 use Rattle.laws.specs.Tests.{and-left, and-right, and-both, as-T, is-true, is-false}
 use Rattle.laws.specs.Names.{known-front, name-added, add-append, known-added, name-passes, adds-keep, adds-keep-any, names-of-bytes, names-plain}
 use Rattle.laws.specs.Tables.{same-sym, known-none, known-cons, known-snoc}
-use Rattle.promises.specs.Lists.{or-false-left, or-false-right, every-append}
+use Rattle.grounds.specs.Lists.{or-false-left, or-false-right, every-append}
 use Rattle.promises.specs.Scanned.{new-name?}
 
 -- the bytes of names, read back, are the names

@@ -14,8 +14,8 @@ use Rattle.paper.specs.WellFormed.{tokens-of, Lawful}
 use Rattle.paper.specs.Calls.{Translated, tokens, refused-at, translate}
 use Rattle.laws.specs.Tests.{and-left}
 use Rattle.promises.specs.Terms.{LawfulItems, in-range?, NoReading, OutOfRange, Readable, Unread, TooFar}
-use Rattle.promises.specs.Lists.{every-right}
-use Rattle.promises.specs.Place.{sources, Told, told}
+use Rattle.grounds.specs.Lists.{every-right}
+use Rattle.grounds.specs.Place.{sources, Told, told}
 use Rattle.promises.specs.Refusals.{Refusal, no-reading, too-far, taken-in-range, translation-refused}
 use Rattle.promises.specs.Accepted.{translate-says, translated-lawful}
 

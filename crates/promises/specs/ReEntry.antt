@@ -21,7 +21,7 @@ use Rattle.paper.specs.Calls.{State, names-of, lines-of, sound-state, with-name
 use Rattle.laws.specs.Tests.{is-true}
 use Rattle.laws.specs.Lines.{joined-append, both-sides, old-line, three-parts, room-lent}
 use Rattle.promises.specs.Terms.{SoundState, old-size, with-lines, accepted-with}
-use Rattle.promises.specs.RoundTrip.{no-new-names}
+use Rattle.grounds.specs.RoundTrip.{no-new-names}
 use Rattle.promises.specs.States.{state-says}
 use Rattle.promises.specs.Listings.{ListAnswer, ListedLine, list-answer, writes, written-so}
 use Rattle.promises.specs.ErrorLines.{formed-else, listing-else}

@@ -17,12 +17,12 @@ use Rattle.paper.specs.Calls.{refused-at, place-of, outcome, translate}
 use Rattle.laws.specs.Tests.{and-both}
 use Rattle.laws.specs.Ends.{Ends, refused-ends, end-in}
 use Rattle.promises.specs.Terms.{LawfulItems, in-range?, NoReading, OutOfRange, EndsThere}
-use Rattle.promises.specs.Viable.{completion}
-use Rattle.promises.specs.FrameTables.{infos}
-use Rattle.promises.specs.Place as Place′
-use Rattle.promises.specs.Place.{open-at, end-of, sources, Stop}
-use Rattle.promises.specs.PlaceGrammar.{First, refused-first, goes-on, item-of}
-use Rattle.promises.specs.InRange.{out?, NoneOut, Refused, by-grammar, by-range, Agrees, agrees}
+use Rattle.grounds.specs.Viable.{completion}
+use Rattle.grounds.specs.FrameTables.{infos}
+use Rattle.grounds.specs.Place as Place′
+use Rattle.grounds.specs.Place.{open-at, end-of, sources, Stop}
+use Rattle.grounds.specs.PlaceGrammar.{First, refused-first, goes-on, item-of}
+use Rattle.grounds.specs.InRange.{out?, NoneOut, Refused, by-grammar, by-range, Agrees, agrees}
 use Rattle.promises.specs.Scanned.{scanned-items}
 use Rattle.promises.specs.Ending.{Settled, settled}
 

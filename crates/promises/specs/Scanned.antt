@@ -19,10 +19,10 @@ use Rattle.paper.specs.Open.{all-Bytes, all-Words, all-Tokens}
 use Rattle.laws.specs.Tests.{and-left, and-right, and-both, as-T}
 use Rattle.laws.specs.Runs.{All, run-all}
 use Rattle.laws.specs.Classes.{at-kind}
-use Rattle.promises.specs.NameReads.{open-plain, open-last}
+use Rattle.grounds.specs.NameReads.{open-plain, open-last}
 use Rattle.promises.specs.ConstantRight.{six-right}
-use Rattle.promises.specs.Given.{at-class}
-use Rattle.promises.specs.Closed.{end-class?}
+use Rattle.grounds.specs.Given.{at-class}
+use Rattle.grounds.specs.Closed.{end-class?}
 
 -- a name that may be added to a table
 unfoldable pub new-name? : List ℕ → Bool

@@ -16,7 +16,7 @@ use Rattle.laws.specs.Tests.{and-left, and-right, and-both, as-T, is-true}
 use Rattle.laws.specs.Names.{same-self, same-eq, name-bytes-append}
 use Rattle.laws.specs.Tables.{length-entries}
 use Rattle.promises.specs.Terms.{Agrees, SoundTable, SoundState, Carried}
-use Rattle.promises.specs.Lists.{or-false-left, or-false-right}
+use Rattle.grounds.specs.Lists.{or-false-left, or-false-right}
 use Rattle.promises.specs.NameTable.{NamesGood, names-back}
 use Rattle.promises.specs.Stored.{Extended, extended, over-past, Holds}
 

@@ -14,31 +14,34 @@ use Rattle.paper.specs.Store.{lines-in, whole-line?, rising-above, rising, soun
 use Rattle.laws.specs.Tests.{and-left, and-right, and-both}
 use Rattle.laws.specs.Lines.{lines-back, room-lent}
 use Rattle.promises.specs.Terms.{AtFront}
-use Rattle.promises.specs.Lists.{every-append}
+use Rattle.grounds.specs.Lists.{every-append}
 
 -- ---- an edit, line by line
 
 module _ (n : ℕ) where
   -- the lines with x in the place of a line with number n
-  unfoldable edited-lines : List (List ℕ) → List (List ℕ) → List (List ℕ)
+  unfoldable pub edited-lines : List (List ℕ) → List (List ℕ) → List (List ℕ)
   edited-lines x ls = lines-below n ls ++ (x ++ lines-above n ls)
 
-  -- one line at a time
-  step-below : (x : List (List ℕ)) (l : List ℕ) (ls : List (List ℕ)) → ltb (line-number l) n ≡ true → edited-lines x (l ∷ ls) ≡ l ∷ edited-lines x ls
+  -- one line at a time: below the number
+  pub step-below : (x : List (List ℕ)) (l : List ℕ) (ls : List (List ℕ)) → ltb (line-number l) n ≡ true → edited-lines x (l ∷ ls) ≡ l ∷ edited-lines x ls
   unfolding edited-lines lines-below lines-above lines-not-below
   step-below x l ls h = rw (h)
 
-  step-same : (x : List (List ℕ)) (l : List ℕ) (ls : List (List ℕ)) → ltb (line-number l) n ≡ false → eqb (line-number l) n ≡ true → edited-lines x (l ∷ ls) ≡ x ++ ls
+  -- at the number
+  pub step-same : (x : List (List ℕ)) (l : List ℕ) (ls : List (List ℕ)) → ltb (line-number l) n ≡ false → eqb (line-number l) n ≡ true → edited-lines x (l ∷ ls) ≡ x ++ ls
   unfolding edited-lines lines-below lines-above lines-not-below first-is?
   step-same x l ls h e = rw (h, e)
 
-  step-above : (x : List (List ℕ)) (l : List ℕ) (ls : List (List ℕ)) → ltb (line-number l) n ≡ false → eqb (line-number l) n ≡ false → edited-lines x (l ∷ ls) ≡ x ++ l ∷ ls
+  -- above it
+  pub step-above : (x : List (List ℕ)) (l : List ℕ) (ls : List (List ℕ)) → ltb (line-number l) n ≡ false → eqb (line-number l) n ≡ false → edited-lines x (l ∷ ls) ≡ x ++ l ∷ ls
   unfolding edited-lines lines-below lines-above lines-not-below first-is?
   step-above x l ls h e = rw (h, e)
 
 -- ---- whole lines, rising
 
-empty-edit : (n : ℕ) (x : List (List ℕ)) → edited-lines n x [] ≡ x
+-- an edit of no lines
+pub empty-edit : (n : ℕ) (x : List (List ℕ)) → edited-lines n x [] ≡ x
 unfolding edited-lines lines-below lines-above lines-not-below first-is?
 empty-edit n x = append-nil x
 
@@ -55,7 +58,7 @@ every-edit n p x (l ∷ ls) a b =
     every-go n p x l ls a (and-left (p l) (every p ls) b) (and-right (p l) (every p ls) b) (every-edit n p x ls a (and-right (p l) (every p ls) b)) (ltb (line-number l) n) refl (eqb (line-number l) n) refl
 
 -- x may stand between lines below n and lines above n
-record Between (n : ℕ) (x : List (List ℕ)) : Type 0 where
+pub record Between (n : ℕ) (x : List (List ℕ)) : Type 0 where
   pub above : (k : ℕ) (ys : List (List ℕ)) → k < n → T (rising-above n ys) → T (rising-above k (x ++ ys))
   pub first : (ys : List (List ℕ)) → T (rising-above n ys) → T (rising (x ++ ys))
 
@@ -70,7 +73,8 @@ rising-go n x b k l ls h t u ih false e false g =
     let ne : line-number l ≡ n → ⊥ = eqb-false (line-number l) n g in
     subst (λ (z : List (List ℕ)). T (rising-above k z)) (sym (step-above n x l ls e g)) (b .above k (l ∷ ls) h (and-both (ltb n (line-number l)) _ (lt→ltb n (line-number l) (omega arith)) u))
 
-rising-edit : (n : ℕ) (x : List (List ℕ)) → Between n x → (k : ℕ) (ls : List (List ℕ)) → k < n → T (rising-above k ls) → T (rising-above k (edited-lines n x ls))
+-- an edit above a number leaves lines that rise above it
+pub rising-edit : (n : ℕ) (x : List (List ℕ)) → Between n x → (k : ℕ) (ls : List (List ℕ)) → k < n → T (rising-above k ls) → T (rising-above k (edited-lines n x ls))
 unfolding rising-above
 rising-edit n x b k [] h t = subst (λ (z : List (List ℕ)). T (rising-above k z)) (append-nil x ∙ sym (empty-edit n x)) (b .above k [] h tt)
 rising-edit n x b k (l ∷ ls) h t =
@@ -86,12 +90,14 @@ first-go n x b l ls u false e false g =
     let ne : line-number l ≡ n → ⊥ = eqb-false (line-number l) n g in
     subst (λ (z : List (List ℕ)). T (rising z)) (sym (step-above n x l ls e g)) (b .first (l ∷ ls) (and-both (ltb n (line-number l)) _ (lt→ltb n (line-number l) (omega arith)) u))
 
-rising-first : (n : ℕ) (x : List (List ℕ)) → Between n x → (ls : List (List ℕ)) → T (rising ls) → T (rising (edited-lines n x ls))
+-- and lines that rise
+pub rising-first : (n : ℕ) (x : List (List ℕ)) → Between n x → (ls : List (List ℕ)) → T (rising ls) → T (rising (edited-lines n x ls))
 unfolding rising rising-above
 rising-first n x b [] t = subst (λ (z : List (List ℕ)). T (rising z)) (append-nil x ∙ sym (empty-edit n x)) (b .first [] tt)
 rising-first n x b (l ∷ ls) t = first-go n x b l ls t (ltb (line-number l) n) refl (eqb (line-number l) n) refl
 
-sound-edit : (n : ℕ) (x ls : List (List ℕ)) → Between n x → T (every whole-line? x) → T (sound-lines ls) → T (sound-lines (edited-lines n x ls))
+-- an edit of sound lines leaves sound lines
+pub sound-edit : (n : ℕ) (x ls : List (List ℕ)) → Between n x → T (every whole-line? x) → T (sound-lines ls) → T (sound-lines (edited-lines n x ls))
 unfolding sound-lines
 sound-edit n x ls b w s =
     and-both (every whole-line? (edited-lines n x ls)) (rising (edited-lines n x ls)) (every-edit n whole-line? x ls w (and-left (every whole-line? ls) (rising ls) s)) (rising-first n x b ls (and-right (every whole-line? ls) (rising ls) s))
@@ -111,18 +117,22 @@ unfolding rising-above rising
 no-lower n [] t = tt
 no-lower n (y ∷ ys) t = and-right (ltb n (line-number y)) (rising-above (line-number y) ys) t
 
-none-between : (n : ℕ) → Between n []
+-- no line may stand there
+pub none-between : (n : ℕ) → Between n []
 none-between n = record { above = (λ k ys h t. lower k n ys h t); first = (λ ys t. no-lower n ys t) }
 
-one-between : (l : List ℕ) → Between (line-number l) (l ∷ [])
+-- and one with the number
+pub one-between : (l : List ℕ) → Between (line-number l) (l ∷ [])
 unfolding rising-above rising
 one-between l = record { above = (λ k ys h t. and-both (ltb k (line-number l)) (rising-above (line-number l) ys) (lt→ltb k (line-number l) h) t); first = (λ ys t. t) }
 
-put-is : (l : List ℕ) (ls : List (List ℕ)) → put-line l ls ≡ edited-lines (line-number l) (l ∷ []) ls
+-- a line put in is such an edit
+pub put-is : (l : List ℕ) (ls : List (List ℕ)) → put-line l ls ≡ edited-lines (line-number l) (l ∷ []) ls
 unfolding put-line edited-lines
 put-is l ls = refl
 
-out-is : (n : ℕ) (ls : List (List ℕ)) → take-out n ls ≡ edited-lines n [] ls
+-- and so is one taken out
+pub out-is : (n : ℕ) (ls : List (List ℕ)) → take-out n ls ≡ edited-lines n [] ls
 unfolding take-out edited-lines
 out-is n ls = refl
 
@@ -188,12 +198,17 @@ pub record Holds (ls : List (List ℕ)) (old : List ℕ) : Type 0 where
   pub sound : T (sound-store (overwritten (joined ls) old) (length (joined ls)))
   pub same-size : length (overwritten (joined ls) old) ≡ length old
 
+-- sound lines, written over any store, are its lines
+pub written-lines : (ls : List (List ℕ)) (old : List ℕ) → T (sound-lines ls) → lines-in (take (length (joined ls)) (overwritten (joined ls) old)) ≡ ls
+unfolding sound-lines
+written-lines ls old s = ap lines-in (over-take (joined ls) old) ∙ lines-back ls (and-left (every whole-line? ls) (rising ls) s)
+
 -- sound lines that fit are held
 pub holds : (ls : List (List ℕ)) (old : List ℕ) → T (sound-lines ls) → length (joined ls) ≤ room old → Holds ls old
-unfolding sound-store sound-lines room
+unfolding sound-store room
 holds ls old s h =
     let fits : length (joined ls) ≤ length old = fit (length (joined ls)) h in
-    let e : lines-in (take (length (joined ls)) (overwritten (joined ls) old)) ≡ ls = ap lines-in (over-take (joined ls) old) ∙ lines-back ls (and-left (every whole-line? ls) (rising ls) s) in
+    let e : lines-in (take (length (joined ls)) (overwritten (joined ls) old)) ≡ ls = written-lines ls old s in
     let r : room (overwritten (joined ls) old) ≡ room old = ap (λ (z : ℕ). pick (leb z 65535) z 65535) (over-length (joined ls) old fits) in
     record {
       lines = e;

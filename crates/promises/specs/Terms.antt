@@ -1,26 +1,23 @@
 -- The terms in which the promises are stated.
-use Prim.Native.Nat.{ℕ, zero, suc, _+_, _-_, _*_, _^_, _≤_, _<_}
+use Prim.Native.Nat.{ℕ, zero, _+_, _*_, _^_, _≤_, _<_}
 use mathlib.Core.Path.{_≡_}
 use mathlib.Core.Bool.{Bool, false, not, _&&_}
 use mathlib.Core.Logic.{_↔_, _⊎_}
 use mathlib.Core.List.{List, [], _∷_, _++_, List·Memᴰ}
-use lib.Dec.{T, eqb, leb}
-use lib.ListN.{length, take, drop, getD}
+use lib.Dec.{T, eqb}
+use lib.ListN.{length, take, drop}
 use Rattle.paper.specs.Bytes.{pick, bytes, blank, every, joined, blank?, digit?, run}
 use Rattle.paper.specs.Tokens.{Token, out-of-range, out-of-range?}
 use Rattle.paper.specs.Constants.{value, five, six}
-use Rattle.paper.specs.Names.{most-names, names-in, sound-names, name-bytes, add-names, value-entries}
-use Rattle.paper.specs.Items.{Item, Span, span-of, no-span, size-at, items, raw-byte?}
-use Rattle.paper.specs.Line.{line-bytes, line-number, lawful-number?, direct-number, direct-number?, tokens-from, line-tokens}
+use Rattle.paper.specs.Names.{most-names, sound-names, name-bytes, add-names, value-entries}
+use Rattle.paper.specs.Items.{Item, Span, span-of, no-span, size-at, items}
+use Rattle.paper.specs.Line.{line-bytes, line-number, lawful-number?, direct-number}
 use Rattle.paper.specs.WellFormed.{Lawful, Formed, WellFormed, WellFormedDirect}
 use Rattle.paper.specs.Listing.{decimal, listing}
-use Rattle.paper.specs.Errors.{marked-at, error-line, keepable?, error-line?, line-text, line-listing}
+use Rattle.paper.specs.Errors.{marked-at, error-line, keepable?, error-line?, line-listing}
 use Rattle.paper.specs.Store.{greatest-number, sound-lines, room, stored?, line-at, overwritten}
 use Rattle.paper.specs.Calls.{State, names-of, lines-of, sound-state, Entered, refusal, enter, Listed}
-use Rattle.paper.specs.Direct.{Typed, typed, line-in}
-use Rattle.paper.specs.Batch.{RefusedLine, none-refused, Batched, no-lines, batch}
-use Rattle.paper.specs.Examine.{Verdict, examine}
-use Rattle.paper.specs.Files.{saved-words, saved-file, Saved, word-at, head-size, Parts, parts-of, Loaded, load}
+use Rattle.paper.specs.Direct.{Typed}
 
 -- ---- a text's number and items
 
@@ -230,26 +227,6 @@ deletion-refusals text s = (1, Unsound s) ∷ (2, TextTooLong text) ∷ (3, NoLi
 abbrev pub text-refusals : Bool → List ℕ → State → List (ℕ × Type 0)
 text-refusals keep text s = pick (every blank? (past-number text)) (deletion-refusals text s) (pick keep (kept-refusals text s) (entry-refusals text s))
 
--- 8 of a line without a number: the line buffer is shorter than the line
-abbrev pub BufferTooShort : List ℕ → State → List Token → Type 0
-BufferTooShort buffer s ts = length buffer < length (line-with s direct-number ts)
-
--- typing a line without a number, whose items are those of the whole text
-abbrev pub direct-refusals : List ℕ → State → List ℕ → List (ℕ × Type 0)
-direct-refusals text s buffer =
-    (1, Unsound s)
-    ∷ (2, TextTooLong text)
-    ∷ (4, Unread (items 0 text))
-    ∷ (5, TooFar (items 0 text))
-    ∷ (6, Giving (items 0 text) (λ ts. NamesLackRoom s (names-with s ts)))
-    ∷ (7, Giving (items 0 text) (LineTooLong s direct-number))
-    ∷ (8, Giving (items 0 text) (BufferTooShort buffer s))
-    ∷ []
-
--- typing any text
-abbrev pub typed-refusals : Bool → List ℕ → State → List ℕ → List (ℕ × Type 0)
-typed-refusals keep text s buffer = pick (direct? text) (direct-refusals text s buffer) (text-refusals keep text s)
-
 -- a line that can be listed: well-formed, or an error line with a number that it may have
 abbrev pub Listable : (ℕ → Bool) → List (List ℕ) → List ℕ → Type 0
 Listable lawful? ns l = Formed lawful? ns l ⊎ (T (lawful? (line-number l)) × T (error-line? l))
@@ -263,49 +240,13 @@ listing-refusals n s output =
     ∷ (11, OfLine n s (λ l. length output < length (line-listing (names-of s) l)))
     ∷ []
 
--- listing a line buffer; 1: the names are unsound, or the values lack room for all; 10: the line at its front is neither well-formed nor an error line
--- with number 32768
-abbrev pub show-refusals : List ℕ → List ℕ → ℕ → ℕ → List ℕ → List ℕ → List (ℕ × Type 0)
-show-refusals buffer names size count values output =
-    (1, SoundTable (names-in (take size names)) names size count × (8 * count ≤ length values) → ⊥)
-    ∷ (10, Listable direct-number? (names-in (take size names)) (line-in buffer) → ⊥)
-    ∷ (11, length output < length (line-text (names-in (take size names)) (line-in buffer)))
-    ∷ []
+-- every line of a list can be listed over the names
+abbrev pub AllListable : List (List ℕ) → List (List ℕ) → Type 0
+AllListable ns ls = (l : List ℕ) → List·Memᴰ l ls → Listable lawful-number? ns l
 
--- 8 of the writer: the last word is above 65,535, or the buffer is shorter than the file
-abbrev pub FileTooLong : State → List ℕ → Type 0
-FileTooLong s output = (65535 < getD (saved-words s) 6 0) ⊎ (length output < length (saved-file s))
-
--- writing a file
-abbrev pub save-refusals : State → List ℕ → List (ℕ × Type 0)
-save-refusals s output = (1, Unsound s) ∷ (8, FileTooLong s output) ∷ []
-
--- 12: a file under 14 bytes, or a first word that is not zero
-abbrev pub NoHead : List ℕ → Type 0
-NoHead file = (length file < 14) ⊎ (word-at file 0 ≡ 0 → ⊥)
-
--- 13 if not: words never fall, the block is as long as the last word less the second, the values start just past the place of the third, and a zero byte
--- stands there
-pub record RightWords (file : List ℕ) : Type 0 where
-  pub rise : (i : ℕ) → i < 6 → word-at file i ≤ word-at file (suc i)
-  pub block : length (drop head-size file) ≡ word-at file 6 - word-at file 1
-  pub values : word-at file 3 ≡ suc (word-at file 2)
-  pub zero-byte : getD (drop head-size file) (word-at file 2 - word-at file 1) 1 ≡ 0
-
--- 1 if not: the bytes of the names are sound names, the values are eight bytes a name, the lines are sound
-pub record SoundParts (p : Parts) : Type 0 where
-  pub bytes : name-bytes (names-in (p .names)) ≡ p .names
-  pub names : T (sound-names (names-in (p .names)))
-  pub values : length (p .values) ≡ 8 * length (names-in (p .names))
-  pub lines : T (sound-lines (p .lines))
-
--- 8 of the reader: a lent buffer is too small
-abbrev pub BufferTooSmall : Parts → State → Type 0
-BufferTooSmall p s = (length (s .names) < length (p .names)) ⊎ ((length (s .values) < length (p .values)) ⊎ (room (s .store) < length (joined (p .lines))))
-
--- reading a file
-abbrev pub load-refusals : List ℕ → State → List (ℕ × Type 0)
-load-refusals file s = (12, NoHead file) ∷ (13, (RightWords file → ⊥)) ∷ (1, (SoundParts (parts-of file) → ⊥)) ∷ (8, BufferTooSmall (parts-of file) s) ∷ []
+-- 10 of lines: some line is neither well-formed over the names nor an error line
+abbrev pub SomeUnlistable : List (List ℕ) → List (List ℕ) → Type 0
+SomeUnlistable ns ls = (l : List ℕ) × List·Memᴰ l ls × (Listable lawful-number? ns l → ⊥)
 
 -- ---- what an edit leaves
 
@@ -361,7 +302,7 @@ HoldsWellFormed s = (l : List ℕ) → List·Memᴰ l (lines-of s) → WellForme
 
 -- every line of the store is well-formed over the names or an error line (document 02, §9)
 abbrev pub HoldsListable : State → Type 0
-HoldsListable s = (l : List ℕ) → List·Memᴰ l (lines-of s) → Listable lawful-number? (names-of s) l
+HoldsListable s = AllListable (names-of s) (lines-of s)
 
 -- a text that is refused with 4 and can be kept
 unfoldable pub can-keep? : List ℕ → State → Bool
@@ -436,16 +377,6 @@ pub record Written (text output : List ℕ) (e : Listed) : Type 0 where
   pub count : e .written ≡ length text
   pub there : AtFront text output (e .output)
 
--- ---- the record
-
--- A record that is reached from an empty one by calls, with wrong lines kept or not, whatever they answer. An empty record has no bytes used and two zeros; nothing is asked of
--- its tables.
-pub data Reached : State → Type 0 where
-  empty-record : (s : State) → s .used ≡ 0 → s .line-count ≡ 0 → s .greatest ≡ 0 → Reached s
-  after-typed : (keep : Bool) (text : List ℕ) (s : State) (buffer : List ℕ) → Reached s → Reached ((typed keep text s buffer) .entered .after)
-  after-batch : (keep : Bool) (text : List ℕ) (s : State) → Reached s → Reached ((batch keep text s) .after)
-  after-file : (file : List ℕ) (s : State) → Reached s → Reached ((load file s) .after)
-
 -- ---- constants
 
 -- The six bytes of a value v * 10 ^ u / 10 ^ d that is not zero. The first is k + 15, which is 64 + e where k = e + 49. The other five are the
@@ -472,159 +403,9 @@ with-lines s ls =
 unfoldable pub accepted-with : State → Entered
 accepted-with after = record { number = 0; place = no-span; added = 0; after = after }
 
--- ---- a whole listing at once (document 02, §3)
-
--- A parting of texts into lines: no bytes are no line; a line and its 9B stand before the lines of what follows; bytes without a 9B are one line.
-pub record Parting (lines : List ℕ → List (List ℕ)) : Type 0 where
-  pub none : lines [] ≡ []
-  pub ended : (l rest : List ℕ) → T (every raw-byte? l) → lines (l ++ 0x9b ∷ rest) ≡ l ∷ lines rest
-  pub last : (b : ℕ) (l : List ℕ) → T (every raw-byte? (b ∷ l)) → lines (b ∷ l) ≡ (b ∷ l) ∷ []
-
--- Answers to lines, a line each: its number is exactly that of the first condition that holds of the line, over the state that the lines before it left.
-pub data EachExactly (keep : Bool) : List (List ℕ) → State → List Entered → Type 1 where
-  no-answer : (s : State) → EachExactly keep [] s []
-  answer-and : {l : List ℕ} {ls : List (List ℕ)} {s : State} {e : Entered} {es : List Entered} → Exactly (text-refusals keep l s) (e .number) → EachExactly keep ls (e .after) es → EachExactly keep (l ∷ ls) s (e ∷ es)
-
--- an answer that takes its line
-unfoldable pub takes? : Entered → Bool
-takes? e = eqb (e .number) 0
-
--- how many answers pass a test
-unfoldable pub how-many : (Entered → Bool) → List Entered → ℕ
-how-many p [] = 0
-how-many p (e ∷ es) = let n = how-many p es in pick (p e) (suc n) n
-
--- the state after calls with these answers: the last one's, or that before them if there is none
-unfoldable pub state-after : State → List Entered → State
-state-after s [] = s
-state-after s (e ∷ es) = state-after (e .after) es
-
--- the first refusal among answers, the first of which is that of line i: all before it take their lines
-pub record FirstRefused (i : ℕ) (es : List Entered) (first : RefusedLine) : Type 0 where
-  pub before : List Entered
-  pub here : Entered
-  pub rest : List Entered
-  pub answers : es ≡ before ++ here ∷ rest
-  pub none-before : T (every takes? before)
-  pub refuses : here .number ≡ 0 → ⊥
-  pub is : first ≡ record { number = here .number; place = here .place; line = i + length before }
-
--- what the one call for many lines says of their answers: how many take their lines and how many do not, the first that does not, and the state after all
-pub record Summed (s : State) (es : List Entered) (b : Batched) : Type 0 where
-  pub taken : b .taken ≡ how-many takes? es
-  pub refused : b .refused ≡ how-many (λ e. not (takes? e)) es
-  pub first : (T (every takes? es) × (b .first ≡ none-refused)) ⊎ FirstRefused 1 es (b .first)
-  pub after : b .after ≡ state-after s es
-
--- The answer to two texts, one after the other, from the answer to each: the counts are added; the first refusal is that of the first text, or if it has
--- none that of the second, with its line counted on.
-unfoldable pub one-then : Batched → Batched → Batched
-one-then x y =
-    let counted-on : RefusedLine = record { number = y .first .number; place = y .first .place; line = x .taken + x .refused + y .first .line } in
-    let in-second : RefusedLine = pick (eqb (y .refused) 0) none-refused counted-on in
-    record { taken = x .taken + y .taken; refused = x .refused + y .refused; first = pick (eqb (x .refused) 0) in-second (x .first); after = y .after }
-
--- n lines, each refused with 1, the first of them as the first refusal
-unfoldable pub all-unsound : ℕ → State → Batched
-all-unsound zero s = no-lines s
-all-unsound (suc n) s = record { taken = 0; refused = suc n; first = record { number = 1; place = no-span; line = 1 }; after = s }
-
--- ---- programs from other tokenizers (document 02, §10)
-
--- what is answered to the tables and the store of a state; the record's pair has no part in it
-abbrev pub examined : State → Verdict
-examined s = examine (s .names) (s .name-size) (s .name-count) (s .values) (s .store) (s .used)
-
--- examining a program; 1: the names are unsound; 2: the values lack room for all; 3: more bytes are used than there is room for, or they are no sound lines;
--- 4: a line is not well-formed over the names
-abbrev pub faults : State → List (ℕ × Type 0)
-faults s =
-    (1, SoundTable (names-of s) (s .names) (s .name-size) (s .name-count) → ⊥)
-    ∷ (2, 8 * s .name-count ≤ length (s .values) → ⊥)
-    ∷ (3, (s .used ≤ room (s .store)) × T (sound-lines (lines-of s)) → ⊥)
-    ∷ (4, HoldsWellFormed s → ⊥)
-    ∷ []
-
--- the first bad line: it has this number and is not well-formed, and all before it are
-pub record FirstBad (s : State) (n : ℕ) : Type 0 where
-  pub before : List (List ℕ)
-  pub line : List ℕ
-  pub after : List (List ℕ)
-  pub lines : lines-of s ≡ before ++ line ∷ after
-  pub number : line-number line ≡ n
-  pub good-before : (l : List ℕ) → List·Memᴰ l before → WellFormed (names-of s) l
-  pub bad : WellFormed (names-of s) line → ⊥
-
--- a line that can be entered again: it has at most 255 bytes (where the entries of the store are bytes every line has), and its listing at most 120
-unfoldable pub short? : List (List ℕ) → List ℕ → Bool
-short? ns l = leb (length l) 255 && leb (length (listing ns l)) 120
-
--- an answer that takes its line and adds no name
-unfoldable pub adds-none? : Entered → Bool
-adds-none? e = takes? e && eqb (e .added) 0
-
--- The answers es rebuild the program of s from the state with its tables and an empty store: each takes its line and adds no name, they leave the tables as
--- they were, with the lines in the store, and the same bytes are used.
-pub record Rebuilt (s empty : State) (es : List Entered) : Type 0 where
-  pub taken : T (every adds-none? es)
-  pub after : state-after empty es ≡ with-lines empty (lines-of s)
-  pub used-bytes : take ((state-after empty es) .used) ((state-after empty es) .store) ≡ take (s .used) (s .store)
-
 -- ---- more than 128 names (document 02, §11)
-
--- The two forms of a variable's token: one byte, 80 and the number; from number 128 on two, 00 and the number less 128.
-pub data Form (i : ℕ) (v : List ℕ) : Type 0 where
-  one-byte : i < 128 → v ≡ (0x80 + i) ∷ [] → Form i v
-  two-bytes : 128 ≤ i → i < 256 → v ≡ 0 ∷ (i - 128) ∷ [] → Form i v
 
 -- bytes in which a variable's token begins with 00 and `byte`: at their front, within a statement, or after the offset and 36 that begin one
 pub data LongForm (byte : ℕ) : ℕ → ℕ → List ℕ → Type 0 where
   within : (at end : ℕ) (rest : List ℕ) → (at ≡ end → ⊥) → LongForm byte at end (0 ∷ byte ∷ rest)
   assigned-to : (at offset : ℕ) (rest : List ℕ) → LongForm byte at at (offset ∷ 0x36 ∷ 0 ∷ byte ∷ rest)
-
--- a line in whose reading 00 and `byte` stand where a variable's token does
-pub record ReadsLong (ns : List (List ℕ)) (l : List ℕ) (byte : ℕ) : Type 0 where
-  pub before : List Token
-  pub at : ℕ
-  pub end : ℕ
-  pub bytes : List ℕ
-  pub read : line-tokens ns l ≡ before ++ tokens-from ns 0 at end bytes
-  pub long : LongForm byte at end bytes
-
--- ---- the saved program file (document 02, §7)
-
--- What an accepted call writes: the program is sound; its file stands at the buffer's front, no other byte has changed, and its length is answered.
-pub record SavedWritten (s : State) (output : List ℕ) (e : Saved) : Type 0 where
-  pub sound : T (sound-state s)
-  pub count : e .written ≡ length (saved-file s)
-  pub there : AtFront (saved-file s) output (e .output)
-
--- What an accepted file leaves: a sound state, whose record agrees; the file's names, values and lines stand at the fronts of the buffers, just the bytes that
--- the record counts, and no other byte has changed.
-pub record Holding (p : Parts) (s after : State) : Type 0 where
-  pub sound : T (sound-state after)
-  pub name-size : after .name-size ≡ length (p .names)
-  pub value-size : 8 * after .name-count ≡ length (p .values)
-  pub used : after .used ≡ length (joined (p .lines))
-  pub lines : lines-of after ≡ p .lines
-  pub names : AtFront (p .names) (s .names) (after .names)
-  pub values : AtFront (p .values) (s .values) (after .values)
-  pub store : AtFront (joined (p .lines)) (s .store) (after .store)
-
--- buffers with room for a program
-pub record RoomFor (s t : State) : Type 0 where
-  pub names : s .name-size ≤ length (t .names)
-  pub values : 8 * s .name-count ≤ length (t .values)
-  pub store : s .used ≤ room (t .store)
-
--- a program read back: names, values, lines and the whole record are as they were
-pub record ReadBack (s : State) (l : Loaded) : Type 0 where
-  pub number : l .number ≡ 0
-  pub names : take (s .name-size) (l .after .names) ≡ take (s .name-size) (s .names)
-  pub values : take (8 * s .name-count) (l .after .values) ≡ take (8 * s .name-count) (s .values)
-  pub lines : take (s .used) (l .after .store) ≡ take (s .used) (s .store)
-  pub name-size : l .after .name-size ≡ s .name-size
-  pub name-count : l .after .name-count ≡ s .name-count
-  pub used : l .after .used ≡ s .used
-  pub line-count : l .after .line-count ≡ s .line-count
-  pub greatest : l .after .greatest ≡ s .greatest

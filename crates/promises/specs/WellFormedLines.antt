@@ -14,7 +14,7 @@ use Rattle.paper.specs.Calls.{State, names-of, lines-of, Entered, enter, enter-
 use Rattle.paper.specs.Direct.{typed}
 use Rattle.promises.specs.Terms.{number-in, line-with, error-line-for, Listable, PutIn, TakenOut, Edited, line-put, line-gone, HoldsWellFormed, HoldsListable, LineKept, SameStore}
 use Rattle.promises.specs.Editing.{after-any}
-use Rattle.promises.specs.Growing.{grown}
+use Rattle.grounds.specs.Growing.{grown}
 use Rattle.promises.specs.KeptLines.{after-any-with}
 use Rattle.promises.specs.DirectLines.{after-any-typed}
 
