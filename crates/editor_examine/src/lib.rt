@@ -1,6 +1,8 @@
 // A program from another tokenizer: its tables and every line examined before a tag takes it. Nothing is written.
 use list_line::DEEPEST;
-use list_line::well_formed;
+use list_line::well_formed_over;
+use names_numbered::KINDS;
+use names_numbered::list_kinds;
 use store::GREATEST_NUMBER;
 use store::heads;
 ghost use mathlib.Core.Path.{_≡_};
@@ -61,10 +63,13 @@ fn bad_from(rest: &[u8], least: usize) -> Verdict
 }
 
 // Examines the lines of a store over a sound name table in one walk: each is tested by the lister's test, up to the first that is bad.
+// The kinds of the names are listed before, once for all lines.
 fn examine_lines(lines: &[u8], names: &[u8], name_bytes: usize) -> Verdict
     requires { ⌜ Sound (now names) «name_bytes» ⌝ }
     ensures { λ r. ⌜ verdict r ≡ lines-verdict (names-in (take «name_bytes» (now (names .entry)))) 0 (now (lines .entry)) ⌝ }
 {
+    let mut kinds = [0u8; KINDS];
+    list_kinds(buffers::front(names, name_bytes), &mut kinds);
     let mut frames = [0u8; DEEPEST];
     let mut rest = lines;
     let mut least: usize = 0;
@@ -73,7 +78,7 @@ fn examine_lines(lines: &[u8], names: &[u8], name_bytes: usize) -> Verdict
         if size == 0 {
             return Verdict::UnsoundStore;
         }
-        if !well_formed(&rest[..size], names, name_bytes, &mut frames) {
+        if !well_formed_over(&rest[..size], &kinds, &mut frames) {
             return bad_from(rest, least);
         }
         least = heads::number(rest) + 1;

@@ -4,3 +4,4 @@ pub mod Laid
 pub mod StackLaws
 pub mod Places
 pub mod Acting
+pub mod Common

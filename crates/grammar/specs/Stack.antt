@@ -1,6 +1,7 @@
 -- The stack of frames in a buffer, and what it does with an item.
 use Prim.Native.Nat.{ℕ, zero, suc, _+_, _≤_}
 use mathlib.Core.Path.{_≡_}
+use mathlib.Core.Bool.{Bool, true, false}
 use mathlib.Core.List.{List, [], _∷_, _++_}
 use lib.ListN.{getD}
 use lib.Dec.{eqb}
@@ -38,3 +39,8 @@ pub record Acts (old : List ℕ) (at c : ℕ) (r : Act) (new : List ℕ) : Type 
 pub record Steps (old : List ℕ) (depth c : ℕ) (r : Step) (new : List ℕ) : Type 0 where
   pub takes : (g d : ℕ) → r ≡ Step′.Took g d → (step look (stack old depth) c ≡ took (gives-of g) (stack new d)) × (d ≤ depth + 8)
   pub refuses : r ≡ Step′.Refused → (e : Gives) (gs : List ℕ) → step look (stack old depth) c ≡ took e gs → ⊥
+
+-- whether an item of a class joins terms: where more terms may follow it is taken, and wants an operand and more terms; any other is left
+pub record Joins (c : ℕ) (r : Bool) : Type 0 where
+  pub joins : r ≡ true → look 6 c ≡ take itself (5 ∷ 6 ∷ [])
+  pub leaves : r ≡ false → look 6 c ≡ leave

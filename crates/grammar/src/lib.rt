@@ -3,13 +3,17 @@ mod rows;
 
 use tokens::TO_PREFIX;
 use tokens::TO_STRINGS;
+use tokens::class;
 ghost use mathlib.Core.Path.{_≡_};
+ghost use mathlib.Core.Bool.{true};
+ghost use mathlib.Core.List.{[]};
 ghost use Prim.Native.Nat.{_+_, _≤_, _<_};
 ghost use lib.Dec.{T};
 ghost use lib.ListN.{length};
-ghost use Rattle.grammar.specs.Stack.{stack, gives-of, Acts, Steps};
+ghost use Rattle.paper.specs.Machine.{take};
+ghost use Rattle.grammar.specs.Stack.{stack, gives-of, Acts, Steps, Joins};
 ghost use Rattle.paper.specs.Tokens.{operator};
-ghost use Rattle.paper.specs.Grammar.{given, look};
+ghost use Rattle.paper.specs.Grammar.{itself, given, look};
 ghost use Rattle.laws.specs.Counts.{class-count};
 ghost use Rattle.grammar.specs.Tables.{fits?, unpacked, says?};
 ghost use Rattle.grammar.specs.Rows.{words};
@@ -105,6 +109,83 @@ pub fn take_item(frames: &mut [u8], depth: usize, class: u8) -> Step
         }
     }
     Step::Refused
+}
+
+// The frames that items meet most, by their numbers in the grammar.
+const END: u8 = 2;
+
+const OPERAND: u8 = 5;
+
+const MORE_TERMS: u8 = 6;
+
+const CLOSE: u8 = 9;
+
+const COMMA: u8 = 34;
+
+// Whether a frame is one of these and takes items of a class as they are, and then wants nothing.
+fn is_last(frame: u8, class: u8) -> bool
+    ensures { λ r. ⌜ (r ≡ true → look frame class ≡ take itself []) ⌝ }
+{
+    match frame {
+        END => class == class::LINE_END,
+        OPERAND => match class {
+            class::NUMBER => true,
+            class::NUMERIC_VARIABLE => true,
+            _ => false,
+        },
+        CLOSE => class == class::CLOSE_SIGN,
+        COMMA => class == class::COMMA,
+        _ => false,
+    }
+}
+
+// Whether items of a class join terms: `=`, comparisons, signs and factors, OR, AND.
+fn joins_terms(class: u8) -> bool
+    requires { ⌜ class < class-count ⌝ }
+    ensures { λ r. ⌜ Joins class r ⌝ }
+{
+    match class {
+        class::EQUALS => true,
+        class::COMPARISON => true,
+        class::PLUS_MINUS => true,
+        class::FACTOR_SIGN => true,
+        class::OR_AND => true,
+        _ => false,
+    }
+}
+
+// What a stack does with an item, as `take_item` says it; that its last frame takes the item and wants nothing is seen without the table.
+fn take_last(frames: &mut [u8], depth: usize, class: u8) -> Step
+    requires { ⌜ (depth + 8 ≤ length (now frames)) × (class < class-count) ⌝ }
+    ensures { λ r. ⌜ Steps (now (frames .entry)) depth class r (now (frames .exit)) ⌝ }
+{
+    if depth == 0 {
+        return Step::Refused;
+    }
+    let top = depth - 1;
+    if is_last(frames[top], class) {
+        return Step::Took(0, top);
+    }
+    take_item(frames, depth, class)
+}
+
+// The same; what most items meet is seen without the table: that more terms may follow, and then an item that joins them or another one.
+pub fn take_next(frames: &mut [u8], depth: usize, class: u8) -> Step
+    requires { ⌜ (depth + 8 ≤ length (now frames)) × (class < class-count) ⌝ }
+    ensures { λ r. ⌜ Steps (now (frames .entry)) depth class r (now (frames .exit)) ⌝ }
+{
+    if depth == 0 {
+        return Step::Refused;
+    }
+    let top = depth - 1;
+    if frames[top] != MORE_TERMS {
+        return take_last(frames, depth, class);
+    }
+    if joins_terms(class) {
+        frames[depth] = OPERAND;
+        return Step::Took(0, depth + 1);
+    }
+    take_last(frames, top, class)
 }
 
 // The operator that is given for the operator `own`, by the number of what is given: for those below 128, as all are but the end of raw text.

@@ -6,12 +6,15 @@ use tokens::StatementToken;
 use tokens::class;
 ghost use mathlib.Core.Path.{_≡_};
 ghost use mathlib.Core.List.{List};
-ghost use Prim.Native.Nat.{ℕ, _+_, _≤_, _<_};
-ghost use lib.ListN.{length, take};
+ghost use Prim.Native.Nat.{ℕ, _+_, _%_, _≤_, _<_};
+ghost use lib.ListN.{length, take, drop};
 ghost use Rattle.paper.specs.Names.{names-in};
 ghost use Rattle.laws.specs.Counts.{class-count};
 ghost use Rattle.list_pieces.specs.declared.Piece.the-variants.{Word, Text, Target, Variable, Constant, Quoted, Operator};
+ghost use Rattle.list_pieces.specs.Pieces.{size-of, end-after};
+ghost use Rattle.names_numbered.specs.Kinds.{kind-at, Kinds};
 ghost use Rattle.list_check.specs.Passes.{Ended, Checked};
+ghost use Rattle.list_check.specs.Walks.{Small, gone, Listed, Goes};
 ghost use Rattle.list_pieces.specs.Rest.{Numbered, Sound};
 
 // Whether a piece fits: with the depth of the stack after it, or not.
@@ -89,57 +92,52 @@ fn first_class(kind: u8) -> u8
     kind + (class::FIRST_NUMERIC - class::NUMERIC_VARIABLE)
 }
 
-// LET without its word, and the variable that comes first.
+// LET without its word, and the variable that comes first, whose name is of a kind.
 fn check_target(
     line: &[u8],
     at: usize,
     variable: VariableToken,
-    names: &[u8],
-    size: usize,
+    kind: u8,
     frames: &mut [u8],
     depth: usize,
 ) -> Fit
-    requires { ⌜ (at < length (now line)) × (depth + 24 ≤ length (now frames)) × Sound (now names) size ⌝ }
-    ensures { λ r. ⌜ Checked (names-in (take size (now (names .entry)))) (now (line .entry)) at (Target variable) (now (frames .entry)) depth r (now (frames .exit)) ⌝ }
+    requires { ⌜ (at < length (now line)) × (depth + 24 ≤ length (now frames)) ⌝ }
+    ensures { λ r. ⌜ ((ns : List (List ℕ)) → Numbered ns → kind ≡ kind-at ns (variable .number) → Checked ns (now (line .entry)) at (Target variable) (now (frames .entry)) depth r (now (frames .exit))) ⌝ }
 {
     if line.len() - at < 2 + variable.size as usize {
         return Fit::Fails;
     }
-    let number = variable.number as usize;
-    let name = names_numbered::name_at(names, size, number);
-    if name.end == name.from {
+    if kind == 0 {
         return Fit::Fails;
     }
-    if names_numbered::is_statement_word(names, size, number) {
+    if names_numbered::WORD <= kind {
         return Fit::Fails;
     }
-    match grammar::take_item(frames, depth, first_class(name.class)) {
+    match grammar::take_item(frames, depth, first_class(kind)) {
         Step::Took(_, d) => Fit::Fits(d),
         Step::Refused => Fit::Fails,
     }
 }
 
-// A variable.
+// A variable of a class, 0 where there is no such name.
 fn check_variable(
     line: &[u8],
     at: usize,
     variable: VariableToken,
-    names: &[u8],
-    size: usize,
+    own: u8,
     frames: &mut [u8],
     depth: usize,
 ) -> Fit
-    requires { ⌜ (at < length (now line)) × (depth + 24 ≤ length (now frames)) × Sound (now names) size ⌝ }
-    ensures { λ r. ⌜ Checked (names-in (take size (now (names .entry)))) (now (line .entry)) at (Variable variable) (now (frames .entry)) depth r (now (frames .exit)) ⌝ }
+    requires { ⌜ (at < length (now line)) × (depth + 24 ≤ length (now frames)) × (own < class-count) ⌝ }
+    ensures { λ r. ⌜ ((ns : List (List ℕ)) → Numbered ns → own ≡ kind-at ns (variable .number) % 8 → Checked ns (now (line .entry)) at (Variable variable) (now (frames .entry)) depth r (now (frames .exit))) ⌝ }
 {
     if line.len() - at < variable.size as usize {
         return Fit::Fails;
     }
-    let name = names_numbered::name_at(names, size, variable.number as usize);
-    if name.end == name.from {
+    if own == 0 {
         return Fit::Fails;
     }
-    match grammar::take_item(frames, depth, name.class) {
+    match grammar::take_next(frames, depth, own) {
         Step::Took(_, d) => Fit::Fits(d),
         Step::Refused => Fit::Fails,
     }
@@ -153,7 +151,7 @@ fn check_constant(line: &[u8], at: usize, frames: &mut [u8], depth: usize) -> Fi
     if !constant_text::is_right(line, at + 1) {
         return Fit::Fails;
     }
-    match grammar::take_item(frames, depth, class::NUMBER) {
+    match grammar::take_next(frames, depth, class::NUMBER) {
         Step::Took(_, d) => Fit::Fits(d),
         Step::Refused => Fit::Fails,
     }
@@ -184,7 +182,7 @@ fn check_operator(token: u8, frames: &mut [u8], depth: usize) -> Fit
     ensures { λ r. ⌜ ((ns : List (List ℕ)) → Numbered ns → (l : List ℕ) (at : ℕ) → at < length l → Checked ns l at (Operator token) (now (frames .entry)) depth r (now (frames .exit))) ⌝ }
 {
     let read = tokens::read_as(token);
-    match grammar::take_item(frames, depth, tokens::operator_class(read)) {
+    match grammar::take_next(frames, depth, tokens::operator_class(read)) {
         Step::Took(gives, d) => {
             if grammar::given_operator(gives, read) == token {
                 Fit::Fits(d)
@@ -196,7 +194,35 @@ fn check_operator(token: u8, frames: &mut [u8], depth: usize) -> Fit
     }
 }
 
-// Whether the piece at a place fits there.
+// The class of the name with a number, 0 where there is none.
+fn class_at(names: &[u8], size: usize, number: usize) -> u8
+    requires { ⌜ Sound (now names) size ⌝ }
+    ensures { λ r. ⌜ r ≡ kind-at (names-in (take size (now (names .entry)))) number % 8 ⌝ }
+{
+    let name = names_numbered::name_at(names, size, number);
+    if name.end == name.from {
+        return 0;
+    }
+    name.class
+}
+
+// The kind of the name with a number, 0 where there is none.
+fn kind_at(names: &[u8], size: usize, number: usize) -> u8
+    requires { ⌜ Sound (now names) size ⌝ }
+    ensures { λ r. ⌜ r ≡ kind-at (names-in (take size (now (names .entry)))) number ⌝ }
+{
+    let own = class_at(names, size, number);
+    if own == 0 {
+        return 0;
+    }
+    if names_numbered::is_statement_word(names, size, number) {
+        own + names_numbered::WORD
+    } else {
+        own
+    }
+}
+
+// Whether the piece at a place fits there, over a name table.
 pub fn check_piece(
     line: &[u8],
     at: usize,
@@ -212,11 +238,86 @@ pub fn check_piece(
     match piece {
         Piece::Word(token) => check_word(line, at, token, frames, depth),
         Piece::Text(token, n) => check_text(line, at, token, n, frames, depth),
-        Piece::Target(variable) => check_target(line, at, variable, names, size, frames, depth),
+        Piece::Target(variable) => {
+            let kind = kind_at(names, size, variable.number as usize);
+            check_target(line, at, variable, kind, frames, depth)
+        }
         Piece::NoTarget => Fit::Fails,
-        Piece::Variable(variable) => check_variable(line, at, variable, names, size, frames, depth),
+        Piece::Variable(variable) => {
+            let own = class_at(names, size, variable.number as usize);
+            check_variable(line, at, variable, own, frames, depth)
+        }
         Piece::Constant => check_constant(line, at, frames, depth),
         Piece::Quoted(n) => check_quoted(line, at, n, frames, depth),
         Piece::Operator(token) => check_operator(token, frames, depth),
+    }
+}
+
+// How a walk over a line goes on after a piece: so many bytes further, in a statement that ends there, over so many frames; or not.
+pub enum Walk {
+    On(usize, usize, usize),
+    Stops,
+}
+
+// How a walk goes on after a piece that fits or not.
+fn go_on(fit: Fit, line: &[u8], at: usize, end: usize, piece: Piece) -> Walk
+    requires { ⌜ (at < length (now line)) × Small piece fit ⌝ }
+    ensures { λ r. ⌜ r ≡ gone fit (size-of piece) (end-after end (drop at (now (line .entry))) piece) ⌝ }
+{
+    match fit {
+        Fit::Fits(d) => Walk::On(
+            list_pieces::size_of(piece),
+            list_pieces::end_after(line, at, end, piece),
+            d,
+        ),
+        Fit::Fails => Walk::Stops,
+    }
+}
+
+// How a walk goes on after the piece at a place, in a statement that ends at `end`, over a list of the kinds of all names.
+pub fn check_next(
+    line: &[u8],
+    at: usize,
+    end: usize,
+    kinds: &[u8],
+    frames: &mut [u8],
+    depth: usize,
+) -> Walk
+    requires { ⌜ (at < length (now line)) × (depth + 24 ≤ length (now frames)) × Listed (now kinds) ⌝ }
+    ensures { λ r. ⌜ ((ns : List (List ℕ)) → Numbered ns → Kinds ns (now (kinds .entry)) → Goes ns (now (line .entry)) at end (now (frames .entry)) depth r (now (frames .exit))) ⌝ }
+{
+    let piece = list_pieces::piece_at(line, at, end);
+    match piece {
+        Piece::Word(token) => {
+            let fit = check_word(line, at, token, frames, depth);
+            go_on(fit, line, at, end, piece)
+        }
+        Piece::Text(token, n) => {
+            let fit = check_text(line, at, token, n, frames, depth);
+            go_on(fit, line, at, end, piece)
+        }
+        Piece::Target(variable) => {
+            let kind = buffers::byte_at(kinds, variable.number as usize);
+            let fit = check_target(line, at, variable, kind, frames, depth);
+            go_on(fit, line, at, end, piece)
+        }
+        Piece::NoTarget => Walk::Stops,
+        Piece::Variable(variable) => {
+            let own = buffers::byte_at(kinds, variable.number as usize) % names_numbered::WORD;
+            let fit = check_variable(line, at, variable, own, frames, depth);
+            go_on(fit, line, at, end, piece)
+        }
+        Piece::Constant => {
+            let fit = check_constant(line, at, frames, depth);
+            go_on(fit, line, at, end, piece)
+        }
+        Piece::Quoted(n) => {
+            let fit = check_quoted(line, at, n, frames, depth);
+            go_on(fit, line, at, end, piece)
+        }
+        Piece::Operator(token) => {
+            let fit = check_operator(token, frames, depth);
+            go_on(fit, line, at, end, piece)
+        }
     }
 }

@@ -1,30 +1,31 @@
-// The test alone: whether a line is well-formed, by the first pass without the listing's length.
-use list_check::Fit;
+// The test alone: whether a line is well-formed, by the first pass without the listing's length, over a list of the kinds of all names.
+use list_check::Walk;
 ghost use mathlib.Core.Path.{_≡_};
-ghost use Prim.Native.Nat.{_≤_};
-ghost use lib.ListN.{length, take, getD};
+ghost use mathlib.Core.List.{List};
+ghost use Prim.Native.Nat.{ℕ, _≤_};
+ghost use lib.ListN.{length, getD};
 ghost use Rattle.paper.specs.Line.{lawful-number?};
-ghost use Rattle.paper.specs.Names.{names-in};
 ghost use Rattle.paper.specs.WellFormed.{well-formed?};
-ghost use Rattle.list_pieces.specs.Rest.{Sound, Head};
+ghost use Rattle.names_numbered.specs.Kinds.{Kinds};
+ghost use Rattle.list_pieces.specs.Rest.{Numbered, Head};
+ghost use Rattle.list_check.specs.Walks.{Listed};
 
 // Whether a stored line whose head is right is well-formed. The stack of frames begins with the frame of a statement.
-pub fn is_formed(line: &[u8], names: &[u8], size: usize, frames: &mut [u8]) -> bool
-    requires { ⌜ Head lawful-number? (now line) × Sound (now names) size × (2056 ≤ length (now frames)) × (getD (now frames) 0 0 ≡ 0) ⌝ }
-    ensures { λ r. ⌜ r ≡ well-formed? (names-in (take size (now (names .entry)))) (now (line .entry)) ⌝ }
+pub fn is_formed(line: &[u8], kinds: &[u8], frames: &mut [u8]) -> bool
+    requires { ⌜ Head lawful-number? (now line) × Listed (now kinds) × (2056 ≤ length (now frames)) × (getD (now frames) 0 0 ≡ 0) ⌝ }
+    ensures { λ r. ⌜ ((ns : List (List ℕ)) → Numbered ns → Kinds ns (now (kinds .entry)) → r ≡ well-formed? ns (now (line .entry))) ⌝ }
 {
     let mut at: usize = 3;
     let mut end: usize = 3;
     let mut depth: usize = 1;
     while at < line.len() {
-        let piece = list_pieces::piece_at(line, at, end);
-        match list_check::check_piece(line, at, piece, names, size, frames, depth) {
-            Fit::Fits(d) => {
-                end = list_pieces::end_after(line, at, end, piece);
-                at += list_pieces::size_of(piece);
+        match list_check::check_next(line, at, end, kinds, frames, depth) {
+            Walk::On(n, e, d) => {
+                at += n;
+                end = e;
                 depth = d;
             }
-            Fit::Fails => return false,
+            Walk::Stops => return false,
         }
     }
     if end != at {

@@ -7,11 +7,14 @@ mod second;
 
 use first::Measure;
 ghost use mathlib.Core.Path.{_≡_};
-ghost use Prim.Native.Nat.{_≤_};
+ghost use mathlib.Core.List.{List};
+ghost use Prim.Native.Nat.{ℕ, _≤_};
 ghost use lib.ListN.{length, take};
 ghost use Rattle.paper.specs.Names.{names-in};
 ghost use Rattle.paper.specs.WellFormed.{well-formed?};
-ghost use Rattle.list_pieces.specs.Rest.{Sound};
+ghost use Rattle.names_numbered.specs.Kinds.{Kinds};
+ghost use Rattle.list_pieces.specs.Rest.{Numbered, Sound};
+ghost use Rattle.list_check.specs.Walks.{Listed};
 ghost use Rattle.list_line.specs.Listed.{answer, lists};
 
 // What comes of listing a line: it is neither well-formed nor an error line; its listing is longer than the buffer; it is written, so many bytes long.
@@ -24,17 +27,17 @@ pub enum Outcome {
 // As long as the deepest stack of frames that a line of 255 bytes can need: no piece needs more than eight frames for each of its bytes.
 pub const DEEPEST: usize = 2056;
 
-// Whether a stored line, of any bytes, is well-formed over a sound name table of `size` bytes: what is tested before a listing is written. The caller lends
-// the room for the stack of frames; what it holds does not matter.
-pub fn well_formed(line: &[u8], names: &[u8], size: usize, frames: &mut [u8]) -> bool
-    requires { ⌜ Sound (now names) size × (2056 ≤ length (now frames)) ⌝ }
-    ensures { λ r. ⌜ r ≡ well-formed? (names-in (take size (now (names .entry)))) (now (line .entry)) ⌝ }
+// Whether a stored line, of any bytes, is well-formed over names of which the kinds are listed: what is tested before a listing is written. The caller
+// lends the room for the stack of frames; what it holds does not matter.
+pub fn well_formed_over(line: &[u8], kinds: &[u8], frames: &mut [u8]) -> bool
+    requires { ⌜ Listed (now kinds) × (2056 ≤ length (now frames)) ⌝ }
+    ensures { λ r. ⌜ ((ns : List (List ℕ)) → Numbered ns → Kinds ns (now (kinds .entry)) → r ≡ well-formed? ns (now (line .entry))) ⌝ }
 {
     if !head::is_right(line, false) {
         return false;
     }
     frames[0] = 0;
-    alone::is_formed(line, names, size, frames)
+    alone::is_formed(line, kinds, frames)
 }
 
 // Lists a line, of any bytes, stored or direct, over a sound name table of `size` bytes: the listing is written to the front of a buffer, or

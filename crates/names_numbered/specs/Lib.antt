@@ -1,3 +1,4 @@
 pub mod Answers
 pub mod Uses
 pub mod Standing
+pub mod Kinds
