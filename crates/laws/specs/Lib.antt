@@ -4,9 +4,12 @@ pub mod RowTests
 pub mod Classes
 pub mod Runs
 pub mod Lines
+pub mod Shares
 pub mod Names
 pub mod Variables
 pub mod Ends
 pub mod Constants
 pub mod Given
 pub mod Tables
+pub mod NamesLeft
+pub mod Renumbered
