@@ -1,0 +1,10 @@
+pub mod Marks
+pub mod Walks
+pub mod MarkLaws
+pub mod Numbers
+pub mod PieceBytes
+pub mod PassingLaws
+pub mod MeasureLaws
+pub mod WriteLaws
+pub mod RewriteLaws
+pub mod CarryLaws

@@ -1,0 +1,4 @@
+pub mod Marks
+pub mod Answers
+pub mod Parts
+pub mod Agreement
