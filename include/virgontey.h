@@ -1,5 +1,6 @@
 /*
- * Virgontey: enter and list lines of tokenized Atari BASIC, and write and read its program files.
+ * Virgontey: enter and list lines of tokenized Atari BASIC, write and read its program files, and take back
+ * names that are not used.
  *
  * The calls work only in the buffers that are lent to them. Every length, count and byte may have any
  * value: tables that are not sound, and a record that disagrees with the store, are refused. No call keeps
@@ -13,9 +14,9 @@
  * Width: counts, lengths, places and the numbers of an answer are size_t of 64 bits, as on x86-64 and
  * on 64-bit Arm. There is no library for other widths.
  *
- * Stack: virgontey_enter, virgontey_batch and virgontey_examine take at most 8 KB, virgontey_list,
- * virgontey_show, virgontey_save and virgontey_load at most 3 KB, in the fast and in the small library, as
- * measured over 39,740 texts, each with its number, without, and as a batch (docs/FIGURES.md). No call takes
+ * Stack: virgontey_enter, virgontey_batch, virgontey_examine and virgontey_collect take at most 8 KB,
+ * virgontey_list, virgontey_show, virgontey_save and virgontey_load at most 3 KB, in the fast and in the small
+ * library, as measured over 39,740 texts, each with its number, without, and as a batch (docs/FIGURES.md). No call takes
  * memory from elsewhere.
  *
  * Size: each function stands in a section of its own, so a build that links with --gc-sections leaves
@@ -35,12 +36,12 @@ extern "C" {
 /*
  * The editor record: the counts that go with the buffers. All five are 0 for an empty program.
  *
- * virgontey_enter, virgontey_batch and virgontey_load keep them true. So a terminal that shows how many lines the program has and which is the
+ * virgontey_enter, virgontey_batch, virgontey_load and virgontey_collect keep them true. So a terminal that shows how many lines the program has and which is the
  * last reads LINES and GREATEST from the record as it stands between two calls: that takes no call, and
  * no walk over the store. Where LINES is 0 there is no line; line 0 alone has 1 and 0.
  *
- * virgontey_enter, virgontey_batch, virgontey_list and virgontey_save test the record: one whose counts are not those of the
- * lent store is refused with 1.
+ * virgontey_enter, virgontey_batch, virgontey_list, virgontey_save and virgontey_collect test the record: one
+ * whose counts are not those of the lent store is refused with 1.
  */
 enum {
     VIRGONTEY_RECORD_NAME_BYTES = 0, /* bytes of name table in use */
@@ -92,6 +93,12 @@ enum {
     VIRGONTEY_LOAD_LENGTH = 1
 };
 
+/* What virgontey_collect answers. */
+enum {
+    VIRGONTEY_COLLECT_NUMBER = 0, /* 0 done, otherwise the refusal, see below */
+    VIRGONTEY_COLLECT_LENGTH = 1
+};
+
 /* The numbers. */
 enum {
     VIRGONTEY_DONE = 0,
@@ -104,7 +111,7 @@ enum {
     VIRGONTEY_LINE_TOO_LONG = 7,   /* the token line would pass 255 bytes */
     VIRGONTEY_STORE_FULL = 8,      /* the store would pass its room; for a text without a number: the line buffer is too short; for a file: a lent buffer is too small, or its last word would pass 65,535 */
     VIRGONTEY_NO_SUCH_LINE = 9,    /* the line to delete or list is not there */
-    VIRGONTEY_NOT_WELL_FORMED = 10, /* the line to list is not well-formed, or the line buffer holds none */
+    VIRGONTEY_NOT_WELL_FORMED = 10, /* the line to list is not well-formed, or the line buffer holds none; for virgontey_collect: any line is neither well-formed nor an error line */
     VIRGONTEY_OUTPUT_TOO_SHORT = 11, /* the listing is longer than the output buffer */
     VIRGONTEY_NOT_A_FILE = 12,     /* a file under 14 bytes, or its first word is not zero */
     VIRGONTEY_WORDS_WRONG = 13     /* the file's words, its length or the zero byte after its names are not right */
@@ -113,7 +120,7 @@ enum {
 /*
  * A text without a number, such as PRINT A, becomes a token line too, with this number and in a lent line
  * buffer, where virgontey_show lists it: the store is for the program. Its new names are added as for any
- * line, and stay.
+ * line, and stay until virgontey_collect takes back those that no line of the program uses.
  */
 enum {
     VIRGONTEY_DIRECT_LINE = 32768, /* the number of such a line: its first two bytes are 00 80 */
@@ -254,6 +261,32 @@ void virgontey_save(const uint8_t *names, size_t names_len, const uint8_t *value
 void virgontey_load(const uint8_t *file, size_t file_len, uint8_t *names, size_t names_len,
                     uint8_t *values, size_t values_len, uint8_t *store, size_t store_len,
                     size_t *record, size_t record_len, size_t *answer, size_t answer_len);
+
+/*
+ * Takes back the names that no line of the program uses, so that their room is free again. The other names
+ * keep their order and get new numbers: every variable in every line is written with its name's new number,
+ * and the eight bytes of a value move with its name, the second of them becomes the new number, and the
+ * other seven are as they were. Each line lists as it did before. A name that stands only in a REM, in DATA,
+ * in an error line or in a line buffer is not used; an error line stays byte for byte.
+ *
+ * The token of a name with a number of 128 or more has two bytes, that of a lower number one. So where a
+ * number falls below 128 the line gets shorter, with its length and offsets, and the store with it; nothing
+ * ever gets longer. Bytes past the new ends of names, values and store stay as they were. How many lines
+ * there are, and the greatest number, do not change. A second call changes nothing more.
+ *
+ * A line that virgontey_enter put into a line buffer before is stale afterwards: the numbers in it are the old
+ * ones, so virgontey_show may refuse it with 10 or list it with other names. Enter its text again.
+ *
+ *   names, values, store   the program, read and written
+ *   record  the editor record, read and updated; record_len is VIRGONTEY_RECORD_LENGTH
+ *   answer  written; answer_len is VIRGONTEY_COLLECT_LENGTH
+ *
+ * On a refusal nothing but the answer changes: 1, or 10 where any line is neither well-formed nor an error
+ * line.
+ */
+void virgontey_collect(uint8_t *names, size_t names_len, uint8_t *values, size_t values_len,
+                       uint8_t *store, size_t store_len, size_t *record, size_t record_len,
+                       size_t *answer, size_t answer_len);
 
 #ifdef __cplusplus
 }

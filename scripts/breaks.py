@@ -17,7 +17,7 @@ import sys
 import grammar
 
 COPY, KEPT = "target/breaks", "target/breaks.txt"
-CRATES = {"paper": "", "laws": "paper", "promises": "paper laws", "cases": "paper", "limits": "paper cases", "recorded": "paper cases", "asked": "paper cases limits"}
+CRATES = {"paper": "", "laws": "paper", "grounds": "paper laws", "promises": "paper laws grounds", "requested": "paper laws grounds promises", "cases": "paper", "limits": "paper cases", "recorded": "paper cases", "asked": "paper cases limits"}
 # what of cases is tried first on an edit of a file, as it is likely to refuse it
 FIRST = {"Grammar": [["Following"]], "Words": [["Kinds"], ["Worked"]]}
 # the files of paper that hold theorems; an error in another one is no refusal but an edit that cannot be read
@@ -271,7 +271,7 @@ def refusal(file):
         if answer:
             return answer
     cases([])
-    for crate in ("promises", "asked", "recorded"):
+    for crate in ("requested", "asked", "recorded"):
         answer = checked(crate)
         if answer:
             return answer

@@ -37,7 +37,7 @@ def stacked(items):
 
 
 def opened():
-    files = "Bytes Words Tokens Constants Names Items Machine Grammar Line WellFormed Listing Errors Store Calls Direct Batch Examine Files Hex".split()
+    files = "Bytes Words Tokens Constants Names Items Machine Grammar Line WellFormed Listing Errors Store Calls Direct Batch Examine Files Collect Weigh Hex".split()
     out = f"-- Bundles: to unfold one is to unfold all that its line names. For proofs that compute. ({MADE_BY})\n"
     for f in files:
         out += f"use Rattle.paper.specs.{f} as {f}′\n"
@@ -64,7 +64,7 @@ frame-count = {len(FRAMES)}
 """
 
 
-# ---- promises: FrameTables, WordReads
+# ---- grounds: FrameTables, WordReads
 
 
 def frame_tables():
@@ -79,7 +79,7 @@ use Prim.Native.Nat.{{ℕ}}
 use mathlib.Core.List.{{List, [], _∷_}}
 use lib.ListN.{{getD}}
 use Rattle.paper.specs.Classes.{{{", ".join(c for c in CLASSES if c in used)}}}
-use Rattle.promises.specs.Viable.{{Info, none}}
+use Rattle.grounds.specs.Viable.{{Info, none}}
 
 -- an entry of the table
 unfoldable pub info : List ℕ → List ℕ → Info
@@ -133,7 +133,7 @@ use mathlib.Core.Path.{{refl}}
 use Rattle.paper.specs.Bytes.{{among}}
 use Rattle.paper.specs.Words.{{operators, statements}}
 use Rattle.paper.specs.Open.{{all-Bytes, all-Words, all-Tokens, all-Items, all-Listing}}
-use Rattle.promises.specs.WordReading.{{read-tokens, after, Each, no-more, _▸_, OperatorReads, opened, less-reads, greater-reads, after-statement, StatementReads}}
+use Rattle.grounds.specs.WordReading.{{read-tokens, after, Each, no-more, _▸_, OperatorReads, opened, less-reads, greater-reads, after-statement, StatementReads}}
 
 -- operators and functions
 pub operators-read : Each OperatorReads operators
@@ -490,8 +490,8 @@ def main():
     made = {
         "crates/paper/specs/Open.antt": opened(),
         "crates/laws/specs/Counts.antt": counts(),
-        "crates/promises/specs/FrameTables.antt": frame_tables(),
-        "crates/promises/specs/WordReads.antt": word_reads(),
+        "crates/grounds/specs/FrameTables.antt": frame_tables(),
+        "crates/grounds/specs/WordReads.antt": word_reads(),
         "crates/tokens/src/class.rt": class_constants(),
         "crates/tokens/src/number.rt": token_numbers(),
         "crates/tokens/proofs/FitTokens.antt": fit_tokens(),

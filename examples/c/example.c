@@ -1,7 +1,8 @@
 /*
  * Enters three lines and two that are refused, lists the program, and takes its last line out. Then what
  * service staff type at the tag to see a value: a line without a number, which leaves the program alone.
- * Last, a whole listing is sent to another tag in one call, and a wrong line is kept there, to be mended.
+ * Then a whole listing is sent to another tag in one call, and a wrong line is kept there, to be mended.
+ * Last, that program is carried back in a file, and names that no line uses are taken back.
  */
 #include <stdio.h>
 #include <string.h>
@@ -114,6 +115,18 @@ static void carry(const struct program *from, struct program *to)
     printf("read:    number %zu\n", loaded[VIRGONTEY_LOAD_NUMBER]);
 }
 
+/* Takes back the names that no line uses. */
+static void collect(struct program *p)
+{
+    size_t answer[VIRGONTEY_COLLECT_LENGTH];
+    size_t before = p->record[VIRGONTEY_RECORD_NAME_COUNT];
+
+    virgontey_collect(p->names, sizeof p->names, p->values, sizeof p->values, p->store, sizeof p->store,
+                      p->record, VIRGONTEY_RECORD_LENGTH, answer, VIRGONTEY_COLLECT_LENGTH);
+    printf("names:   %zu of %zu left, number %zu\n", p->record[VIRGONTEY_RECORD_NAME_COUNT], before,
+           answer[VIRGONTEY_COLLECT_NUMBER]);
+}
+
 int main(void)
 {
     static struct program program, other;
@@ -159,6 +172,13 @@ int main(void)
 
     carry(&other, &program);
     count(&program);
+    list(&program, 900);
+
+    enter(&program, "10 L=2");
+    enter(&program, "20 IF T>L THEN 900");
+    collect(&program);
+    collect(&program);
+    list(&program, 20);
     list(&program, 900);
     return 0;
 }

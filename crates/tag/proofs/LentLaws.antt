@@ -16,7 +16,9 @@ use Rattle.paper.specs.Batch.{Batched as Outcome}
 use Rattle.paper.specs.Examine.{Verdict, verdict-number, verdict-line}
 use Rattle.paper.specs.Files.{not-saved, save, not-loaded, load}
 use Rattle.paper.specs.Files.{Saved as Saved-out, Loaded as Loaded-out}
-use Rattle.promises.specs.Terms.{all-unsound}
+use Rattle.paper.specs.Collect.{collect}
+use Rattle.paper.specs.Collect.{Collected as Collected-out}
+use Rattle.requested.specs.RequestTerms.{all-unsound}
 use Rattle.editor_batch.specs.declared.Batched.{Batched}
 use Rattle.editor_batch.specs.Answers.{batched}
 use Rattle.editor_edit.specs.declared.Editor.{Editor}
@@ -28,7 +30,9 @@ use Rattle.file_save.specs.declared.Saved.{Saved}
 use Rattle.file_save.specs.Answers.{unsaved, saved}
 use Rattle.file_load.specs.declared.Loaded.{Loaded}
 use Rattle.file_load.specs.Answers.{unloaded, loaded}
-use Rattle.tag.specs.Lent.{editor-of, counts, entered-numbers, listed-numbers, batched-numbers, enter-by-counts, list-by-counts, batch-by-counts, save-by-counts, load-by-counts, Leaves, LeavesAll, Lists, Examines, Saves, Loads}
+use Rattle.editor_collect.specs.declared.Collected.{Collected}
+use Rattle.editor_collect.specs.Answers.{outcome}
+use Rattle.tag.specs.Lent.{editor-of, counts, entered-numbers, listed-numbers, batched-numbers, enter-by-counts, list-by-counts, batch-by-counts, save-by-counts, load-by-counts, collect-by-counts, Leaves, LeavesAll, Lists, Examines, Saves, Loads, Collects}
 
 -- numbers put at the front, one by one
 pub two-put : (s s₁ s₂ : List ℕ) (a b : ℕ) → s₁ ≡ set s 0 a → s₂ ≡ set s₁ 1 b → s₂ ≡ sets s 0 (a ∷ b ∷ [])
@@ -133,6 +137,21 @@ module _ (file names values store r : List ℕ) (e : Editor) (so : e ≡ editor-
       ∙ ap (λ (x : Editor). load file (state names values store x)) so
       ∙ ap (λ (t : Bool). pick t (not-loaded (state names values store (editor-of r)) 1) (load file (state names values store (editor-of r)))) (sym (le-ltb (length r) 5 h))
 
+module _ (names values store r : List ℕ) (e : Editor) (so : e ≡ editor-of r) where
+  -- the refusal of a record that lacks a count
+  abbrev lacking : Editor → Collected-out
+  lacking x = record { number = 1; after = state names values store x }
+
+  pub collect-lacking : length r < 5 → lacking e ≡ collect-by-counts names values store r
+  collect-lacking h = ap lacking so ∙ ap (λ (t : Bool). pick t (lacking (editor-of r)) (collect (state names values store (editor-of r)))) (sym (lt-ltb (length r) 5 h))
+
+  -- a record that has them all
+  pub collect-counted : (o : Collected-out) → 5 ≤ length r → o ≡ collect (state names values store e) → o ≡ collect-by-counts names values store r
+  collect-counted o h given =
+      given
+      ∙ ap (λ (x : Editor). collect (state names values store x)) so
+      ∙ ap (λ (t : Bool). pick t (lacking (editor-of r)) (collect (state names values store (editor-of r)))) (sym (le-ltb (length r) 5 h))
+
 -- what entering leaves
 pub leaves-so : (o : Typed) (x : Entered) (r a names values store line r′ a′ : List ℕ) → typed-outcome x names values store line ≡ o
     → r′ ≡ sets r 0 (counts ((typed-outcome x names values store line) .entered .after)) → a′ ≡ sets a 0 (entered-numbers ((typed-outcome x names values store line) .entered))
@@ -192,4 +211,14 @@ loads-so o x r a names values store r′ a′ e p q = record {
   store-so = ap (λ (y : Loaded-out). y .after .store) e;
   record-so = p ∙ ap (λ (y : Loaded-out). sets r 0 (counts (y .after))) e;
   answer-so = q ∙ ap (λ (y : Loaded-out). sets a 0 (y .number ∷ [])) e;
+}
+
+-- what taking back unused names leaves
+pub collects-so : (o : Collected-out) (x : Collected) (r a names values store r′ a′ : List ℕ) → outcome x names values store ≡ o → r′ ≡ sets r 0 (counts ((outcome x names values store) .after)) → a′ ≡ set a 0 (x .number) → Collects o r a names values store r′ a′
+collects-so o x r a names values store r′ a′ e p q = record {
+  names-so = ap (λ (y : Collected-out). y .after .names) e;
+  values-so = ap (λ (y : Collected-out). y .after .values) e;
+  store-so = ap (λ (y : Collected-out). y .after .store) e;
+  record-so = p ∙ ap (λ (y : Collected-out). sets r 0 (counts (y .after))) e;
+  answer-so = q ∙ ap (λ (y : Collected-out). sets a 0 (y .number ∷ [])) e;
 }

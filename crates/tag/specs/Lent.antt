@@ -14,7 +14,8 @@ use Rattle.paper.specs.Direct.{Typed, same-buffer, typed}
 use Rattle.paper.specs.Batch.{text-lines, Batched, batch}
 use Rattle.paper.specs.Examine.{Verdict, verdict-number, verdict-line}
 use Rattle.paper.specs.Files.{Saved, not-saved, save, Loaded, not-loaded, load}
-use Rattle.promises.specs.Terms.{all-unsound}
+use Rattle.paper.specs.Collect.{Collected, collect}
+use Rattle.requested.specs.RequestTerms.{all-unsound}
 use Rattle.editor_edit.specs.declared.Editor.{Editor}
 use Rattle.editor_edit.specs.States.{state}
 
@@ -63,6 +64,13 @@ save-by-counts names values store r output = pick (ltb (length r) 5) (not-saved 
 abbrev pub load-by-counts : List ℕ → List ℕ → List ℕ → List ℕ → List ℕ → Loaded
 load-by-counts file names values store r = let s = state names values store (editor-of r) in pick (ltb (length r) 5) (not-loaded s 1) (load file s)
 
+-- unused names taken back: a record that lacks a count is refused with 1
+abbrev pub collect-by-counts : List ℕ → List ℕ → List ℕ → List ℕ → Collected
+collect-by-counts names values store r =
+    let s = state names values store (editor-of r) in
+    let lacking : Collected = record { number = 1; after = s } in
+    pick (ltb (length r) 5) lacking (collect s)
+
 -- Entering left names, values, store, line buffer, record and answer so: as the outcome says. The record's counts and the answer's numbers stand at the front,
 -- as many as there is room for; what stands behind them is as it was.
 pub record Leaves (o : Typed) (r a names values store line r′ a′ : List ℕ) : Type 0 where
@@ -102,6 +110,14 @@ pub record Loads (l : Loaded) (r a names values store r′ a′ : List ℕ) : Ty
   pub store-so : store ≡ l .after .store
   pub record-so : r′ ≡ sets r 0 (counts (l .after))
   pub answer-so : a′ ≡ sets a 0 (l .number ∷ [])
+
+-- Taking back unused names left names, values, store, record and answer so.
+pub record Collects (c : Collected) (r a names values store r′ a′ : List ℕ) : Type 0 where
+  pub names-so : names ≡ c .after .names
+  pub values-so : values ≡ c .after .values
+  pub store-so : store ≡ c .after .store
+  pub record-so : r′ ≡ sets r 0 (counts (c .after))
+  pub answer-so : a′ ≡ sets a 0 (c .number ∷ [])
 
 -- the counts of a record, written back, leave it as it was
 pub kept : (r names values store : List ℕ) → sets r 0 (counts (state names values store (editor-of r))) ≡ r

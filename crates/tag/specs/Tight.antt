@@ -6,8 +6,9 @@ use Rattle.paper.specs.Calls.{Listed as Written-out}
 use Rattle.paper.specs.Direct.{Typed}
 use Rattle.paper.specs.Batch.{Batched}
 use Rattle.paper.specs.Examine.{Verdict}
-use Rattle.tag.specs.Lent.{Leaves, LeavesAll, Lists, Examines, Saves, Loads}
+use Rattle.tag.specs.Lent.{Leaves, LeavesAll, Lists, Examines, Saves, Loads, Collects}
 use Rattle.paper.specs.Files.{Saved, Loaded}
+use Rattle.paper.specs.Collect.{Collected}
 
 -- of a text entered
 pub one-left : (o : Typed) (r a n v s l e b n′ v′ s′ l′ e′ b′ : List ℕ) → Leaves o r a n v s l e b → Leaves o r a n′ v′ s′ l′ e′ b′
@@ -35,4 +36,9 @@ one-saved o a out b out′ b′ h k = (h .output-so ∙ sym (k .output-so), h .a
 -- of a file read
 pub one-loaded : (o : Loaded) (r a n v s e b n′ v′ s′ e′ b′ : List ℕ) → Loads o r a n v s e b → Loads o r a n′ v′ s′ e′ b′ → (n ≡ n′) × (v ≡ v′) × (s ≡ s′) × (e ≡ e′) × (b ≡ b′)
 one-loaded o r a n v s e b n′ v′ s′ e′ b′ h k =
+    (h .names-so ∙ sym (k .names-so), h .values-so ∙ sym (k .values-so), h .store-so ∙ sym (k .store-so), h .record-so ∙ sym (k .record-so), h .answer-so ∙ sym (k .answer-so))
+
+-- of unused names taken back
+pub one-collected : (o : Collected) (r a n v s e b n′ v′ s′ e′ b′ : List ℕ) → Collects o r a n v s e b → Collects o r a n′ v′ s′ e′ b′ → (n ≡ n′) × (v ≡ v′) × (s ≡ s′) × (e ≡ e′) × (b ≡ b′)
+one-collected o r a n v s e b n′ v′ s′ e′ b′ h k =
     (h .names-so ∙ sym (k .names-so), h .values-so ∙ sym (k .values-so), h .store-so ∙ sym (k .store-so), h .record-so ∙ sym (k .record-so), h .answer-so ∙ sym (k .answer-so))

@@ -1,5 +1,6 @@
 // The calls for programs in C, over numbers and lent slices, as include/virgontey.h declares them.
 use editor_batch::Batched;
+use editor_collect::Collected;
 use editor_edit::Editor;
 use editor_edit::Entered;
 use editor_edit::refused;
@@ -20,9 +21,10 @@ ghost use Rattle.editor_edit.specs.States.{typed-outcome};
 ghost use Rattle.editor_list.specs.Answers.{listed};
 ghost use Rattle.editor_batch.specs.Answers.{batched};
 ghost use Rattle.editor_examine.specs.Verdicts.{verdict};
+ghost use Rattle.editor_collect.specs.Answers.{outcome};
 ghost use Rattle.file_save.specs.Answers.{saved};
 ghost use Rattle.file_load.specs.Answers.{loaded};
-ghost use Rattle.tag.specs.Lent.{editor-of, enter-by-counts, list-by-counts, batch-by-counts, save-by-counts, load-by-counts, Leaves, LeavesAll, Lists, Examines, Saves, Loads};
+ghost use Rattle.tag.specs.Lent.{editor-of, enter-by-counts, list-by-counts, batch-by-counts, save-by-counts, load-by-counts, collect-by-counts, Leaves, LeavesAll, Lists, Examines, Saves, Loads, Collects};
 
 // How many counts a record has.
 const COUNTS: usize = 5;
@@ -202,6 +204,25 @@ fn load_by_counts(
     file_load::load(file, names, values, store, e)
 }
 
+// Takes back the names that no line uses, or refuses with 1 where the record lacks a count.
+fn collect_by_counts(
+    names: &mut [u8],
+    values: &mut [u8],
+    store: &mut [u8],
+    record: &[usize],
+) -> Collected
+    ensures { λ r. ⌜ outcome r (now (names .exit)) (now (values .exit)) (now (store .exit)) ≡ collect-by-counts (now (names .entry)) (now (values .entry)) (now (store .entry)) (now («record» .entry)) ⌝ }
+{
+    let e = read_record(record);
+    if record.len() < COUNTS {
+        return Collected {
+            number: 1,
+            editor: e,
+        };
+    }
+    editor_collect::collect(names, values, store, e)
+}
+
 // Enters a text, and writes the answer and the record's counts. `keep` says whether a wrong line is kept.
 #[no_mangle]
 pub extern "C" fn virgontey_enter(
@@ -319,6 +340,22 @@ pub extern "C" fn virgontey_load(
     ensures { λ _. ⌜ Loads (load-by-counts (now (file .entry)) (now (names .entry)) (now (values .entry)) (now (store .entry)) (now («record» .entry))) (now («record» .entry)) (now (answer .entry)) (now (names .exit)) (now (values .exit)) (now (store .exit)) (now («record» .exit)) (now (answer .exit)) ⌝ }
 {
     let r = load_by_counts(file, names, values, store, record);
+    write_record(record, r.editor);
+    put(answer, 0, r.number as usize);
+}
+
+// Takes back the names that no line uses, and writes the answer and the record's counts.
+#[no_mangle]
+pub extern "C" fn virgontey_collect(
+    names: &mut [u8],
+    values: &mut [u8],
+    store: &mut [u8],
+    record: &mut [usize],
+    answer: &mut [usize],
+)
+    ensures { λ _. ⌜ Collects (collect-by-counts (now (names .entry)) (now (values .entry)) (now (store .entry)) (now («record» .entry))) (now («record» .entry)) (now (answer .entry)) (now (names .exit)) (now (values .exit)) (now (store .exit)) (now («record» .exit)) (now (answer .exit)) ⌝ }
+{
+    let r = collect_by_counts(names, values, store, record);
     write_record(record, r.editor);
     put(answer, 0, r.number as usize);
 }
