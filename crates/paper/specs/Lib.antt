@@ -19,6 +19,8 @@ pub mod Direct
 pub mod Batch
 pub mod Examine
 pub mod Files
+pub mod Collect
+pub mod Weigh
 pub mod Hex
 pub mod Open
 pub mod Cases

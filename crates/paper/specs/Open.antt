@@ -17,6 +17,8 @@ use Rattle.paper.specs.Direct as Direct′
 use Rattle.paper.specs.Batch as Batch′
 use Rattle.paper.specs.Examine as Examine′
 use Rattle.paper.specs.Files as Files′
+use Rattle.paper.specs.Collect as Collect′
+use Rattle.paper.specs.Weigh as Weigh′
 use Rattle.paper.specs.Hex as Hex′
 
 unfoldable pub all-Bytes : Unit {0}
@@ -91,10 +93,18 @@ unfoldable pub all-Files : Unit {0}
 unfolding Files′.word-bytes Files′.words-bytes Files′.word-at Files′.end-line Files′.saved-words Files′.saved-block Files′.saved-file Files′.not-saved Files′.too-long? Files′.save Files′.never-fall Files′.direct-whole? Files′.without-direct Files′.parts-of Files′.no-head? Files′.right-words? Files′.sound-parts? Files′.unless-faulty Files′.too-small? Files′.loaded-state Files′.not-loaded Files′.load
 all-Files = tt
 
+unfoldable pub all-Collect : Unit {0}
+unfolding Collect′.some Collect′.uses? Collect′.line-uses? Collect′.used? Collect′.names-left Collect′.values-left Collect′.renumbered Collect′.collected Collect′.collect
+all-Collect = tt
+
+unfoldable pub all-Weigh : Unit {0}
+unfolding Weigh′.share Weigh′.shares Weigh′.in-else Weigh′.sum Weigh′.line-variables Weigh′.line-numbers Weigh′.line-strings Weigh′.line-raw Weigh′.line-else Weigh′.no-columns Weigh′.columns-of Weigh′.unweighed Weigh′.weigh Weigh′.field Weigh′.columns-text Weigh′.report-line Weigh′.added-up Weigh′.total-line Weigh′.weigh-found Weigh′.totals Weigh′.named-line Weigh′.report
+all-Weigh = tt
+
 unfoldable pub all-Hex : Unit {0}
 unfolding Hex′.nibble Hex′.pairs Hex′.hex
 all-Hex = tt
 
 unfoldable pub everything : Unit {0}
-unfolding all-Bytes all-Words all-Tokens all-Constants all-Names all-Items all-Machine all-Grammar all-Line all-WellFormed all-Listing all-Errors all-Store all-Calls all-Direct all-Batch all-Examine all-Files all-Hex
+unfolding all-Bytes all-Words all-Tokens all-Constants all-Names all-Items all-Machine all-Grammar all-Line all-WellFormed all-Listing all-Errors all-Store all-Calls all-Direct all-Batch all-Examine all-Files all-Collect all-Weigh all-Hex
 everything = tt
