@@ -1,2 +1,5 @@
 pub mod Answers
+pub mod WordLaws
+pub mod TableLaws
+pub mod Lies
 pub mod Tight

@@ -15,7 +15,7 @@ ghost use Rattle.file_load.specs.Answers.{opened, parted, placed, loaded
 ghost use Rattle.file_load.specs.declared.Opened.the-variants.{Holds};
 
 // How many bytes the words take.
-const HEAD: usize = 14;
+pub const HEAD: usize = 14;
 
 // How many words follow the first.
 const LATER_WORDS: usize = 6;
@@ -34,7 +34,7 @@ pub struct Loaded {
 }
 
 // A word of a file, counted from 0.
-fn word(file: &[u8], i: usize) -> usize
+pub fn word(file: &[u8], i: usize) -> usize
     requires { ⌜ i ≤ 6 ⌝ }
     ensures { λ r. ⌜ (r ≡ word-at (now (file .entry)) i) × (r ≤ 65535) ⌝ }
 {

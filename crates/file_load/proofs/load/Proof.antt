@@ -1,5 +1,6 @@
 use mathlib.Core.Path.{sym, _∙_}
-use Rattle.file_load.proofs.PlaceLaws.{lies, loads-held, loads-refused}
+use Rattle.file_load.specs.Lies.{lies}
+use Rattle.file_load.proofs.PlaceLaws.{loads-held, loads-refused}
 use borrow.Author.Needs.{needs}
 use Rattle.file_load.proofs.load.Statement.{statement}
 use Rattle.file_load.proofs.load.Tie as tie

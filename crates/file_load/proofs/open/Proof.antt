@@ -1,7 +1,7 @@
 use borrow.Author.Tests.{not-true, not-false}
 use mathlib.Core.Path.{sym, _∙_}
 use native.Mathlib.Omega.{arith}
-use Rattle.file_load.proofs.WordLaws.{opened-short, opened-first, opened-wrong, opened-right}
+use Rattle.file_load.specs.WordLaws.{opened-short, opened-first, opened-wrong, opened-right}
 use borrow.Author.Needs.{needs}
 use Rattle.file_load.proofs.open.Statement.{statement}
 use Rattle.file_load.proofs.open.Tie as tie

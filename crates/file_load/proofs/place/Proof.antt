@@ -1,9 +1,9 @@
 use Prim.Native.Nat.{_+_, _*_}
 use lib.Seq.{sets}
 use mathlib.Core.Path.{ap, _∙_}
-use Rattle.file_load.proofs.PlaceLaws.{lies, names-short, values-short, store-short, part, copied}
+use Rattle.file_load.proofs.PlaceLaws.{names-short, values-short, store-short, part, copied}
 use native.Mathlib.Omega.{arith}
-use Rattle.file_load.proofs.PlaceLaws.{lies, names-short, values-short, store-short, copied}
+use Rattle.file_load.specs.Lies.{lies}
 use borrow.Author.Needs.{needs}
 use Rattle.file_load.proofs.place.Statement.{statement}
 use Rattle.file_load.proofs.place.Tie as tie

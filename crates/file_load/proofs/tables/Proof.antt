@@ -1,10 +1,10 @@
 use borrow.Author.Tests.{not-true, not-false}
 use mathlib.Core.Path.{ap₂}
 use Prim.Native.Nat.{ℕ, _-_}
-use Rattle.file_load.proofs.TableLaws.{within, refused-uneven, refused-names, refused-lines, held}
+use Rattle.file_load.specs.TableLaws.{within, refused-uneven, refused-names, refused-lines, held}
 use native.Mathlib.Omega.{arith}
-use Rattle.file_load.proofs.TableLaws.{within, refused-uneven}
-use Rattle.file_load.proofs.WordLaws.{right}
+use Rattle.file_load.specs.TableLaws.{within, refused-uneven}
+use Rattle.file_load.specs.WordLaws.{right}
 use borrow.Author.Needs.{needs}
 use Rattle.file_load.proofs.tables.Statement.{statement}
 use Rattle.file_load.proofs.tables.Tie as tie

@@ -2,7 +2,7 @@ use Rattle.paper.specs.Files.{never-fall}
 use Prim.Native.Nat.{_-_, _≤_}
 use mathlib.Core.Path.{_≡_, refl, _∙_}
 use native.Mathlib.Omega.{arith}
-use Rattle.file_load.proofs.WordLaws.{falls, goes-on, all-passed}
+use Rattle.file_load.specs.WordLaws.{falls, goes-on, all-passed}
 use Rattle.file_load.proofs.words_never_fall.Statement.{statement}
 use Rattle.file_load.proofs.words_never_fall.Tie as tie
 

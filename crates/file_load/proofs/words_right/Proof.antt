@@ -5,7 +5,7 @@ use mathlib.Core.List.{List}
 use mathlib.Core.Path.{sym, ap, ap₂, _∙_}
 use Prim.Native.Nat.{ℕ, _+_, _-_}
 use native.Mathlib.Omega.{arith}
-use Rattle.file_load.proofs.WordLaws.{rising, block-is, not-rising, not-long, not-past, zero-decides}
+use Rattle.file_load.specs.WordLaws.{rising, block-is, not-rising, not-long, not-past, zero-decides}
 use borrow.Author.Needs.{needs}
 use Rattle.file_load.proofs.words_right.Statement.{statement}
 use Rattle.file_load.proofs.words_right.Tie as tie

@@ -21,7 +21,7 @@ use Rattle.store.specs.Answers.{counts-of, program-answer}
 use Rattle.file_load.specs.declared.Opened.{Opened}
 use Rattle.file_load.specs.declared.Opened.the-variants.{Refused, Holds}
 use Rattle.file_load.specs.Answers.{record-of-parts, parted}
-use Rattle.file_load.proofs.WordLaws.{Right}
+use Rattle.file_load.specs.WordLaws.{Right}
 
 -- ---- a count of names by the bytes of their values
 
