@@ -8,3 +8,6 @@ pub mod Kept
 pub mod Examined
 pub mod Crowded
 pub mod Files
+pub mod Collected
+pub mod Weighed
+pub mod Orders
