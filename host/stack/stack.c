@@ -1,10 +1,11 @@
 /*
- * Prints the greatest stack that entering, a batch and the two listings take, and the text that took it.
+ * Prints the greatest stack that each call takes, and the text that took it.
  * Each call runs on a stack of its own that was painted before; what is no longer paint was used. Many texts
  * are entered, of 1 to 20 parts and of as many as fit in 120 bytes, each with its number, without, and as a
  * batch of one line, wrong lines are kept, and the lines that come of all this are listed.
  *
- *   stack [ENTER LIST]      status 1 where entering or a batch, or a listing, takes more bytes than that
+ *   stack [ENTER LIST]      status 1 where entering, a batch, an examination or a collection takes more bytes than
+ *                           the first, or another call more than the second
  */
 #include <stdio.h>
 #include <stdlib.h>
@@ -83,7 +84,7 @@ struct most {
     char text[TEXT + 1];
 };
 
-static struct most entering, sending, listing, showing, examining, saving, loading;
+static struct most entering, sending, listing, showing, examining, saving, loading, collecting;
 
 /* What a stack of its own takes for nothing. */
 static size_t idle;
@@ -145,6 +146,13 @@ static void load(void)
                    sizeof store, record, VIRGONTEY_RECORD_LENGTH, answer, VIRGONTEY_LOAD_LENGTH);
 }
 
+/* Takes unused names back. */
+static void collect(void)
+{
+    virgontey_collect(names, sizeof names, values, sizeof values, store, sizeof store, record,
+                      VIRGONTEY_RECORD_LENGTH, answer, VIRGONTEY_COLLECT_LENGTH);
+}
+
 /* How many bytes of stack a call takes. All of the stack is paint before and after. */
 static size_t used(void (*call)(void))
 {
@@ -175,7 +183,8 @@ static void measure(void (*call)(void), struct most *most)
 }
 
 /* Measures the entry of the text with its number and without, and then the listing of the line, and the program examined, written and read:
-   of a wrong text, too, one is kept, but not in the line buffer. */
+   of a wrong text, too, one is kept, but not in the line buffer. At last the names that only the line buffer has are taken
+   back. */
 static void measure_both(int whole)
 {
     entered = text;
@@ -189,6 +198,7 @@ static void measure_both(int whole)
     measure(enter, &entering);
     if (whole)
         measure(show, &showing);
+    measure(collect, &collecting);
 }
 
 /* Makes a text of a head, a part so many times or as often as it fits, a middle, and for each part a close. */
@@ -245,5 +255,6 @@ int main(int argc, char **argv)
     well &= within("examine", &examining, argc == 3 ? argv[1] : NULL);
     well &= within("save", &saving, argc == 3 ? argv[2] : NULL);
     well &= within("load", &loading, argc == 3 ? argv[2] : NULL);
+    well &= within("collect", &collecting, argc == 3 ? argv[1] : NULL);
     return well ? 0 : 1;
 }

@@ -125,7 +125,33 @@ fn load(file: &[u8], names: &mut [u8], values: &mut [u8], store: &mut [u8], reco
     print(b"\n");
 }
 
-// The fields that calls of enter, batch, list, save and load have: how many bytes each buffer has, the record, and where the next field begins.
+// Takes back unused names and prints the answer: number, the record's counts and the buffers afterwards.
+fn collect(names: &mut [u8], values: &mut [u8], store: &mut [u8], record: Editor) {
+    let r = editor_collect::collect(names, values, store, record);
+    console::print_number(r.number as usize);
+    print_after(r.editor, names, values, store);
+    print(b"\n");
+}
+
+// Weighs a file and prints the answer: number and columns.
+fn weigh(file: &[u8]) {
+    let r = file_weigh::weigh(file);
+    let c = r.columns;
+    let w = c.weight;
+    console::print_number(r.number as usize);
+    print_number(c.lines);
+    print_number(c.names);
+    print_number(c.used);
+    print_number(w.listing);
+    print_number(w.variables);
+    print_number(w.numbers);
+    print_number(w.strings);
+    print_number(w.raw_text);
+    print_number(w.others);
+    print(b"\n");
+}
+
+// The fields that calls of enter, batch, list, save, load and collect have: how many bytes each buffer has, the record, and where the next field begins.
 struct Tables {
     names: usize,
     values: usize,
@@ -410,6 +436,35 @@ fn answer_load(
     true
 }
 
+// Takes back the unused names of the first bytes of buffers, as many as the fields had.
+fn collect_within(names: &mut [u8], values: &mut [u8], store: &mut [u8], tables: Tables) {
+    let a = within(tables.names, names);
+    let b = within(tables.values, values);
+    let c = within(tables.store, store);
+    let record = tables.record;
+    collect(&mut names[..a], &mut values[..b], &mut store[..c], record);
+}
+
+// Answers a call of collect, whose fields begin at place 8: false where it is none.
+fn answer_collect(line: &[u8], names: &mut [u8], values: &mut [u8], store: &mut [u8]) -> bool {
+    let tables = read_tables(line, 8, names, values, store);
+    if !ends(line, tables.next) {
+        return false;
+    }
+    collect_within(names, values, store, tables);
+    true
+}
+
+// Answers a call of weigh, whose field begins at place 6: false where it is none.
+fn answer_weigh(line: &[u8], text: &mut [u8]) -> bool {
+    let file = bytes_field(line, 6, text);
+    if !ends(line, file.next) {
+        return false;
+    }
+    weigh(front(text, file.n));
+    true
+}
+
 // The fields of a call of show before the output: how many bytes each buffer has, the counts, and where the next field begins.
 struct Showing {
     direct: usize,
@@ -512,6 +567,12 @@ fn answer_call(
     }
     if check::same(front(line, 5), b"load ") {
         return answer_load(line, text, names, values, store);
+    }
+    if check::same(front(line, 8), b"collect ") {
+        return answer_collect(line, names, values, store);
+    }
+    if check::same(front(line, 6), b"weigh ") {
+        return answer_weigh(line, text);
     }
     false
 }

@@ -1,9 +1,9 @@
 //! Times entry and listing: nanoseconds for each line, the library beside the reference.
 //!
-//!   bench [--rounds N]
+//!   bench [--rounds N] [--only PART]
 //!
-//! Each figure is the median of the rounds; the two sides take turns. Without the feature
-//! `library` only the reference is timed.
+//! Each figure is the median of the rounds; the two sides take turns. With a part of a title only the tasks whose titles
+//! have it are timed. Without the feature `library` only the reference is timed.
 
 mod program;
 mod sides;
@@ -29,9 +29,10 @@ enum Task {
     EnterOneByOne(usize),
     EnterWhole(usize),
     Examine(usize),
+    Collect(usize),
 }
 
-const TASKS: [Task; 19] = [
+const TASKS: [Task; 21] = [
     Task::EnterAlone,
     Task::Enter(200),
     Task::Enter(2000),
@@ -51,6 +52,8 @@ const TASKS: [Task; 19] = [
     Task::EnterWhole(2000),
     Task::Examine(200),
     Task::Examine(2000),
+    Task::Collect(200),
+    Task::Collect(2000),
 ];
 const NAME_COUNTS: [usize; 5] = [0, 18, 128, 200, 256];
 
@@ -66,7 +69,8 @@ impl Task {
             | Task::KeepWrong(lines)
             | Task::Delete(lines)
             | Task::List(lines)
-            | Task::Examine(lines) => lines,
+            | Task::Examine(lines)
+            | Task::Collect(lines) => lines,
         }
     }
 
@@ -83,13 +87,26 @@ impl Task {
             Task::EnterOneByOne(lines) => format!("{lines} lines one by one"),
             Task::EnterWhole(lines) => format!("{lines} lines at once"),
             Task::Examine(lines) => format!("{lines} lines examined"),
+            Task::Collect(lines) => format!("unused names of {lines} lines"),
         }
     }
 
-    /// How many lines a round enters, lists or examines.
+    /// The counts of names that it is timed with.
+    fn name_counts(self) -> &'static [usize] {
+        match self {
+            // The program uses 18: all, or few of many.
+            Task::Collect(_) => &[18, 128, 256],
+            _ => &NAME_COUNTS,
+        }
+    }
+
+    /// How many lines a round enters, lists, examines or renumbers.
     fn calls(self) -> usize {
         match self {
-            Task::EnterOneByOne(lines) | Task::EnterWhole(lines) | Task::Examine(lines) => lines,
+            Task::EnterOneByOne(lines)
+            | Task::EnterWhole(lines)
+            | Task::Examine(lines)
+            | Task::Collect(lines) => lines,
             _ => CALLS,
         }
     }
@@ -145,14 +162,14 @@ fn job(task: Task, names: usize) -> Job {
                 [right, b":GOTO".to_vec()].concat()
             }
             Task::Delete(_) => number.to_string().into_bytes(),
-            Task::List(_) | Task::Examine(_) => Vec::new(),
+            Task::List(_) | Task::Examine(_) | Task::Collect(_) => Vec::new(),
             Task::EnterOneByOne(_) | Task::EnterWhole(_) => text(names, call * STEP + STEP, call),
         });
     }
     if let Task::EnterWhole(_) = task {
         texts = vec![texts.join(&0x9B)];
     }
-    if let Task::Examine(_) = task {
+    if let Task::Examine(_) | Task::Collect(_) = task {
         texts.truncate(1);
     }
     Job {
@@ -187,6 +204,12 @@ fn round<S: Side>(job: &Job) -> f64 {
                 &work.values,
                 &work.store,
                 &work.record,
+            ),
+            Task::Collect(_) => S::collect(
+                black_box(&mut work.names),
+                &mut work.values,
+                &mut work.store,
+                &mut work.record,
             ),
             Task::EnterWhole(_) => S::batch(
                 black_box(&job.texts[call]),
@@ -273,15 +296,20 @@ fn median(mut times: Vec<f64>) -> f64 {
 
 fn main() {
     let mut words = env::args().skip(1);
-    let rounds = match (words.next().as_deref(), words.next()) {
-        (Some("--rounds"), Some(count)) => count.parse().expect("a number of rounds"),
-        _ => 500_usize,
-    };
-    println!("ns for each line, median of {rounds} rounds of {CALLS} calls; of a tenth as many where a program is entered or examined");
+    let mut rounds = 500_usize;
+    let mut only = String::new();
+    while let (Some(option), Some(value)) = (words.next(), words.next()) {
+        match option.as_str() {
+            "--rounds" => rounds = value.parse().expect("a number of rounds"),
+            "--only" => only = value,
+            _ => panic!("bench [--rounds N] [--only PART]"),
+        }
+    }
+    println!("ns for each line, median of {rounds} rounds of {CALLS} calls; of a tenth as many where a program is entered, examined or renumbered");
     println!("| task | names | reference | library | ratio | bytes moved |");
     println!("|---|---|---|---|---|---|");
-    for task in TASKS {
-        for names in NAME_COUNTS {
+    for task in TASKS.into_iter().filter(|task| task.title().contains(&only)) {
+        for &names in task.name_counts() {
             let job = job(task, names);
             let mut reference = Vec::new();
             let mut library: Vec<f64> = Vec::new();
@@ -303,9 +331,11 @@ fn main() {
             };
             let title = task.title();
             let moved = match task {
-                Task::List(_) | Task::EnterOneByOne(_) | Task::EnterWhole(_) | Task::Examine(_) => {
-                    "-".into()
-                }
+                Task::List(_)
+                | Task::EnterOneByOne(_)
+                | Task::EnterWhole(_)
+                | Task::Examine(_)
+                | Task::Collect(_) => "-".into(),
                 _ => format!("{:.0}", moved(&job)),
             };
             println!("| {title} | {names} | {reference:.0} | {shown} | {ratio} | {moved} |");

@@ -26,6 +26,10 @@ pub trait Side {
     /// Examines a program and gives the answer's first number.
     fn examine(names: &[u8], values: &[u8], store: &[u8], record: &Record) -> usize;
 
+    /// Takes unused names back and gives the answer's number.
+    fn collect(names: &mut [u8], values: &mut [u8], store: &mut [u8], record: &mut Record)
+        -> usize;
+
     /// Lists a line and gives the answer's number and the bytes written.
     fn list(
         line: usize,
@@ -70,6 +74,16 @@ impl Side for Reference {
         reference::examine(names, bytes, count, values, store, record.used)
             .numbers()
             .0
+    }
+
+    #[inline(never)]
+    fn collect(
+        names: &mut [u8],
+        values: &mut [u8],
+        store: &mut [u8],
+        record: &mut Record,
+    ) -> usize {
+        reference::collect(names, values, store, record)
     }
 
     #[inline(never)]
@@ -128,6 +142,19 @@ impl Side for Library {
             virgontey::Verdict::Yes => 0,
             _ => 1,
         }
+    }
+
+    #[inline(never)]
+    fn collect(
+        names: &mut [u8],
+        values: &mut [u8],
+        store: &mut [u8],
+        record: &mut Record,
+    ) -> usize {
+        let mut lent = lend(record);
+        let number = virgontey::collect(names, values, store, &mut lent);
+        *record = given_back(&lent);
+        number
     }
 
     #[inline(never)]

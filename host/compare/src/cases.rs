@@ -5,8 +5,10 @@ use std::collections::{BTreeMap, VecDeque};
 use protocol::{run_reference, Answer, Call, Names, Tables};
 use reference::{BatchAnswer, Record};
 
-use crate::files::damage;
+use crate::files::{damage, file_of};
 use crate::lines::{any_line, change, error_line, error_text, spoil_buffer};
+use crate::pairs::{Edit, Pair};
+use crate::programs::program_over;
 use crate::random::Random;
 use crate::texts::{any_text, bulky_text, delete_text, lawful_text, new_name, spoil};
 use crate::texts::{has_number, take_number_off};
@@ -39,6 +41,12 @@ pub enum Promise {
     Lists,
     /// The file was just written, and the buffers have room for its program: these tables must be there again.
     SameProgram(Box<Tables>),
+    /// Unused names were just taken back: nothing more must change.
+    NothingMore,
+    /// The line was listed so before unused names were taken back.
+    ListsAs(Vec<u8>),
+    /// A file of this program, read and listed line by line, has so many bytes of listings with one end byte a line.
+    Weighs(Box<Tables>, usize),
 }
 
 /// Makes cases without end, the same ones for the same seed.
@@ -73,16 +81,13 @@ impl Iterator for Cases {
             return Some(case);
         }
         if self.left_in_world == 0 {
-            self.world = new_world(&mut self.random);
-            // Calls over large stores take long.
-            let large = self.world.tables.store.len() > 20_000;
-            let most = if large { 12 } else { 60 };
-            self.left_in_world = self.random.between(8, most);
-            self.table += 1;
+            self.enter_world();
         }
         self.left_in_world -= 1;
         Some(match self.random.below(100) {
-            0..=47 => self.enter_case(),
+            0..=42 => self.enter_case(),
+            43..=44 => self.weigh_case(),
+            45..=47 => self.collect_case(),
             48..=51 => self.file_case(),
             52..=66 => self.list_case(),
             67..=77 => self.foreign_case(),
@@ -105,6 +110,101 @@ impl Cases {
             waiting: VecDeque::new(),
             table: 0,
         }
+    }
+
+    /// Goes to another world.
+    fn enter_world(&mut self) {
+        self.world = new_world(&mut self.random);
+        // Calls over large stores take long.
+        let large = self.world.tables.store.len() > 20_000;
+        let most = if large { 12 } else { 60 };
+        self.left_in_world = self.random.between(8, most);
+        self.table += 1;
+    }
+
+    /// Gives the world so many names that new ones come to the last short token, or to the last of all.
+    fn fill_names(&mut self) {
+        let count = self
+            .random
+            .pick(&[125, 126, 127, 127, 127, 128, 254, 255, 256]);
+        let names = new_names(&mut self.random, count);
+        let mut tables = Tables::default();
+        self.use_names(&mut tables, &names, 20);
+        tables.names.extend(self.random.bytes(300));
+        tables.values.extend(self.random.bytes(200));
+        tables.store.extend(self.random.bytes(600));
+        agree(&mut tables);
+        self.world.adopt(tables);
+    }
+
+    /// Two edits of the world's program whose line numbers differ: each one line or, one pair in eight, many.
+    pub fn pair(&mut self) -> Pair {
+        if self.left_in_world == 0 {
+            self.enter_world();
+            if self.random.chance(25) {
+                self.fill_names();
+            }
+        }
+        self.left_in_world -= 1;
+        let many = self.random.chance(12);
+        let first = self.edit(many, |number| number & !1);
+        let mut second = self.edit(many, |number| number | 1);
+        if !many && self.random.chance(10) {
+            // The same statements, and so the same new names, under another number.
+            let digits = |text: &[u8]| text.iter().take_while(|b| b.is_ascii_digit()).count();
+            let number = second.text[..digits(&second.text)].to_vec();
+            second.text = [&number, &first.text[digits(&first.text)..]].concat();
+        }
+        let edits = if self.random.chance(50) {
+            [first, second]
+        } else {
+            [second, first]
+        };
+        Pair {
+            tables: self.world.tables.clone(),
+            edits,
+        }
+    }
+
+    /// An edit with lines whose numbers `side` gives.
+    fn edit(&mut self, many: bool, side: fn(usize) -> usize) -> Edit {
+        let count = if many { self.random.between(1, 6) } else { 1 };
+        let lines: Vec<Vec<u8>> = (0..count).map(|_| self.edit_line(side)).collect();
+        Edit {
+            text: lines.join(&0x9B),
+            keep: self.random.chance(30),
+            many,
+        }
+    }
+
+    /// A line that is entered or taken out, with a number that `side` gives: mostly that of a stored line, if it is taken
+    /// out.
+    fn edit_line(&mut self, side: fn(usize) -> usize) -> Vec<u8> {
+        let stored = self.stored_line().filter(|number| side(*number) == *number);
+        let replaces = self.random.chance(40);
+        let number = match stored {
+            Some(number) if replaces => number,
+            _ => {
+                let bound = self.random.pick(&[40, 40, 32768]);
+                side(self.random.below(bound))
+            }
+        };
+        let mut line = number.to_string().into_bytes();
+        if stored.is_some() && replaces && self.random.chance(40) {
+            return line;
+        }
+        line.push(b' ');
+        if self.random.chance(15) {
+            // One name, mostly a new one, once or more often: its tokens are all short or all long.
+            let name = format!("Q{}", self.random.below(200));
+            let names = vec![name; self.random.between(1, 5)];
+            line.extend(format!("?{}", names.join(";")).bytes());
+            return line;
+        }
+        let mut text = lawful_text(&mut self.random, &self.world.names);
+        take_number_off(&mut self.random, &mut text);
+        line.append(&mut text);
+        line
     }
 
     /// A case over the present name table.
@@ -445,6 +545,136 @@ impl Cases {
         let mut case = self.case(Call::Load { file, tables: lent }, promise);
         case.table = 0;
         case
+    }
+
+    /// Weighs a file of the world's program, or of one that uses some names of its table, as it is or damaged.
+    fn weigh_case(&mut self) -> Case {
+        let mut tables = self.world.tables.clone();
+        if self.random.chance(50) {
+            self.use_some_names(&mut tables);
+            agree(&mut tables);
+        }
+        let second = self.random.pick(&[0, 14, 256, 1792]);
+        let mut file = file_of(&tables, second);
+        if self.random.chance(20) {
+            damage(&mut self.random, &mut file);
+        } else if self.random.chance(2) {
+            let length = self.random.between(65_534, 65_537);
+            file.resize(length, 0);
+        }
+        let promise = match loaded(&file) {
+            Some(program) => {
+                let listings = listing_bytes(&program);
+                Promise::Weighs(Box::new(program), listings)
+            }
+            None => Promise::None,
+        };
+        let mut case = self.case(Call::Weigh { file }, promise);
+        case.table = 0;
+        case
+    }
+
+    /// Takes unused names back: those of the world's program, of one that uses some names of its table, of one with a
+    /// line changed or bits flipped, or over upset tables. Lines list then as before, and once more changes nothing.
+    fn collect_case(&mut self) -> Case {
+        let mut tables = self.world.tables.clone();
+        match self.random.below(12) {
+            0..=2 => {}
+            3..=7 => self.use_some_names(&mut tables),
+            8 => self.change_line(&mut tables),
+            9 => self.flip_bits(&mut tables),
+            10 => {
+                self.use_some_names(&mut tables);
+                self.flip_bits(&mut tables);
+            }
+            _ => self.upset(&mut tables),
+        }
+        if self.random.chance(90) {
+            agree(&mut tables);
+        }
+        let call = Call::Collect {
+            tables: tables.clone(),
+        };
+        let mut case = self.case(call, Promise::None);
+        case.table = 0;
+        let Answer::Load {
+            number: 0,
+            tables: after,
+        } = &case.expected
+        else {
+            return case;
+        };
+        let after = after.clone();
+        let again = Call::Collect {
+            tables: after.clone(),
+        };
+        self.wait_for(again, Promise::NothingMore);
+        for number in self.some_numbers(&after) {
+            let before = listing(number, &tables);
+            if before.is_empty() {
+                continue;
+            }
+            let list = |tables: &Tables, out: Vec<u8>| Call::List {
+                number,
+                tables: tables.clone(),
+                out,
+            };
+            let out = self.random.bytes(before.len());
+            self.wait_for(list(&tables, out.clone()), Promise::ListsAs(before.clone()));
+            self.wait_for(list(&after, out), Promise::ListsAs(before));
+        }
+        if self.random.chance(30) {
+            self.world.adopt(after);
+            self.table += 1;
+        }
+        case
+    }
+
+    /// Lets a call wait for its turn. What it lists is not compared with other listings.
+    fn wait_for(&mut self, call: Call, promise: Promise) {
+        let mut case = self.case(call, promise);
+        case.table = 0;
+        self.waiting.push_back(case);
+    }
+
+    /// The numbers of up to three lines.
+    fn some_numbers(&mut self, tables: &Tables) -> Vec<usize> {
+        let numbers: Vec<usize> = lines_of(tables).into_keys().collect();
+        let count = numbers.len().min(3);
+        (0..count).map(|_| self.random.pick(&numbers)).collect()
+    }
+
+    /// Gives the tables a store of lines that use some of their names, few, many, most or all; now and then more than 128
+    /// names first.
+    fn use_some_names(&mut self, tables: &mut Tables) {
+        let percent = self.random.pick(&[3, 50, 90, 97, 100]);
+        if self.random.chance(30) {
+            let count = self.random.between(129, 256);
+            let names = new_names(&mut self.random, count);
+            return self.use_names(tables, &names, percent);
+        }
+        let names = self.world.names.clone();
+        self.use_lines(tables, &names, percent);
+    }
+
+    /// Gives the tables these names, any values, and a store of lines that use each so many times in a hundred.
+    fn use_names(&mut self, tables: &mut Tables, names: &[Vec<u8>], percent: usize) {
+        let spare = self.random.below(40);
+        tables.names = stored_names(names);
+        tables.values = self.random.bytes(8 * names.len() + spare);
+        tables.record.name_bytes = tables.names.len();
+        tables.record.name_count = names.len();
+        tables.names.extend(self.random.bytes(spare));
+        self.use_lines(tables, names, percent);
+    }
+
+    /// Gives the tables a store of lines that use each of their names so many times in a hundred.
+    fn use_lines(&mut self, tables: &mut Tables, names: &[Vec<u8>], percent: usize) {
+        let lines = program_over(&mut self.random, names, percent);
+        let spare = self.random.below(40);
+        tables.store = lines.into_values().flatten().collect();
+        tables.record.used = tables.store.len();
+        tables.store.extend(self.random.bytes(spare));
     }
 
     /// Flips one bit, or two, in names, values or store.
@@ -912,6 +1142,39 @@ fn first_refused(tables: &Tables) -> Option<Option<usize>> {
     )
 }
 
+/// The program of a file, if it can be read.
+fn loaded(file: &[u8]) -> Option<Tables> {
+    let call = Call::Load {
+        file: file.to_vec(),
+        tables: Tables {
+            names: vec![0; file.len()],
+            values: vec![0; file.len()],
+            store: vec![0; file.len()],
+            record: Record::default(),
+        },
+    };
+    match run_reference(call) {
+        Answer::Load { number: 0, tables } => Some(tables),
+        _ => None,
+    }
+}
+
+/// The bytes of all listings of a program, with one end byte a line. A line that is not well-formed has none.
+fn listing_bytes(tables: &Tables) -> usize {
+    let length = |number: usize| {
+        let call = Call::List {
+            number,
+            tables: tables.clone(),
+            out: vec![0; 80_000],
+        };
+        match run_reference(call) {
+            Answer::List { written, .. } => written + 1,
+            _ => unreachable!("a listing is answered as a listing"),
+        }
+    };
+    lines_of(tables).into_keys().map(length).sum()
+}
+
 /// The listing of a stored line, or a line of nothing if it has none.
 fn listing(number: usize, tables: &Tables) -> Vec<u8> {
     let call = Call::List {
@@ -989,7 +1252,7 @@ fn changed_line(before: &Tables, after: &Tables) -> Option<usize> {
 }
 
 /// The lines of a sound store.
-fn lines_of(tables: &Tables) -> BTreeMap<usize, Vec<u8>> {
+pub fn lines_of(tables: &Tables) -> BTreeMap<usize, Vec<u8>> {
     let mut lines = BTreeMap::new();
     let mut rest = &tables.store[..tables.record.used];
     while !rest.is_empty() {
@@ -1059,17 +1322,8 @@ impl World {
     }
 }
 
-/// Makes sound tables and a store.
-fn new_world(random: &mut Random) -> World {
-    let count = match random.below(20) {
-        0..=3 => 0,
-        4..=11 => random.between(1, 10),
-        12..=15 => random.between(11, 40),
-        16 => random.between(100, 127),
-        17 => random.between(128, 140),
-        18 => random.between(141, 255),
-        _ => 256,
-    };
+/// So many names, each another.
+fn new_names(random: &mut Random, count: usize) -> Vec<Vec<u8>> {
     let mut names: Vec<Vec<u8>> = Vec::new();
     while names.len() < count {
         let mut name = new_name(random);
@@ -1081,6 +1335,21 @@ fn new_world(random: &mut Random) -> World {
             names.push(name);
         }
     }
+    names
+}
+
+/// Makes sound tables and a store.
+fn new_world(random: &mut Random) -> World {
+    let count = match random.below(20) {
+        0..=3 => 0,
+        4..=11 => random.between(1, 10),
+        12..=15 => random.between(11, 40),
+        16 => random.between(100, 127),
+        17 => random.between(128, 140),
+        18 => random.between(141, 255),
+        _ => 256,
+    };
+    let names = new_names(random, count);
 
     // Lines come from texts entered one by one into an empty store, wrong ones too.
     let mut tables = Tables {
@@ -1271,6 +1540,81 @@ mod tests {
             met.replaces,
         ];
         assert!(counts.iter().all(|count| *count > 10), "{met:?}");
+    }
+
+    /// What collections meet.
+    #[derive(Default, Debug)]
+    struct Collected {
+        unsound: usize,
+        bad_line: usize,
+        all_used: usize,
+        none_used: usize,
+        some_used: usize,
+        shrinks: usize,
+        shrinks_past_half: usize,
+        more_than_128_stay: usize,
+        error_lines: usize,
+        raw_look_alikes: usize,
+    }
+
+    impl Collected {
+        /// Notes what this call meets, if it takes unused names back.
+        fn take(&mut self, case: &Case) {
+            let (
+                Call::Collect { tables },
+                Answer::Load {
+                    number,
+                    tables: after,
+                },
+            ) = (&case.call, &case.expected)
+            else {
+                return;
+            };
+            match number {
+                0 => {}
+                1 => return self.unsound += 1,
+                _ => return self.bad_line += 1,
+            }
+            let (old, new) = (&tables.record, &after.record);
+            let had = old.name_count > 0;
+            self.all_used += (had && new.name_count == old.name_count) as usize;
+            self.none_used += (had && new.name_count == 0) as usize;
+            self.some_used += (0 < new.name_count && new.name_count < old.name_count) as usize;
+            self.shrinks += (new.used < old.used) as usize;
+            self.more_than_128_stay += (128 < new.name_count && new.used < old.used) as usize;
+            let renumbered = old.name_count != new.name_count;
+            for (number, line) in lines_of(tables) {
+                // An offset past 127, which looks like a variable itself.
+                let shorter = lines_of(after)[&number].len() < line.len();
+                self.shrinks_past_half +=
+                    (shorter && line[3] < line[2] && line.len() > 140) as usize;
+                self.error_lines += (renumbered && error_text(&line).is_some()) as usize;
+                let raw = line[4] < 2 && line[5..line.len() - 1].iter().any(|byte| *byte >= 0x80);
+                self.raw_look_alikes += (renumbered && raw) as usize;
+            }
+        }
+    }
+
+    /// Collections meet every kind of program.
+    #[test]
+    fn collections_of_every_kind() {
+        let mut met = Collected::default();
+        for case in Cases::new(9, 1 << 63).take(10_000) {
+            met.take(&case);
+        }
+        let counts = [
+            met.unsound,
+            met.bad_line,
+            met.all_used,
+            met.none_used,
+            met.some_used,
+            met.shrinks,
+            met.shrinks_past_half,
+            met.more_than_128_stay,
+            met.error_lines,
+            met.raw_look_alikes,
+        ];
+        assert!(counts.iter().all(|count| *count > 5), "{met:?}");
     }
 
     /// The bytes from the start of the line that a call lists, and whether they are in a line buffer.

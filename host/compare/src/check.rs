@@ -3,12 +3,13 @@
 use std::collections::HashMap;
 
 use protocol::{Answer, Call, Tables};
-use reference::BatchAnswer;
+use reference::{BatchAnswer, Weight};
 
 use crate::cases::{Case, Promise};
 use crate::files::used_parts;
 use crate::lines::error_text;
 use crate::texts::has_number;
+use crate::tokens::{check_collected, weight_of};
 
 /// Keeps what the demands compare between calls.
 #[derive(Default)]
@@ -17,7 +18,7 @@ pub struct Checker {
     /// Listings over the present name table, each with its line.
     listings: HashMap<Vec<u8>, Vec<u8>>,
     /// How often each answer was given.
-    pub counts: [u64; 14],
+    pub counts: [u64; 15],
     /// Listings entered again, with a number and without, and pairs of equal listings seen.
     pub entered_again: u64,
     pub direct_again: u64,
@@ -38,6 +39,18 @@ pub struct Checker {
     pub saved: u64,
     pub loaded: u64,
     pub read_again: u64,
+    /// Collections that were not refused, and that changed nothing more; names that they took back, and bytes of the
+    /// store.
+    pub collected: u64,
+    pub collected_again: u64,
+    pub names_taken: u64,
+    pub bytes_taken: u64,
+    /// Lines listed before or after a collection.
+    pub listed_around: u64,
+    /// Files weighed, and their bytes of listings and of store.
+    pub weighed: u64,
+    pub listing_bytes: u64,
+    pub store_bytes: u64,
     /// Records that disagree with a store of lines end to end.
     pub disagreeing: u64,
 }
@@ -124,6 +137,13 @@ impl Checker {
             ) => {
                 self.check_record(tables, *number)?;
                 let listing = check_output(case, *number, out, *written, after)?;
+                if let Promise::ListsAs(expected) = &case.promise {
+                    self.listed_around += 1;
+                    require(
+                        listing == Some(expected),
+                        "a line lists otherwise after a collection",
+                    )?;
+                }
                 let line = find(tables, *asked);
                 self.check_error(line, *number, &format!("{asked} "), listing)?;
                 let Some(listing) = listing else {
@@ -197,6 +217,51 @@ impl Checker {
                 self.loaded += 1;
                 self.read_again += check_loaded(&case.promise, tables, after)? as u64;
                 Ok(())
+            }
+            (
+                Call::Collect { tables },
+                Answer::Load {
+                    number,
+                    tables: after,
+                },
+            ) => {
+                self.check_record(tables, *number)?;
+                let again = case.promise == Promise::NothingMore;
+                if again {
+                    require(*number == 0, "a second collection was refused")?;
+                    require(tables == after, "a second collection changed something")?;
+                    self.collected_again += 1;
+                }
+                if *number != 0 {
+                    return require(tables == after, "a refused collection changed something");
+                }
+                self.collected += 1;
+                let (old, new) = (&tables.record, &after.record);
+                self.names_taken += (old.name_count - new.name_count) as u64;
+                self.bytes_taken += (old.used - new.used) as u64;
+                check_collected(tables, after)
+            }
+            (Call::Weigh { file }, Answer::Weigh { number, weight }) => {
+                if *number != 0 {
+                    require(*weight == Weight::default(), "a refused file has columns")?;
+                    let long = file.len() > 65_535;
+                    require((*number == 14) == long, "14 without cause")?;
+                    let read = matches!(case.promise, Promise::Weighs(..));
+                    return require(
+                        read == (*number == 10) || long,
+                        "a file that can be read was refused",
+                    );
+                }
+                self.weighed += 1;
+                self.listing_bytes += weight.listing as u64;
+                self.store_bytes += weight.used as u64;
+                let Promise::Weighs(program, listings) = &case.promise else {
+                    return Err("a file that cannot be read was weighed".into());
+                };
+                require(
+                    weight_of(program, *listings) == Some(*weight),
+                    "another count of bytes",
+                )
             }
             (
                 Call::Batch { text, tables, keep },
@@ -329,7 +394,7 @@ impl Checker {
 }
 
 /// Says what is wrong unless `holds`.
-fn require(holds: bool, wrong: &str) -> Result<(), String> {
+pub fn require(holds: bool, wrong: &str) -> Result<(), String> {
     if holds {
         Ok(())
     } else {
@@ -350,7 +415,7 @@ fn number_of(line: &[u8]) -> usize {
 }
 
 /// The record's count of lines and greatest number.
-fn pair(tables: &Tables) -> (usize, usize) {
+pub fn pair(tables: &Tables) -> (usize, usize) {
     (tables.record.lines, tables.record.greatest)
 }
 
@@ -361,7 +426,7 @@ fn walk(lines: &[&[u8]]) -> (usize, usize) {
 }
 
 /// The lines of a store, if they lie end to end up to the used count.
-fn lines(tables: &Tables) -> Option<Vec<&[u8]>> {
+pub fn lines(tables: &Tables) -> Option<Vec<&[u8]>> {
     let mut rest = tables.store.get(..tables.record.used)?;
     let mut lines = Vec::new();
     while !rest.is_empty() {
@@ -536,7 +601,7 @@ fn check_names(before: &Tables, after: &Tables, added: usize) -> Result<(), Stri
 }
 
 /// Bytes behind a new end are as they were.
-fn tail(before: &[u8], after: &[u8], end: usize) -> Result<(), String> {
+pub fn tail(before: &[u8], after: &[u8], end: usize) -> Result<(), String> {
     require(before.len() == after.len(), "a buffer has another length")?;
     require(
         before[end..] == after[end..],

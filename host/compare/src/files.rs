@@ -7,6 +7,22 @@ use crate::random::Random;
 /// Bytes of the words.
 const HEAD: usize = 14;
 
+/// A file of a program whose second word is this, with END as its current line. Its last word is cut where it would pass 65,535.
+pub fn file_of(tables: &Tables, second: usize) -> Vec<u8> {
+    let [names, values, lines] = used_parts(tables);
+    let last = [0x00, 0x80, 0x06, 0x06, 0x15, 0x16];
+    let parts = [names, &[0], values, lines, &last];
+    let mut file = vec![0; 2];
+    let mut word = second;
+    file.extend((word as u16).to_le_bytes());
+    for part in parts {
+        word += part.len();
+        file.extend((word as u16).to_le_bytes());
+    }
+    file.extend(parts.concat());
+    file
+}
+
 /// Damages a file: a byte of its words or any byte changed, a word moved by a little, a cut at any length, or bytes
 /// added, sometimes with the last word to fit; or it is any bytes.
 pub fn damage(random: &mut Random, file: &mut Vec<u8>) {

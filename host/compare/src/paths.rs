@@ -9,7 +9,7 @@ use protocol::{read_call, run_reference, write_answer};
 
 /// The reference once more, with call and answer sent through the protocol's text.
 #[cfg(not(feature = "library"))]
-pub fn through_text(call: &Call) -> Option<Answer> {
+fn through_text(call: &Call) -> Option<Answer> {
     let line = write_call(call);
     let answer = run_reference(read_call(&line)?);
     read_answer(&write_answer(&answer), call.kind())
@@ -17,7 +17,7 @@ pub fn through_text(call: &Call) -> Option<Answer> {
 
 /// The proved library.
 #[cfg(feature = "library")]
-pub fn through_library(call: &Call) -> Option<Answer> {
+fn through_library(call: &Call) -> Option<Answer> {
     Some(match call.clone() {
         Call::Enter {
             text,
@@ -156,6 +156,19 @@ pub fn through_library(call: &Call) -> Option<Answer> {
             tables.record = given_back(&record);
             Answer::Load { number, tables }
         }
+        Call::Collect { mut tables } => {
+            let mut record = lend(&tables.record);
+            let number = virgontey::collect(
+                &mut tables.names,
+                &mut tables.values,
+                &mut tables.store,
+                &mut record,
+            );
+            tables.record = given_back(&record);
+            Answer::Load { number, tables }
+        }
+        // The report is a program: the library has no such call.
+        Call::Weigh { .. } => return None,
     })
 }
 
@@ -181,6 +194,14 @@ fn given_back(record: &virgontey::Record) -> reference::Record {
         lines: record.lines,
         greatest: record.greatest,
     }
+}
+
+/// The implementation that is in this process, and what counts of tables it takes are below.
+pub fn in_process() -> (fn(&Call) -> Option<Answer>, u64) {
+    #[cfg(feature = "library")]
+    return (through_library, u64::MAX);
+    #[cfg(not(feature = "library"))]
+    return (through_text, 1 << 63);
 }
 
 /// Starts a program that speaks the protocol.

@@ -2,7 +2,7 @@
 
 #![forbid(unsafe_code)]
 
-use reference::{BatchAnswer, Record};
+use reference::{BatchAnswer, Record, Weight};
 
 /// The most bytes of each field.
 pub const MOST_TEXT: usize = 4096;
@@ -72,6 +72,12 @@ pub enum Call {
         file: Vec<u8>,
         tables: Tables,
     },
+    Collect {
+        tables: Tables,
+    },
+    Weigh {
+        file: Vec<u8>,
+    },
 }
 
 impl Call {
@@ -82,7 +88,8 @@ impl Call {
             Call::List { .. } | Call::Show { .. } | Call::Save { .. } => Kind::List,
             Call::Batch { .. } => Kind::Batch,
             Call::Examine { .. } => Kind::Examine,
-            Call::Load { .. } => Kind::Load,
+            Call::Load { .. } | Call::Collect { .. } => Kind::Load,
+            Call::Weigh { .. } => Kind::Weigh,
         }
     }
 }
@@ -95,7 +102,9 @@ pub enum Kind {
     List,
     Batch,
     Examine,
+    /// A file read, or names taken back.
     Load,
+    Weigh,
 }
 
 /// What a call answers and leaves, whole.
@@ -127,6 +136,11 @@ pub enum Answer {
         number: usize,
         tables: Tables,
     },
+    /// All columns are 0 on a refusal.
+    Weigh {
+        number: usize,
+        weight: Weight,
+    },
 }
 
 impl Answer {
@@ -135,7 +149,8 @@ impl Answer {
         match self {
             Answer::Enter { number, .. }
             | Answer::List { number, .. }
-            | Answer::Load { number, .. } => *number,
+            | Answer::Load { number, .. }
+            | Answer::Weigh { number, .. } => *number,
             Answer::Batch { answer, .. } => answer.number,
             Answer::Examine { which, .. } => *which,
         }
@@ -199,6 +214,12 @@ pub fn read_call(line: &[u8]) -> Option<Call> {
             let tables = fields.tables()?;
             Call::Load { file, tables }
         }
+        b"collect" => Call::Collect {
+            tables: fields.tables()?,
+        },
+        b"weigh" => Call::Weigh {
+            file: fields.bytes(MOST_FILE)?,
+        },
         _ => return None,
     };
     fields.at_end().then_some(call)
@@ -262,6 +283,14 @@ pub fn write_call(call: &Call) -> Vec<u8> {
             row.bytes(file);
             row.tables(tables);
         }
+        Call::Collect { tables } => {
+            row.word("collect");
+            row.tables(tables);
+        }
+        Call::Weigh { file } => {
+            row.word("weigh");
+            row.bytes(file);
+        }
     }
     row.text
 }
@@ -309,6 +338,20 @@ pub fn read_answer(line: &[u8], kind: Kind) -> Option<Answer> {
         Kind::Load => Answer::Load {
             number: fields.number()?,
             tables: fields.tables_after()?,
+        },
+        Kind::Weigh => Answer::Weigh {
+            number: fields.number()?,
+            weight: Weight {
+                lines: fields.number()?,
+                names: fields.number()?,
+                used: fields.number()?,
+                listing: fields.number()?,
+                variables: fields.number()?,
+                numbers: fields.number()?,
+                strings: fields.number()?,
+                raw: fields.number()?,
+                others: fields.number()?,
+            },
         },
     };
     fields.at_end().then_some(answer)
@@ -359,6 +402,12 @@ pub fn write_answer(answer: &Answer) -> Vec<u8> {
         Answer::Load { number, tables } => {
             row.number(*number);
             row.tables_after(tables.record.used, tables);
+        }
+        Answer::Weigh { number, weight } => {
+            row.number(*number);
+            for column in weight.columns() {
+                row.number(column);
+            }
         }
     }
     row.text
@@ -481,6 +530,22 @@ pub fn run_reference(call: Call) -> Answer {
                 &mut tables.record,
             );
             Answer::Load { number, tables }
+        }
+        Call::Collect { mut tables } => {
+            let number = reference::collect(
+                &mut tables.names,
+                &mut tables.values,
+                &mut tables.store,
+                &mut tables.record,
+            );
+            Answer::Load { number, tables }
+        }
+        Call::Weigh { file } => {
+            let result = reference::weigh(&file);
+            Answer::Weigh {
+                number: result.err().unwrap_or(0),
+                weight: result.unwrap_or_default(),
+            }
         }
     }
 }
@@ -711,7 +776,7 @@ mod tests {
 
     #[test]
     fn lines_that_are_no_call() {
-        let bad: [&[u8]; 47] = [
+        let bad: [&[u8]; 54] = [
             b"",
             b" ",
             b"enter",
@@ -759,6 +824,13 @@ mod tests {
             b"save - 0 0 - - 0 0 0 - -",
             b"load - - 0 0 - - 0 0",
             b"load 0 - 0 0 - - 0 0 0",
+            b"collect - 0 0 - - 0 0",
+            b"collect - 0 0 - - 0 0 0 -",
+            b"collect 0 0 0 - - 0 0 0",
+            b"weigh",
+            b"weigh 0",
+            b"weigh 00 ",
+            b"weigh 00 00",
         ];
         for line in bad {
             assert_eq!(
@@ -779,7 +851,8 @@ mod tests {
             &"9b".repeat(MOST_LINES_TEXT + 1),
             " - 0 0 - - 0 0 0 0",
         ];
-        for long in [long_text, long_line, long_lines] {
+        let long_file = ["weigh ", &"00".repeat(MOST_FILE + 1), ""];
+        for long in [long_text, long_line, long_lines, long_file] {
             assert_eq!(answer_line(long.concat().as_bytes()), b"bad");
         }
     }
@@ -846,6 +919,40 @@ mod tests {
             "0 0 0 0 0 0 ff ff ff",
         );
         answers("load - ff 1 2 ff ff 3 4 5", "12 3 4 5 1 2 ff ff ff");
+        // The first of two names is used by no line: 10 PRINT B.
+        answers(
+            "collect c1c2 2 2 01020304050607081112131415161718 0a0007072081160b 7 1 10",
+            "0 7 1 10 1 1 c2c2 11001314151617181112131415161718 0a0007072080160b",
+        );
+        answers(
+            "collect - 0 0 - 0a0007072080160b 7 1 10",
+            "10 7 1 10 0 0 - - 0a0007072080160b",
+        );
+        answers(
+            "weigh 000000010001010101010101070100008006061516",
+            "0 0 0 0 0 0 0 0 0 0",
+        );
+        // 10 A=B and 20 END, which lists with a blank at its end.
+        let words = "0000000102010301130122012801";
+        let tables = "c1c20000000000000000000001000000000000";
+        let lines = "0a00090936802d8116140006061516008006061516";
+        answers(
+            &["weigh ", words, tables, lines].concat(),
+            "0 2 2 15 15 2 0 0 0 13",
+        );
+        answers("weigh -", "12 0 0 0 0 0 0 0 0 0");
+        answers(
+            &["weigh ", &"00".repeat(65_535)].concat(),
+            "13 0 0 0 0 0 0 0 0 0",
+        );
+        answers(
+            &["weigh ", &"00".repeat(65_536)].concat(),
+            "14 0 0 0 0 0 0 0 0 0",
+        );
+        answers(
+            "collect - 0 0 - 0a0006061516 6 1 11",
+            "1 6 1 11 0 0 - - 0a0006061516",
+        );
     }
 
     #[test]
@@ -857,6 +964,8 @@ mod tests {
             "show 0080060615160a c1 1 1 0000000000000000 ffffff",
             "batch 3130204242429b323020413d31 ff 0 0 ffffffffffffffff ffffffffffffffffffffffffffffffff 0 0 0 1",
             "examine c1 1 1 0000000000000000 0a0007072080160c000606379b 13",
+            "collect c1c2 2 2 00000000000000000001000000000000 0a0007072081160c000606379b 13 2 12",
+            "weigh 000000010001010101010108080107000000000606379b",
         ] {
             let call = read_call(line.as_bytes()).unwrap();
             assert_eq!(write_call(&call), line.as_bytes());

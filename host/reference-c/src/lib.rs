@@ -267,6 +267,33 @@ pub unsafe extern "C" fn virgontey_load(
     lent_mut(answer, answer_len)[0] = number;
 }
 
+/// # Safety
+/// Each pointer must be good for its length, and no two buffers may overlap.
+#[no_mangle]
+pub unsafe extern "C" fn virgontey_collect(
+    names: *mut u8,
+    names_len: usize,
+    values: *mut u8,
+    values_len: usize,
+    store: *mut u8,
+    store_len: usize,
+    record: *mut usize,
+    record_len: usize,
+    answer: *mut usize,
+    answer_len: usize,
+) {
+    let lent_record = lent_mut(record, record_len);
+    let mut record = read_record(lent_record);
+    let number = reference::collect(
+        lent_mut(names, names_len),
+        lent_mut(values, values_len),
+        lent_mut(store, store_len),
+        &mut record,
+    );
+    write_record(&record, lent_record);
+    lent_mut(answer, answer_len)[0] = number;
+}
+
 /// The reference does not panic; if it did, it would stop here.
 #[panic_handler]
 fn stop(_: &core::panic::PanicInfo) -> ! {

@@ -102,15 +102,15 @@ pub fn load(
 }
 
 /// The parts of a file's block, without the zero byte and a last line 32768.
-struct Parts<'a> {
-    names: &'a [u8],
-    values: &'a [u8],
-    lines: &'a [u8],
+pub struct Parts<'a> {
+    pub names: &'a [u8],
+    pub values: &'a [u8],
+    pub lines: &'a [u8],
     walk: Walk,
 }
 
 /// Finds the parts of a file, or the refusal: 12, 13, 1.
-fn parts(file: &[u8]) -> Result<Parts<'_>, usize> {
+pub fn parts(file: &[u8]) -> Result<Parts<'_>, usize> {
     let head = file.get(..HEAD).ok_or(12usize)?;
     let mut words = [0; 7];
     for (word, pair) in words.iter_mut().zip(head.chunks(2)) {

@@ -1,26 +1,32 @@
 //! Document 01 in plain Rust, with the requests of document 02 that have landed: the entry of a
 //! numbered text line into a store of token lines, of many at once, or of one without a number into a
-//! line buffer, the listing of a line, the examination of a program, and saved program files. Written
-//! from the documents alone, to be compared with the proved library. No heap, no unsafe code.
+//! line buffer, the listing of a line, the examination of a program, saved program files and what
+//! their bytes are, and unused names taken back. Written from the documents alone, to be compared with the
+//! proved library. No heap, no unsafe code.
 
 #![cfg_attr(not(test), no_std)]
 #![forbid(unsafe_code)]
 
+mod collect;
 mod constants;
 mod errors;
 mod files;
 mod items;
 mod listing;
+mod pieces;
 mod program;
 mod tables;
 mod translate;
+mod weigh;
 mod words;
 
+pub use collect::collect;
 pub use files::{load, save, SaveAnswer};
 use listing::{listable, spell_line, well_formed, Count, Write};
 use program::Program;
-use tables::{find_line, line_length, line_number, values_sound, walk_store};
+use tables::{find_line, line_length, line_number, stored_lines, values_sound, walk_store};
 use tables::{Names, Starts, Walk, DIRECT_LINE, SHORTEST_LINE};
+pub use weigh::{weigh, Weight, LONGEST_FILE, NO_FILE};
 use words::TEXT_END;
 
 /// The counts that go with the three buffers. All are 0 for an empty program.
@@ -202,15 +208,10 @@ pub fn examine(
         return Verdict::UnsoundStore;
     }
     let table = starts.over(names);
-    let mut at = 0;
-    while at < used {
-        let end = at + line_length(store, at);
-        if !well_formed(&store[at..end], &table) {
-            return Verdict::BadLine(line_number(store, at));
-        }
-        at = end;
+    match stored_lines(store, used).find(|line| !well_formed(line, &table)) {
+        Some(line) => Verdict::BadLine(line_number(line, 0)),
+        None => Verdict::Yes,
     }
-    Verdict::Yes
 }
 
 /// The answer of a listing that wrote so many bytes, or was refused.

@@ -526,7 +526,7 @@ fn spell_token(line: &[u8], at: usize, names: &Names, sink: &mut impl Sink) -> u
 }
 
 /// The number of the variable at a place of a line and how many bytes it is, if one stands there.
-fn variable_at(line: &[u8], at: usize) -> Option<(usize, usize)> {
+pub fn variable_at(line: &[u8], at: usize) -> Option<(usize, usize)> {
     match *line.get(at)? {
         byte @ 0x80.. => Some((byte as usize - 0x80, 1)),
         LONG_MARK => {

@@ -1,5 +1,7 @@
 //! The name table, the value table and the store.
 
+use core::ops::Range;
+
 use crate::words::{is_reserved, statement_token};
 
 /// The most names a table holds.
@@ -66,6 +68,11 @@ impl Starts {
             starts.add(length);
         }
         (start == bytes.len()).then_some(starts)
+    }
+
+    /// Where the bytes of a name stand.
+    pub fn name(&self, number: usize) -> Range<usize> {
+        self.places[number]..self.places[number + 1]
     }
 
     /// Notes that a name of this length stands behind the others.
@@ -192,6 +199,17 @@ pub fn line_number(store: &[u8], at: usize) -> usize {
 /// The length of the line that starts at `at`.
 pub fn line_length(store: &[u8], at: usize) -> usize {
     store[at + 2] as usize
+}
+
+/// The lines of a sound store.
+pub fn stored_lines(store: &[u8], used: usize) -> impl Iterator<Item = &[u8]> {
+    let mut rest = &store[..used];
+    core::iter::from_fn(move || {
+        let length = *rest.get(2)? as usize;
+        let (line, behind) = rest.split_at(length);
+        rest = behind;
+        Some(line)
+    })
 }
 
 /// What a walk of a sound store finds.

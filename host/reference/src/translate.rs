@@ -108,6 +108,16 @@ impl TokenLine {
         }
     }
 
+    /// Adds the token of the variable with this number.
+    pub fn put_variable(&mut self, number: usize) {
+        if number < FIRST_LONG {
+            self.put(0x80 | number as u8);
+        } else {
+            self.put(LONG_MARK);
+            self.put((number - FIRST_LONG) as u8);
+        }
+    }
+
     /// Writes the present length at a place left open before.
     pub fn close(&mut self, place: usize) {
         if place < self.bytes.len() {
@@ -284,12 +294,8 @@ impl Reader<'_> {
         let start = self.item.start;
         let end = self.item.end + (variable == Variable::Array) as usize;
         let number = self.name_number(start, end);
-        if number < FIRST_LONG {
-            self.take(0x80 | number as u8);
-        } else {
-            self.line.put(LONG_MARK);
-            self.take((number - FIRST_LONG) as u8);
-        }
+        self.line.put_variable(number);
+        self.step();
     }
 
     /// The number of a name, old or new; a name seen for the first time is noted.

@@ -1031,3 +1031,373 @@ fn files_read() {
         0
     );
 }
+
+/// The value entry of a variable of this type and number, with bytes behind them that are its own.
+fn value(type_byte: u8, number: u8, own: u8) -> [u8; 8] {
+    [type_byte, number, own, own, own, own, own, own]
+}
+
+#[test]
+fn unused_names_are_taken_back() {
+    let mut desk = Desk::new();
+    desk.batch(b"10 A=B+C$=D$\x9B20 E(A)=F\x9B30 ? F;B\x9B10\x9B15 REM A=\x80\x81\x9B");
+    // A to F are names 0 to 5, and C$ and D$ are used no more.
+    assert_eq!(desk.names_hex(), "C1 C2 43 A4 44 A4 45 A8 C6");
+    for number in 0..6 {
+        desk.values[8 * number + 2..8 * number + 8].fill(0x10 + number as u8);
+    }
+    desk.values[48..56].fill(0xEE);
+    let before = desk.clone();
+    assert_eq!(desk.collect(), 0);
+    assert_eq!(desk.names_hex(), "C1 C2 45 A8 C6");
+    assert_eq!(desk.names[5..], before.names[5..]);
+    let values = [
+        value(0x00, 0, 0x10),
+        value(0x00, 1, 0x11),
+        value(0x40, 2, 0x14),
+        value(0x00, 3, 0x15),
+    ];
+    assert_eq!(desk.values[..32], values.concat());
+    assert_eq!(desk.values[32..], before.values[32..]);
+    assert_eq!(
+        desk.hex(),
+        "0F 00 0A 0A 00 41 3D 80 81 9B 14 00 0C 0C 36 82 38 80 2C 2D 83 16 1E 00 09 09 28 83 15 81 16"
+    );
+    assert_eq!(desk.store[31..], before.store[31..]);
+    assert_eq!((desk.record.name_bytes, desk.record.name_count), (5, 4));
+    assert_eq!((desk.record.used, desk.pair()), (31, (3, 30)));
+    for line in [15, 20, 30] {
+        assert_eq!(desk.list(line), before.list(line));
+    }
+    // Once more changes nothing more.
+    let once = desk.clone();
+    assert_eq!(desk.collect(), 0);
+    assert_eq!(desk, once);
+    // No line uses a name any more, and then there is none; the bytes stay.
+    desk.batch(b"20\x9B30\x9B");
+    assert_eq!(desk.collect(), 0);
+    assert_eq!((desk.record.name_bytes, desk.record.name_count), (0, 0));
+    assert_eq!((&desk.names, &desk.values), (&once.names, &once.values));
+}
+
+#[test]
+fn only_stored_statements_use_names() {
+    // In REM and DATA, in a string, in an error line, in a constant, in a line buffer.
+    let mut desk = Desk::new().keeping();
+    for text in [
+        &b"10 A=1"[..],
+        b"10 REM A \x80\x00\x01",
+        b"20 DATA A,\x80",
+        b"30 ? \"A\x80\";8081.8",
+        b"40 A=)",
+        b"? A",
+    ] {
+        desk.enter(text);
+    }
+    assert_eq!((desk.record.name_count, desk.record.lines), (1, 4));
+    let before = desk.clone();
+    assert_eq!(desk.collect(), 0);
+    assert_eq!((desk.record.name_bytes, desk.record.name_count), (0, 0));
+    // Nothing else is changed, and the line in the line buffer is stale.
+    let counts = (before.record.name_bytes, before.record.name_count);
+    (desk.record.name_bytes, desk.record.name_count) = counts;
+    assert_eq!(desk, before);
+    (desk.record.name_bytes, desk.record.name_count) = (0, 0);
+    assert_eq!(desk.show(), Err(10));
+}
+
+#[test]
+fn the_number_of_every_kept_value_is_set() {
+    let mut desk = Desk::new();
+    desk.enter(b"10 A=B");
+    desk.values[..16].fill(0x99);
+    assert_eq!(desk.collect(), 0);
+    let values = [value(0x99, 0, 0x99), value(0x99, 1, 0x99)];
+    assert_eq!(desk.values[..16], values.concat());
+}
+
+/// A desk with so many names, N0 and on.
+fn with_names(count: usize) -> Desk {
+    let mut desk = Desk::new();
+    for number in 0..count {
+        desk.enter(format!("1 N{number}=0").as_bytes());
+    }
+    desk.enter(b"1");
+    assert_eq!(desk.record.name_count, count);
+    desk
+}
+
+#[test]
+fn long_forms_shrink() {
+    // Of 256 names 3, 128, 129 and 255 are used: one byte each then.
+    let mut desk = with_names(256);
+    desk.batch(b"10 IF N128 THEN N129=N255:? N3:REM \x00\x01\x9B20 END\x9B");
+    assert_eq!(
+        desk.hex(),
+        "0A 00 19 08 07 00 00 1B 10 36 00 01 2D 00 7F 14 14 28 83 14 19 00 00 01 9B 14 00 06 06 15 16"
+    );
+    let before = desk.clone();
+    assert_eq!(desk.collect(), 0);
+    assert_eq!(
+        desk.names_hex(),
+        "4E B3 4E 31 32 B8 4E 31 32 B9 4E 32 35 B5"
+    );
+    assert_eq!(
+        desk.hex(),
+        "0A 00 16 07 07 81 1B 0D 36 82 2D 83 14 11 28 80 14 16 00 00 01 9B 14 00 06 06 15 16"
+    );
+    assert_eq!(desk.record.used, before.record.used - 3);
+    let used = desk.record.used;
+    assert_eq!(desk.store[used..], before.store[used..]);
+    for line in [10, 20] {
+        assert_eq!(desk.list(line), before.list(line));
+    }
+    let once = desk.clone();
+    assert_eq!(desk.collect(), 0);
+    assert_eq!(desk, once);
+}
+
+#[test]
+fn a_long_form_stays_where_128_names_stand_before_it() {
+    // All 130 names but name 5 are used: 128 becomes 127 and short, 129 becomes 128 and stays long.
+    let mut desk = with_names(130);
+    for number in (0..130).filter(|number| *number != 5) {
+        desk.enter(format!("{} NEXT N{number}", 10 + number).as_bytes());
+    }
+    let listing = |desk: &Desk| (10..140).map(|line| desk.list(line)).collect::<Vec<_>>();
+    let before = desk.clone();
+    assert_eq!(desk.collect(), 0);
+    assert_eq!(desk.record.name_count, 129);
+    assert_eq!(desk.record.used, before.record.used - 1);
+    assert!(desk
+        .hex()
+        .ends_with("89 00 07 07 09 FE 16 8A 00 07 07 09 FF 16 8B 00 08 08 09 00 00 16"));
+    assert_eq!(listing(&desk), listing(&before));
+}
+
+#[test]
+fn collections_refused() {
+    let refused = |desk: &Desk, number: usize| {
+        let mut after = desk.clone();
+        assert_eq!(after.collect(), number);
+        assert_eq!(after, *desk);
+    };
+    let mut desk = Desk::new();
+    desk.batch(b"10 A=B\x9B20 C=B\x9B10 END\x9B");
+    // The pair of the record, the tables, the store.
+    for change in [
+        |desk: &mut Desk| desk.record.lines += 1,
+        |desk: &mut Desk| desk.record.greatest += 1,
+        |desk: &mut Desk| desk.record.used -= 1,
+        |desk: &mut Desk| desk.record.name_count += 1,
+        |desk: &mut Desk| desk.names[0] = 0xC2,
+        |desk: &mut Desk| desk.values.truncate(23),
+    ] {
+        let mut wrong = desk.clone();
+        change(&mut wrong);
+        refused(&wrong, 1);
+        // 1 comes before 10.
+        wrong.store[5] = 0x37;
+        refused(&wrong, 1);
+    }
+    // A line that is not well-formed: the last one, the first one, one whose name is not there.
+    for (place, byte) in [(14, 0x14), (4, 0x37), (11, 0x83), (11, 0x00)] {
+        let mut wrong = desk.clone();
+        wrong.store[place] = byte;
+        refused(&wrong, 10);
+    }
+}
+
+/// A file of these names, values and lines, without a current line, whose second word is 0.
+fn file_of(names: &[u8], values: &[u8], lines: &[u8]) -> Vec<u8> {
+    let places = [0, 0, names.len(), names.len() + 1];
+    let lines_at = names.len() + 1 + values.len();
+    let end = lines_at + lines.len();
+    let words = [&places[..], &[lines_at, end, end]].concat();
+    let words = words.iter().flat_map(|word| (*word as u16).to_le_bytes());
+    [&words.collect::<Vec<u8>>(), names, &[0], values, lines].concat()
+}
+
+/// The file of what stands on a desk.
+fn desk_file(desk: &Desk) -> Vec<u8> {
+    let record = &desk.record;
+    file_of(
+        &desk.names[..record.name_bytes],
+        &desk.values[..8 * record.name_count],
+        &desk.store[..record.used],
+    )
+}
+
+/// The columns of a text's line: store bytes, listing bytes, variables, numbers, strings, raw text, all else.
+#[track_caller]
+fn weighs(text: &str, columns: [usize; 7]) {
+    let mut desk = Desk::new().keeping();
+    desk.enter(text.as_bytes());
+    let weight = reference::weigh(&desk_file(&desk)).unwrap();
+    assert_eq!((weight.lines, weight.names), (1, desk.record.name_count));
+    assert_eq!(weight.columns()[2..], columns, "{text}");
+}
+
+#[test]
+fn what_bytes_are() {
+    weighs("10 END", [6, 8, 0, 0, 0, 0, 6]);
+    weighs("10 A=A", [9, 7, 2, 0, 0, 0, 7]);
+    weighs("10 A=1.5", [15, 9, 1, 7, 0, 0, 7]);
+    weighs("10 A$=\"\"", [10, 9, 1, 0, 2, 0, 7]);
+    weighs("10 ? \"ABC\";-.5", [20, 16, 0, 7, 5, 0, 8]);
+    weighs("10 GOTO 900", [13, 12, 0, 7, 0, 0, 6]);
+    // The text of REM, DATA and error lines, without its end. A blank after the word is no part of it.
+    weighs("10 REM A=1 \"B\"", [13, 15, 0, 0, 0, 7, 6]);
+    weighs("10 REM", [6, 8, 0, 0, 0, 0, 6]);
+    weighs("10 DATA 1,B", [9, 12, 0, 0, 0, 3, 6]);
+    weighs("10 A=:END", [13, 18, 0, 0, 0, 7, 6]);
+    // Functions, operators, each statement's offset, word and end.
+    weighs("10 A=SIN(B):IF A THEN C=LEN(A$)", [25, 32, 5, 0, 0, 0, 20]);
+}
+
+#[test]
+fn programs_weighed() {
+    // The program of the file above, whose current line is not weighed: 10 A=B and 20 END.
+    let weight = reference::weigh(&file()).unwrap();
+    assert_eq!(weight.columns(), [2, 2, 15, 15, 2, 0, 0, 0, 13]);
+    // Names that no line uses are counted too, and both bytes of a long token.
+    let mut desk = with_names(130);
+    desk.batch(b"10 N128=N127\x9B20 ? \"AB\";N129;7\x9B30 REM \x80\x9B");
+    let weight = reference::weigh(&desk_file(&desk)).unwrap();
+    // Lines of 10, 21 and 7 bytes, which list as 10 N128=N127, 20 ? "AB";N129;7 and 30 REM and a byte.
+    assert_eq!(
+        weight.columns(),
+        [3, 130, 38, 13 + 17 + 9, 5, 7, 4, 1, 7 + 8 + 6]
+    );
+    // No line, no name.
+    let none = file_of(&[], &[], &[]);
+    assert_eq!(reference::weigh(&none).unwrap().columns(), [0; 9]);
+}
+
+#[test]
+fn programs_not_weighed() {
+    let refused = |file: &[u8]| reference::weigh(file).unwrap_err();
+    assert_eq!(refused(&[]), 12);
+    assert_eq!(refused(&[0; 13]), 12);
+    assert_eq!(refused(&[0; 14]), 13);
+    assert_eq!(refused(&[0; 65_535]), 13);
+    // 14 comes before all others, also where the reader takes a file.
+    assert_eq!(refused(&[0xFF; 65_536]), 14);
+    let line = |number: usize, length: u8| {
+        let mut line = vec![number as u8, (number >> 8) as u8, length, length, 0];
+        line.resize(length as usize - 1, b'R');
+        line.push(0x9B);
+        line
+    };
+    let mut lines: Vec<u8> = (0..256).flat_map(|number| line(number, 255)).collect();
+    lines.extend(line(256, 240));
+    let file = file_of(&[], &[], &lines);
+    assert_eq!((lines.len(), file.len()), (65_520, 65_535));
+    let weight = reference::weigh(&file).unwrap();
+    assert_eq!((weight.lines, weight.raw), (257, 65_520 - 6 * 257));
+    lines.extend(line(257, 6));
+    let file = file_of(&[], &[], &lines);
+    assert_eq!((file.len(), refused(&file)), (65_541, 14));
+    assert_eq!(read(&file, [0, 0, 65_535]).0, 0);
+    // Tables that are unsound come before a line that is not well-formed, which is any of them.
+    let bad = [line(10, 6), vec![20, 0, 6, 6, 0x15, 0x14], line(30, 6)].concat();
+    assert_eq!(refused(&file_of(&[], &[], &bad)), 10);
+    assert_eq!(refused(&file_of(&[0xC1], &[], &bad)), 1);
+    assert_eq!(refused(&file_of(&[0xC1], &[0; 8], &bad[..17])), 1);
+    let unknown = [10, 0, 7, 7, 0x20, 0x81, 0x16];
+    assert_eq!(refused(&file_of(&[0xC1], &[0; 8], &unknown)), 10);
+}
+
+/// What two edits leave in this order, if both are accepted.
+fn in_order(desk: &Desk, first: &str, second: &str) -> Option<Desk> {
+    let mut desk = desk.clone();
+    let numbers = [first, second].map(|text| desk.enter(text.as_bytes()).number);
+    (numbers == [0, 0]).then_some(desk)
+}
+
+/// The listing of every line below 100, in order.
+fn listings(desk: &Desk) -> Vec<Result<String, usize>> {
+    (0..100)
+        .map(|line| desk.list(line))
+        .filter(|listing| *listing != Err(9))
+        .collect()
+}
+
+#[test]
+fn two_orders_without_a_new_name() {
+    let mut desk = Desk::with_rooms(40, 40, 200);
+    desk.batch(b"10 A=1\x9B20 B$=\"X\"\x9B30 ? A;B$\x9B40 REM\x9B");
+    let edits = [
+        "0 A=A+1",
+        "5 END",
+        "10",
+        "10 A=1",
+        "10 B$=B$(A)",
+        "20",
+        "20 END",
+        "25 ? A",
+        "30",
+        "30 GOTO 10:REM LONGER",
+        "40",
+        "32767 A=0",
+    ];
+    let number = |text: &str| text.split(' ').next().map(str::to_string);
+    for first in edits {
+        for second in edits.iter().filter(|text| number(text) != number(first)) {
+            let one = in_order(&desk, first, second).unwrap();
+            let two = in_order(&desk, second, first).unwrap();
+            // The store as far as it is used, all names and values, the record.
+            assert_eq!(one.hex(), two.hex(), "{first}, {second}");
+            assert_eq!((&one.names, &one.values), (&two.names, &two.values));
+            assert_eq!(one.record, two.record, "{first}, {second}");
+        }
+    }
+}
+
+#[test]
+fn two_orders_with_new_names() {
+    let mut desk = Desk::new().keeping();
+    desk.batch(b"10 A=1\x9B20 ? A;B$\x9B30 GOTO\x9B");
+    for (first, second) in [
+        ("40 C=D", "50 E=C"),
+        ("40 C=A", "50 C=C"),
+        ("10 X$=Y$", "5 ? Z"),
+        ("20", "5 N=1"),
+    ] {
+        let one = in_order(&desk, first, second).unwrap();
+        let two = in_order(&desk, second, first).unwrap();
+        assert_eq!(listings(&one), listings(&two), "{first}, {second}");
+        assert_eq!(one.record.name_count, two.record.name_count);
+    }
+    // The numbers differ, and so may the lengths of lines: which of two names is the last with a short token.
+    let desk = with_names(127);
+    let one = in_order(&desk, "10 ? X;X;X", "20 ? Y").unwrap();
+    let two = in_order(&desk, "20 ? Y", "10 ? X;X;X").unwrap();
+    assert_eq!((one.record.used, two.record.used), (19, 21));
+    assert_eq!(listings(&one), listings(&two));
+}
+
+#[test]
+fn two_orders_need_what_is_asked() {
+    // A line that is not well-formed, of a foreign hand, has the third name: it is the one that came first.
+    let mut desk = Desk::new();
+    desk.enter(b"10 A=B");
+    desk.store[7] = 0x82;
+    assert_eq!(desk.list(10), Err(10));
+    let one = in_order(&desk, "20 C=1", "30 D=1").unwrap();
+    let two = in_order(&desk, "30 D=1", "20 C=1").unwrap();
+    assert_eq!(
+        (one.list(10), two.list(10)),
+        (Ok("10 A=C".into()), Ok("10 A=D".into()))
+    );
+    // Room for the new line only once the old one is out: refused in the other order.
+    let mut desk = Desk::with_rooms(0, 0, 6);
+    desk.enter(b"10 END");
+    assert!(in_order(&desk, "10", "20 END").is_some());
+    assert!(in_order(&desk, "20 END", "10").is_none());
+    // One line number: the later edit stays.
+    let desk = Desk::new();
+    let one = in_order(&desk, "10 END", "10 STOP").unwrap();
+    let two = in_order(&desk, "10 STOP", "10 END").unwrap();
+    assert_ne!(one.hex(), two.hex());
+}

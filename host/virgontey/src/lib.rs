@@ -74,7 +74,7 @@ pub struct SaveAnswer {
 }
 
 #[cfg(feature = "library")]
-pub use linked::{batch, enter, examine, list, load, save, show};
+pub use linked::{batch, collect, enter, examine, list, load, save, show};
 
 #[cfg(feature = "library")]
 mod linked {
@@ -172,6 +172,18 @@ mod linked {
         fn virgontey_load(
             file: *const u8,
             file_len: usize,
+            names: *mut u8,
+            names_len: usize,
+            values: *mut u8,
+            values_len: usize,
+            store: *mut u8,
+            store_len: usize,
+            record: *mut usize,
+            record_len: usize,
+            answer: *mut usize,
+            answer_len: usize,
+        );
+        fn virgontey_collect(
             names: *mut u8,
             names_len: usize,
             values: *mut u8,
@@ -343,6 +355,38 @@ mod linked {
         answer[0]
     }
 
+    /// Takes the names back that no line of the store uses; answers the refusal, 0 if there is none. The names
+    /// that stay keep their order; their values move with them, and in each the new number is set. Every line
+    /// lists as before. Bytes past the new ends stay as they were; a refusal, 1 or 10, changes nothing.
+    ///
+    /// A line buffer that was filled before is stale: its variables have the old numbers.
+    pub fn collect(
+        names: &mut [u8],
+        values: &mut [u8],
+        store: &mut [u8],
+        record: &mut Record,
+    ) -> usize {
+        let mut counts = counts_of(record);
+        let mut answer = [0; 1];
+        // Safe: as above.
+        unsafe {
+            virgontey_collect(
+                names.as_mut_ptr(),
+                names.len(),
+                values.as_mut_ptr(),
+                values.len(),
+                store.as_mut_ptr(),
+                store.len(),
+                counts.as_mut_ptr(),
+                counts.len(),
+                answer.as_mut_ptr(),
+                answer.len(),
+            );
+        }
+        *record = record_of(counts);
+        answer[0]
+    }
+
     /// Lists the line with this number into `out`.
     pub fn list(
         number: usize,
@@ -469,7 +513,9 @@ mod linked {
 
     #[cfg(test)]
     mod tests {
-        use super::{virgontey_batch, virgontey_enter, virgontey_list, virgontey_show};
+        use super::{
+            virgontey_batch, virgontey_collect, virgontey_enter, virgontey_list, virgontey_show,
+        };
         use super::{BatchAnswer, Record};
 
         /// What an entry that a test does not expect is filled with.
@@ -549,6 +595,25 @@ mod linked {
                     lent.store.as_mut_ptr(),
                     lent.store.len(),
                     lent.keep,
+                    record.as_mut_ptr(),
+                    record.len(),
+                    answer.as_mut_ptr(),
+                    answer.len(),
+                );
+            }
+        }
+
+        /// Takes unused names back with a record and an answer of any length.
+        fn collect(lent: &mut Lent, record: &mut [usize], answer: &mut [usize]) {
+            // Safe: as for the wrapper.
+            unsafe {
+                virgontey_collect(
+                    lent.names.as_mut_ptr(),
+                    lent.names.len(),
+                    lent.values.as_mut_ptr(),
+                    lent.values.len(),
+                    lent.store.as_mut_ptr(),
+                    lent.store.len(),
                     record.as_mut_ptr(),
                     record.len(),
                     answer.as_mut_ptr(),
@@ -863,6 +928,69 @@ mod linked {
             let answer = super::show(b"\0\x80\x07\x077A\x9B", &[], 0, 0, &[], &mut out);
             assert_eq!((answer.number, answer.written), (0, 8));
             assert_eq!(&out, b"ERROR- A\xEE\xEE");
+        }
+
+        /// A program of one line, `10 PRINT B`, over the names A and B.
+        fn with_unused() -> Lent {
+            let mut lent = lent();
+            lent.names = [0xC1, 0xC2, 0xEE, 0xEE];
+            lent.store[..7].copy_from_slice(&[10, 0, 7, 7, 0x20, 0x81, 0x16]);
+            lent
+        }
+
+        #[test]
+        fn unused_names_are_taken_back() {
+            // There is room for one value alone, so that two names are too many.
+            let (mut lent, before) = (with_unused(), with_unused());
+            let mut record = [2, 2, 7, 1, 10];
+            let mut answer = [OTHER; 1];
+            collect(&mut lent, &mut record, &mut answer);
+            assert_eq!((answer, record), ([1], [2, 2, 7, 1, 10]));
+            assert_eq!((lent.names, lent.store), (before.names, before.store));
+
+            let mut values = [1, 2, 3, 4, 5, 6, 7, 8, 11, 12, 13, 14, 15, 16, 17, 18];
+            let mut record = super::record_of(record);
+            for _ in 0..2 {
+                let number =
+                    super::collect(&mut lent.names, &mut values, &mut lent.store, &mut record);
+                assert_eq!(number, 0);
+                assert_eq!((record.name_bytes, record.name_count), (1, 1));
+                assert_eq!((record.used, record.lines, record.greatest), (7, 1, 10));
+                assert_eq!(lent.names, [0xC2, 0xC2, 0xEE, 0xEE]);
+                let moved = [
+                    11, 0, 13, 14, 15, 16, 17, 18, 11, 12, 13, 14, 15, 16, 17, 18,
+                ];
+                assert_eq!(values, moved);
+                assert_eq!(lent.store[..7], [10, 0, 7, 7, 0x20, 0x80, 0x16]);
+                assert_eq!(lent.store[7..], before.store[7..]);
+            }
+            // A line that is not well-formed.
+            lent.store[5] = 0x81;
+            let before = (lent.names, values, lent.store, record);
+            let number = super::collect(&mut lent.names, &mut values, &mut lent.store, &mut record);
+            assert_eq!(number, 10);
+            assert_eq!((lent.names, values, lent.store, record), before);
+        }
+
+        #[test]
+        fn a_collection_with_a_record_or_an_answer_too_short() {
+            for length in 0..5 {
+                let (mut lent, before) = (self::lent(), self::lent());
+                let mut record = ONE_LINE;
+                let mut answer = [OTHER; 1];
+                collect(&mut lent, &mut record[..length], &mut answer);
+                assert_eq!((answer, record), ([1], ONE_LINE));
+                assert_eq!(lent.store, before.store);
+            }
+            for length in 0..3 {
+                let mut record = [0, 0, 6, 1, 10, OTHER];
+                let mut answer = [OTHER; 3];
+                collect(&mut self::lent(), &mut record, &mut answer[..length]);
+                let whole = [0, OTHER, OTHER];
+                assert_eq!(answer[..length], whole[..length]);
+                assert_eq!(answer[length..], [OTHER; 3][length..]);
+                assert_eq!(record, [0, 0, 6, 1, 10, OTHER]);
+            }
         }
 
         #[test]

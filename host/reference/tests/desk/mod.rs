@@ -1,7 +1,8 @@
 //! A desk with empty tables, for the tests.
 #![allow(dead_code)]
 
-use reference::{batch, enter, list, show, BatchAnswer, EnterAnswer, ListAnswer, Record};
+use reference::{batch, collect, enter, list, show};
+use reference::{BatchAnswer, EnterAnswer, ListAnswer, Record};
 
 #[derive(Clone, PartialEq, Eq, Debug)]
 pub struct Desk {
@@ -56,6 +57,16 @@ impl Desk {
             &mut self.values,
             &mut self.store,
             self.keep,
+            &mut self.record,
+        )
+    }
+
+    /// Takes unused names back; the refusal's number, 0 if it is not refused.
+    pub fn collect(&mut self) -> usize {
+        collect(
+            &mut self.names,
+            &mut self.values,
+            &mut self.store,
             &mut self.record,
         )
     }
