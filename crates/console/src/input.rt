@@ -14,6 +14,17 @@ ghost use Rattle.paper.specs.Bytes.{run};
 ghost use Rattle.console.specs.Numbers.{number-of};
 ghost use Rattle.console.specs.Fields.{unmarked, all-or-none};
 
+// The longest text of a line that is kept to be entered: one byte more than may be entered, so that any longer line is refused as such.
+pub const KEPT: usize = 121;
+
+// The longest file that is kept: longer than any that is not refused, so that any longer one is refused as such.
+pub const KEPT_FILE: usize = 65550;
+
+// Reads a file on standard input to the front of a buffer, as much as that has room for, and says how many bytes it has there.
+pub fn read_file(file: &mut [u8]) -> usize {
+    io::read_full(STDIN_FILENO, file)
+}
+
 // Standard input between two lines: the bytes of a buffer from `at` to `end` are read and not yet taken.
 pub struct Input {
     pub at: usize,

@@ -17,6 +17,12 @@ pub fn print_number(n: usize) {
     io::print_decimal(STDOUT_FILENO, n as u64);
 }
 
+// Prints a tab and a number in decimal.
+pub fn print_field(n: usize) {
+    print(b"\t");
+    print_number(n);
+}
+
 // Writes bytes as they are to standard error.
 pub fn tell(text: &[u8]) {
     io::write_all(STDERR_FILENO, text);

@@ -2,9 +2,10 @@
 use buffers::front;
 use buffers::lesser;
 use console::Input;
+use console::KEPT;
 use console::next_line;
 use console::print;
-use console::print_number;
+use console::print_field;
 use editor_edit::Editor;
 use editor_edit::empty;
 use editor_lent::Answer;
@@ -15,15 +16,6 @@ ghost use Prim.Native.Nat.{_≤_, _<_};
 ghost use mathlib.Core.Path.{_≡_};
 ghost use mathlib.Core.Bool.{true};
 ghost use lib.ListN.{length};
-
-// The longest text that is kept: one byte more than may be entered, so that any longer line is refused as such.
-const KEPT: usize = 121;
-
-// Prints a tab and a number.
-fn print_field(n: usize) {
-    print(b"\t");
-    print_number(n);
-}
 
 // A line of input to enter: whether there is one, its number among the lines, how many of its bytes are kept, and the input after it.
 struct Turn {

@@ -1,6 +1,7 @@
 // The packer: enters the lines of a listing on standard input over an empty program, and writes the program's file to standard output. On standard error a line
 // for each refused line says which it is, the number, and the place with its end; the last line says how it went.
 use buffers::front;
+use console::KEPT;
 use console::next_line;
 use console::print;
 use console::tell;
@@ -8,9 +9,6 @@ use console::tell_field;
 use editor_edit::Editor;
 use editor_edit::empty;
 use file_save::Saved;
-
-// The longest text that is kept: one byte more than may be entered, so that any longer line is refused as such.
-const KEPT: usize = 121;
 
 // Enters a line, which is the one with this number in the input, and tells of a refusal. No line buffer is lent, so that a line without a number is refused.
 fn enter_line(

@@ -2,13 +2,13 @@
 // line that cannot be listed says its number and the refusal; the last line says how it went.
 use buffers::front;
 use buffers::lesser;
+use console::KEPT_FILE;
 use console::print;
 use console::tell;
 use console::tell_field;
 use editor_edit::Editor;
 use editor_edit::empty;
 use file_load::Loaded;
-use libc::STDIN_FILENO;
 use store::heads;
 
 // Prints the listing of a stored line, or tells why there is none.
@@ -56,16 +56,16 @@ fn tell_loaded(r: Loaded, size: usize) {
     tell(b"\n");
 }
 
-// Reads the file on standard input and lists its program. The buffer is longer than any file can be that is not refused.
+// Reads the file on standard input and lists its program.
 fn run(file: &mut [u8], names: &mut [u8], values: &mut [u8], store: &mut [u8], out: &mut [u8]) {
-    let size = io::read_full(STDIN_FILENO, file);
+    let size = console::read_file(file);
     let r = file_load::load(front(file, size), names, values, store, empty());
     list_all(names, values, store, r.editor, out);
     tell_loaded(r, size);
 }
 
 fn main() {
-    let mut file = [0u8; 65550];
+    let mut file = [0u8; KEPT_FILE];
     let mut names = [0u8; 65535];
     let mut values = [0u8; 2048];
     let mut store = [0u8; 65535];
