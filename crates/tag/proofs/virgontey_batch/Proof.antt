@@ -1,4 +1,4 @@
-use Rattle.tag.proofs.LentLaws.{leaves-all}
+use Rattle.tag.proofs.LeftLaws.{leaves-all}
 use borrow.Author.Needs.{needs}
 use Rattle.tag.proofs.virgontey_batch.Statement.{statement}
 use Rattle.tag.proofs.virgontey_batch.Tie as tie

@@ -1,4 +1,4 @@
-use Rattle.tag.proofs.LentLaws.{collects-so}
+use Rattle.tag.proofs.LeftLaws.{collects-so}
 use borrow.Author.Needs.{needs}
 use Rattle.tag.proofs.virgontey_collect.Statement.{statement}
 use Rattle.tag.proofs.virgontey_collect.Tie as tie

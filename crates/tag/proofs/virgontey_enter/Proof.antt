@@ -1,4 +1,4 @@
-use Rattle.tag.proofs.LentLaws.{leaves-so}
+use Rattle.tag.proofs.LeftLaws.{leaves-so}
 use borrow.Author.Needs.{needs}
 use Rattle.tag.proofs.virgontey_enter.Statement.{statement}
 use Rattle.tag.proofs.virgontey_enter.Tie as tie

@@ -1,4 +1,4 @@
-use Rattle.tag.proofs.LentLaws.{examines-so}
+use Rattle.tag.proofs.LeftLaws.{examines-so}
 use borrow.Author.Needs.{needs}
 use Rattle.tag.proofs.virgontey_examine.Statement.{statement}
 use Rattle.tag.proofs.virgontey_examine.Tie as tie

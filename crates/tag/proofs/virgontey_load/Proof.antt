@@ -1,4 +1,4 @@
-use Rattle.tag.proofs.LentLaws.{loads-so}
+use Rattle.tag.proofs.LeftLaws.{loads-so}
 use borrow.Author.Needs.{needs}
 use Rattle.tag.proofs.virgontey_load.Statement.{statement}
 use Rattle.tag.proofs.virgontey_load.Tie as tie

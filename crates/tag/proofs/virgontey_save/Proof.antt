@@ -1,4 +1,4 @@
-use Rattle.tag.proofs.LentLaws.{saves-so}
+use Rattle.tag.proofs.LeftLaws.{saves-so}
 use borrow.Author.Needs.{needs}
 use Rattle.tag.proofs.virgontey_save.Statement.{statement}
 use Rattle.tag.proofs.virgontey_save.Tie as tie

@@ -1,4 +1,4 @@
-use Rattle.tag.proofs.LentLaws.{lists-so}
+use Rattle.tag.proofs.LeftLaws.{lists-so}
 use borrow.Author.Needs.{needs}
 use Rattle.tag.proofs.virgontey_show.Statement.{statement}
 use Rattle.tag.proofs.virgontey_show.Tie as tie
