@@ -3,10 +3,8 @@ pub mod Ends
 pub mod Pairs
 pub mod Typed
 pub mod Batches
-pub mod Devices
 pub mod Kept
 pub mod Examined
-pub mod Crowded
 pub mod Files
 pub mod Collected
 pub mod Weighed
