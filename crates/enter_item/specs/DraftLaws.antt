@@ -1,17 +1,18 @@
 -- A draft with its offsets put in is the line: statement by statement, and whole.
 use Prim.Native.Nat.{ℕ, suc, _+_, _-_, _/_, _%_, _≤_, _<_}
 use native.Mathlib.Omega.{arith}
-use native.Mathlib.Nat.{add-zero, mod-eq-of-lt}
+use native.Mathlib.Nat.{add-zero, mod-eq-of-lt, div-add-mod}
 use mathlib.Core.Path.{_≡_, refl, sym, ap, ap₂, _∙_}
 use mathlib.Core.Bool.{Bool, true, false, not, _&&_}
 use mathlib.Core.List.{List, [], _∷_, _++_, append-assoc}
 use lib.Dec.{ltb}
-use lib.ListN.{length, length-append}
+use lib.ListN.{length, set, length-append}
+use lib.Seq.{sets, set-set, set-comm}
 use borrow.Author.Tests.{ltb-true}
 use Rattle.paper.specs.Bytes.{pick, every}
 use Rattle.paper.specs.Tokens.{Token, statement, assigned, operator, variable, constant, string, raw, out-of-range, unreadable}
 use Rattle.paper.specs.Names.{number-of, add-name, add-names}
-use Rattle.paper.specs.Line.{own-bytes, number-bytes, variable-bytes, begins?, to-next, token-bytes, line-bytes}
+use Rattle.paper.specs.Line.{own-bytes, number-bytes, variable-bytes, begins?, to-next, token-bytes, line-bytes, direct-number}
 use Rattle.laws.specs.Names.{adds-extend}
 use Rattle.tokens.specs.Same.{no-bool}
 use Rattle.enter_item.specs.Draft.{low, lows, written, after, draft, until-next, with-offsets, written-line, still}
@@ -297,3 +298,23 @@ line-fits ks n ts h k =
 pub line-size : (ks : List (List ℕ)) (n : ℕ) (ts : List Token) → length (written-line ks n ts) ≡ length (line-bytes (add-names ks ts) n ts)
 unfolding written-line line-bytes
 line-size ks n ts = ap (λ (x : ℕ). suc (suc (suc x))) (offsets-size ks (add-names ks ts) 3 ts refl)
+
+-- ---- a byte put over the first of some written bytes
+
+pub sets-set : (l : List ℕ) (n i v : ℕ) (xs : List ℕ) → n < i → set (sets l i xs) n v ≡ sets (set l n v) i xs
+sets-set l n i v [] h = refl
+sets-set l n i v (x ∷ xs) h = sets-set (set l i x) n (suc i) v xs (omega arith) ∙ ap (λ (k : List ℕ). sets k (suc i) xs) (set-comm l i n x v (λ e. omega arith))
+
+-- the offset is put in at the end
+pub patched : {o₁ o₂ : List ℕ} (o : List ℕ) (n b v : ℕ) (xs : List ℕ) → o₁ ≡ sets o n (b ∷ xs) → o₂ ≡ set o₁ n v → o₂ ≡ sets o n (v ∷ xs)
+patched o n b v xs p q = q ∙ ap (λ (l : List ℕ). set l n v) p ∙ sets-set (set o n b) n (suc n) v xs (omega arith) ∙ ap (λ (l : List ℕ). sets l (suc n) xs) (set-set o n b v)
+
+-- ---- the number of a line
+
+-- the high byte of a line's number is a byte
+pub high-byte : (n : ℕ) → n ≤ direct-number → low (n / 256) ≡ n / 256
+unfolding low
+high-byte n h = mod-eq-of-lt (below n h)
+  where
+    below : (n : ℕ) → n ≤ direct-number → n / 256 < 256
+    below n h = omega (arith, div-add-mod n 256)

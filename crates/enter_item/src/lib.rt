@@ -15,6 +15,7 @@ ghost use lib.ListN.{length, take, set};
 ghost use Rattle.paper.specs.Tokens.{class};
 ghost use Rattle.paper.specs.Names.{names-in};
 ghost use Rattle.paper.specs.Grammar.{itself};
+ghost use Rattle.enter_item.specs.Draft.{low};
 ghost use Rattle.enter_item.specs.Says.{env, mem, spot, item-of, Asks, Took, Expects, VariableWritten, Counts};
 ghost use Rattle.names_numbered.specs.Answers.{Numbers};
 ghost use Rattle.enter_scan.specs.Sees.{Sees, token-at};
@@ -66,6 +67,13 @@ pub fn see(part: &[u8], at: usize, first: bool) -> Seen
     let class = enter_scan::class_of(kind, first);
     let own = kinds::own_token(kind);
     Seen { item, class, own }
+}
+
+// The low byte of a number.
+pub fn low_byte(n: usize) -> u8
+    ensures { λ r. ⌜ r ≡ low n ⌝ }
+{
+    (n % 256) as u8
 }
 
 // One token is written, and what follows stands at `end`.

@@ -1,7 +1,4 @@
-pub mod Lines
-pub mod LineLaws
-pub mod StatementLaws
 pub mod Places
 pub mod Reading
 pub mod ReadingLaws
-pub mod ErrorLaws
+pub mod RefusedLaws

@@ -1,7 +1,7 @@
 -- Where a refused item stands: in the text or at its end.
 use Prim.Native.Nat.{ℕ, zero, suc, pred, _+_, _≤_}
 use native.Mathlib.Omega.{arith}
-use mathlib.Core.Path.{_≡_, refl, subst, sym, ap}
+use mathlib.Core.Path.{_≡_, subst, ap}
 use mathlib.Core.Bool.{Bool, true, false}
 use mathlib.Core.List.{List, [], _∷_}
 use lib.Dec.{eqb}
@@ -13,7 +13,6 @@ use Rattle.paper.specs.Items.{Item, item, item-at, raw-byte?, raw-from, raw-at,
 use Rattle.paper.specs.Machine.{Step, took, over, refused, Taken, Run, left, done, bad, and-taken, step, go-on, read}
 use Rattle.paper.specs.Grammar.{Gives, look-in-range, start}
 use Rattle.buffers.specs.Runs.{run-within}
-use Rattle.enter_scan.specs.Kinds.{shape-at}
 use Rattle.enter_scan.specs.Sound.{shape-sound}
 use Rattle.enter_scan.specs.Shapes.{item-shape}
 

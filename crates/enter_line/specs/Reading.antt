@@ -1,7 +1,7 @@
 -- What reading a text gives, from the definitions of document 01.
 use Prim.Native.Nat.{ℕ, _+_, _≤_}
 use mathlib.Core.Path.{_≡_}
-use mathlib.Core.Bool.{Bool, true, not, _&&_}
+use mathlib.Core.Bool.{Bool, true}
 use mathlib.Core.List.{List}
 use lib.Dec.{eqb}
 use lib.ListN.{length, take, drop}
@@ -10,11 +10,12 @@ use Rattle.paper.specs.Bytes.{pick, blank?, run}
 use Rattle.paper.specs.Tokens.{Token}
 use Rattle.paper.specs.Items.{Span, span, size-at}
 use Rattle.paper.specs.Names.{names-in, name-bytes, add-names}
-use Rattle.paper.specs.Line.{line-bytes, direct-number, direct-number?}
-use Rattle.paper.specs.Errors.{marked-at, error-line, keepable?}
+use Rattle.paper.specs.Line.{line-bytes, direct-number}
+use Rattle.paper.specs.Errors.{marked-at, error-line}
 use Rattle.paper.specs.Calls.{Translated, tokens, refused-at, translate, Head, numbered, too-great, only-blanks, unnumbered, head-of}
 use Rattle.laws.specs.Names.{names-added}
 use Rattle.enter_item.specs.Draft.{written-line}
+unfoldable pub use Rattle.enter_error.specs.Keeps.{keeps?}
 use Rattle.enter_line.specs.declared.Head.{Head as Found}
 use Rattle.enter_line.specs.declared.Head.the-variants.{Numbered, TooGreat, OnlyBlanks, Unnumbered}
 use Rattle.enter_line.specs.declared.Start.{Start as Begun}
@@ -52,10 +53,6 @@ as-start Nothing = nothing
 -- the item that stands at a place of a text
 abbrev pub standing : List ℕ → ℕ → Span
 standing text place = span place (place + size-at (drop place text))
-
--- whether the line n, refused with k at a place of its text, is kept: where wrong lines are, if it has a number, with 4, and if its text can be
-unfoldable pub keeps? : Bool → List ℕ → ℕ → ℕ → ℕ → Bool
-keeps? keep text n k place = keep && (not (direct-number? n) && (eqb k 4 && keepable? place text))
 
 -- the error line of the text of the line n, whose digits end at p, refused at a place
 abbrev pub error-of : List ℕ → ℕ → ℕ → ℕ → List ℕ

@@ -6,14 +6,14 @@ use mathlib.Core.Bool.{Bool, true, false}
 use mathlib.Core.List.{List, [], _∷_, _++_, append-nil}
 use lib.Dec.{eqb, leb}
 use borrow.Author.Tests.{eq-eqb, ne-eqb, le-leb, lt-leb, leb-true}
-use native.Mathlib.Nat.{mod-eq-of-lt, div-add-mod}
+use native.Mathlib.Nat.{zero-add}
 use lib.ListN.{length, take, drop, set, length-drop}
 use lib.Seq.{sets, drop-drop, drop-append-seam}
 use Rattle.paper.specs.Bytes.{pick, digit?, blank?, run}
 use Rattle.paper.specs.Tokens.{Token}
 use Rattle.paper.specs.Constants.{value}
 use Rattle.paper.specs.Names.{names-in, name-bytes, add-names}
-use Rattle.paper.specs.Items.{Item as Scanned, item, Span, span, size-at, scan, items}
+use Rattle.paper.specs.Items.{Item as Scanned, item, span, size-at, scan, items}
 use Rattle.paper.specs.Machine.{bad, read}
 use Rattle.paper.specs.Grammar.{look-in-range, start}
 use Rattle.paper.specs.Line.{line-bytes, lawful-number?, direct-number}
@@ -27,13 +27,12 @@ use Rattle.enter_scan.specs.declared.Item.{Item}
 use Rattle.enter_scan.specs.Kinds.{shape-at, item-with}
 use Rattle.enter_scan.specs.Shapes.{item-shape}
 use Rattle.enter_item.specs.Draft.{low, with-offsets, written-line}
-use Rattle.enter_item.specs.DraftLaws.{line-size}
+use Rattle.enter_item.specs.DraftLaws.{line-size, sets-set}
 use Rattle.enter_item.specs.Says.{env, Mem, mem, spot, known, items-at, Asks}
 use Rattle.enter_item.specs.declared.Spot.{Spot}
 use Rattle.enter_statement.specs.Ends.{Halts}
-use Rattle.enter_line.specs.Lines.{Finishes}
-use Rattle.enter_line.specs.LineLaws.{sets-set}
-use Rattle.enter_line.specs.Reading.{as-head, statements, number-alone, nothing, start-at, standing, of-refused, KeptThere, Refuses, of-translated, of-start, Accepted, Told}
+use Rattle.enter_statements.specs.Lines.{Finishes}
+use Rattle.enter_line.specs.Reading.{as-head, statements, number-alone, nothing, start-at, standing, Refuses, of-translated, of-start, Accepted, Told}
 use Rattle.enter_line.specs.Places.{refused-within}
 use Rattle.enter_line.specs.declared.Head.{Head as Found}
 use Rattle.enter_line.specs.declared.Head.the-variants.{Numbered, TooGreat, OnlyBlanks, Unnumbered}
@@ -267,9 +266,6 @@ pub first-asks : (text names line fresh : List ℕ) (e : ℕ) → e ≤ length t
 unfolding closed?
 first-asks text names line fresh e h k r = record { within = h; short = omega arith; few = omega arith; added = omega arith; room = r; closed = refl }
 
-pub zero-more : (n : ℕ) → 0 + n ≡ n
-zero-more n = omega arith
-
 sizes : (ks : List (List ℕ)) (n : ℕ) (us : List Token) → 3 + length (with-offsets ks 3 us) ≡ length (line-bytes (add-names ks us) n us)
 unfolding written-line
 sizes ks n us = let z : 3 + length (with-offsets ks 3 us) ≡ suc (suc (suc (length (with-offsets ks 3 us)))) = omega arith in z ∙ line-size ks n us
@@ -301,7 +297,7 @@ line-whole {l₁} {l₂} {l₃} {line′} {a} {b} {c} line names fresh text n e 
     let v : c ≡ low (3 + length body) = ec ∙ ap low cw in
     let fw : f′ ≡ sets fresh 0 (name-bytes (names-added ks us)) = x .fresh ∙ ap (λ (k : List (List ℕ)). sets fresh 0 (name-bytes (names-added k us))) k0 in
     let aw : q′ .named ≡ length (name-bytes (names-added ks us)) =
-    x .added ∙ ap (λ (k : List (List ℕ)). 0 + length (name-bytes (names-added k us))) k0 ∙ zero-more (length (name-bytes (names-added ks us))) in (
+    x .added ∙ ap (λ (k : List (List ℕ)). 0 + length (name-bytes (names-added k us))) k0 ∙ zero-add (length (name-bytes (names-added ks us))) in (
       record {
         line-put =
             p₃ ∙ ap (λ (l : List ℕ). set l 2 c) lw ∙ sets-set l₂ 2 3 c body (omega arith)
@@ -316,11 +312,3 @@ line-whole {l₁} {l₂} {l₃} {line′} {a} {b} {c} line names fresh text n e 
       cw ∙ sizes ks n us,
       aw,
     )
-
--- the high byte of a line's number is a byte
-pub high-byte : (n : ℕ) → n ≤ direct-number → low (n / 256) ≡ n / 256
-unfolding low
-high-byte n h = mod-eq-of-lt (below n h)
-  where
-    below : (n : ℕ) → n ≤ direct-number → n / 256 < 256
-    below n h = omega (arith, div-add-mod n 256)

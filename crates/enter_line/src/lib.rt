@@ -1,28 +1,26 @@
-// From text to token line: the line's number, its statements, and their offsets.
-mod errors;
-mod statements;
-
+// From text to token line, or its refusal: the number of the line, and then its statements.
 use buffers::Run;
 use buffers::decimal;
 use buffers::put;
 use buffers::run_end;
+pub use enter_error::DIRECT_NUMBER;
+use enter_error::keeps;
+use enter_error::write_error_line;
 use enter_item::LINE_ROOM;
 use enter_item::NAMES_ROOM;
 use enter_item::Spot;
 use enter_item::Step;
-use errors::refused;
-use statements::low_byte;
-use statements::statements;
+use enter_item::low_byte;
+use enter_scan::item_at;
+use enter_statements::statements;
 use store::GREATEST_NUMBER;
 ghost use mathlib.Core.Path.{_≡_};
-ghost use Prim.Native.Nat.{_-_, _≤_, _<_};
+ghost use Prim.Native.Nat.{_≤_};
 ghost use lib.ListN.{length, take};
 ghost use Rattle.paper.specs.Names.{names-in};
+ghost use Rattle.paper.specs.Line.{direct-number};
 ghost use Rattle.paper.specs.Calls.{head-of};
-ghost use Rattle.enter_line.specs.Reading.{as-head, start-at, as-start, Told};
-
-// The number of a line that is read without one.
-pub const DIRECT_NUMBER: usize = 32768;
+ghost use Rattle.enter_line.specs.Reading.{as-head, start-at, as-start, Refuses, Told};
 
 // A line that was read: its number, how many bytes it has, and how many bytes the names new in it have.
 pub struct Line {
@@ -96,6 +94,37 @@ fn start_of(text: &[u8], direct: bool) -> Start
             }
         }
     }
+}
+
+// What comes of a text that is refused with 4 or 5 at a place, where the statements of the line with a number stand from `from` on: the error line, at the
+// front of `line`, where it is kept, or the refusal. The place ends with the item that stands there.
+fn refused(
+    text: &[u8],
+    keep: bool,
+    line_number: usize,
+    from: usize,
+    number: u8,
+    place: usize,
+    line: &mut [u8; LINE_ROOM],
+) -> Reading
+    requires { ⌜ («line_number» ≤ direct-number) × (from ≤ place) × (place ≤ length (now text)) × (length (now text) ≤ 120) ⌝ }
+    ensures { λ r. ⌜ Refuses keep (now (text .entry)) «line_number» from number place (now (line .exit)) r ⌝ }
+{
+    let item = item_at(text, place, false);
+    let end = item.end;
+    if keeps(text, keep, line_number, number, place) {
+        let size = write_error_line(line_number, &text[from..], place - from, line);
+        return Reading::Kept(
+            Line {
+                number: line_number,
+                size,
+                named: 0,
+            },
+            place,
+            end,
+        );
+    }
+    Reading::Refused(number, place, end)
 }
 
 // Reads a text of at most 120 bytes over the first `size` bytes of a name table; one without a number only if `direct` says so. An accepted line, or the

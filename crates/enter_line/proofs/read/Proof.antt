@@ -3,8 +3,9 @@ use lib.ListN.{take}
 use lib.Seq.{length-take-le}
 use Rattle.paper.specs.Grammar.{start as start-frames}
 use Rattle.enter_item.specs.Draft.{low}
+use Rattle.enter_item.specs.DraftLaws.{high-byte}
 use Rattle.enter_line.specs.Reading.{as-start}
-use Rattle.enter_line.specs.ReadingLaws.{statements-within, high-byte, told-nothing, told-delete, told-refused, told-read, translated-left, translated-bad, place-within, first-asks, line-whole}
+use Rattle.enter_line.specs.ReadingLaws.{statements-within, told-nothing, told-delete, told-refused, told-read, translated-left, translated-bad, place-within, first-asks, line-whole}
 use borrow.Author.Needs.{needs}
 use Rattle.enter_line.proofs.read.Statement.{statement}
 use Rattle.enter_line.proofs.read.Tie as tie
