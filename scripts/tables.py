@@ -244,7 +244,7 @@ def class_proofs():
     }
 
 
-# ---- grammar: the rows laid over one another, and the words of the acts
+# ---- grammar: the rows laid over one another, and what the acts say
 
 LAYOUT = numbers(open("crates/grammar/specs/Tables.antt").read())
 FIRST_ACT, PAST_ROWS, NO_ENTRY = LAYOUT["first-act"], LAYOUT["past-rows"], LAYOUT["no-entry"]
@@ -309,10 +309,11 @@ def wanted(names):
     return f"{names[0]} ∷ {rest}" if names[0] != "N" else f"N ({rest})" if names[1:] else "N []"
 
 
-def act_word(act):
+def act_term(act):
+    """An act as its table has it."""
     frames, gives = act
     given = gives if gives in GIVEN else f"(put 0x{gives:02x})"
-    return f"word {given} ({wanted(with_n(frames))})" if frames else f"word {given} []"
+    return f"act {given} ({wanted(with_n(frames))})" if frames else f"act {given} []"
 
 
 def row_tables():
@@ -320,15 +321,15 @@ def row_tables():
     lines = "\n    ∷ ".join(" ∷ ".join(listed[i : i + 12]) for i in range(0, len(listed), 12))
     classes = "".join(written(48 + CLASSES[entry(p)[0]]) if p in ENTRIES else "~" for p in PLACES)
     acts = "".join(written(BYTES[entry(p)[1]]) if p in ENTRIES else "." for p in PLACES)
-    words_of_acts = [act_word(act) for act in ACTS]
-    named = {name for word in words_of_acts for name in re.findall(r"[\w-]+", word)}
+    acts_as_terms = [act_term(act) for act in ACTS]
+    named = {name for term in acts_as_terms for name in re.findall(r"[\w-]+", term)}
     return f"""-- The rows of the grammar's frames, laid over one another, and the words of their acts. ({MADE_BY})
 use Prim.Native.Nat.{{ℕ}}
-use mathlib.Core.List.{{List, [], _∷_}}
+use mathlib.Core.List.{{List, [], _∷_, map}}
 use Rattle.paper.specs.Bytes.{{bytes}}
 use Rattle.paper.specs.Frames.{{{", ".join(f for f in FRAMES if f in named)}}}
 use Rattle.paper.specs.Grammar.{{itself, for-strings, as-prefix, put, N}}
-use Rattle.grammar.specs.Tables.{{laid, word}}
+use Rattle.grammar.specs.Tables.{{laid, Wanting, act, word, rest}}
 
 -- the rows of the frames that leave what they do not take begin before this place, those of the others here or later
 abbrev pub refusing : ℕ
@@ -346,32 +347,52 @@ entries =
     (bytes "{classes}")
     (bytes "{acts}")
 
--- the word of each act, in the order of their bytes
+-- the acts, in the order of their bytes
+unfoldable pub acts : List Wanting
+acts =
+    {stacked(acts_as_terms)}
+
+-- the word of each, and the rest
 unfoldable pub words : List ℕ
-words =
-    {stacked(words_of_acts)}
+words = map word acts
+
+unfoldable pub rests : List ℕ
+rests = map rest acts
 """
 
 
-def digits(frames):
-    """A 1 and two octal digits for each frame."""
-    return "0o1" + "".join(f"_{FRAMES[f]:02o}" for f in frames)
+def frames_word(frames):
+    """Two hexadecimal digits for each frame but for a ninth."""
+    return "0x" + "_".join(f"{FRAMES[f]:02x}" for f in frames[-8:])
 
 
-def given_word(act):
-    """The name of the word of an act that gives another token, and the word."""
+def rest_digits(frames):
+    """Two octal digits for the ninth frame, where there is one, and two for how many there are."""
+    ninth = f"{FRAMES[frames[0]]:02o}_" if len(frames) == 9 else ""
+    return f"0o{ninth}{len(frames):02o}"
+
+
+def given_rest(act):
+    """The name of the rest of an act that gives another token, and the rest."""
     frames, gives = act
     name = "_THEN_".join([OPERATORS[gives]] + ["_".join(map(constant, with_n(frames)))] * bool(frames))
-    return name, f"{digits(frames)}_00", f"OperatorToken::{OPERATORS[gives]}.0 as u64"
+    return name, f"{rest_digits(frames)}_00", f"OperatorToken::{OPERATORS[gives]}.0 as u32"
+
+
+def has_word(act):
+    """Is the word of an act other than 0, as any number's is that is no act."""
+    return any(FRAMES[f] for f in act[0])
 
 
 def word_arm(act):
-    """What `word_of` says of an act, and in words what it gives and wants."""
+    """What `word_of` says of an act, and in words what it wants."""
+    return f"{frames_word(act[0])}, // {', '.join(plain(f) for f in with_n(act[0]))}"
+
+
+def rest_arm(act):
+    """What `rest_of` says of an act, and in words what it gives."""
     frames, gives = act
-    if gives in GIVEN:
-        said = ", ".join([plain(gives)] * (gives != "itself") + [plain(f) for f in with_n(frames)]) or "nothing"
-        return f"{digits(frames)}_{GIVEN[gives]:02o}, // {said}"
-    return f"{given_word(act)[0]},"
+    return f"{rest_digits(frames)}_{GIVEN[gives]:02o}, // {plain(gives)}" if gives in GIVEN else f"{given_rest(act)[0]},"
 
 
 def code():
@@ -381,17 +402,18 @@ def code():
         of, act = entry(p)
         entries += f"        {p} => 0x{CLASSES[of]:02x}_{BYTES[act]:02x}, // {plain(ENTRIES[p])}: {plain(of)}\n"
     givens = ""
-    for name, frames, token in (given_word(act) for act in ACTS if act[1] not in GIVEN):
-        line = f"const {name}: u64 = {frames} + {token};"
+    for name, frames, token in (given_rest(act) for act in ACTS if act[1] not in GIVEN):
+        line = f"const {name}: u32 = {frames} + {token};"
         givens += "\n" + (line if len(line) <= 100 else line.replace(" + ", "\n    + ")) + "\n"
-    arms = "".join(f"        b'{written(BYTES[act])}' => {word_arm(act)}\n" for act in ACTS)
+    word_arms = "".join(f"        b'{written(BYTES[act])}' => {word_arm(act)}\n" for act in ACTS if has_word(act))
+    rest_arms = "".join(f"        b'{written(BYTES[act])}' => {rest_arm(act)}\n" for act in ACTS if act != ((), "itself"))
     return f"""// The rows of the grammar's frames, laid over one another, and the words of their acts. ({MADE_BY})
 use tokens::OperatorToken;
 ghost use mathlib.Core.Path.{{_≡_}};
 ghost use Prim.Native.Nat.{{_-_, _≤_}};
 ghost use lib.ListN.{{getD}};
 ghost use Rattle.grammar.specs.Tables.{{no-entry, past-rows, first-act}};
-ghost use Rattle.grammar.specs.Rows.{{firsts, entries, words}};
+ghost use Rattle.grammar.specs.Rows.{{firsts, entries, words, rests}};
 
 // The rows of the frames that leave what they do not take begin before this place, those of the others here or later.
 pub(crate) const REFUSING: u8 = {REFUSING};
@@ -415,16 +437,26 @@ pub(crate) fn entry_at(place: u8) -> u16
     }}
 }}
 
-// The words that give a token of the grammar's own, and then want these frames.
-{givens.lstrip()}
-// The word of an act: a 1, then two octal digits for each frame that it wants, from the top of the stack down, then two for what it gives: 0 for the
-// item's own token, 1 for the one for strings, 2 for the prefix one, any other number for that token.
+// The word of an act: two hexadecimal digits for each frame that it wants, from the top of the stack down, but for a ninth.
 pub(crate) fn word_of(act: u8) -> u64
     requires {{ ⌜ first-act ≤ act ⌝ }}
     ensures {{ λ r. ⌜ r ≡ getD words (act - first-act) 0 ⌝ }}
 {{
     match act {{
-{arms}        _ => 0,
+{word_arms}        _ => 0,
+    }}
+}}
+
+// The rests of acts that give a token of the grammar's own.
+{givens.lstrip()}
+// The rest of what an act says, in octal: two digits for the ninth frame, two for how many there are, and two for what it gives: 0 for the item's own
+// token, 1 for the one for strings, 2 for the prefix one, any other number for that token.
+pub(crate) fn rest_of(act: u8) -> u32
+    requires {{ ⌜ first-act ≤ act ⌝ }}
+    ensures {{ λ r. ⌜ r ≡ getD rests (act - first-act) 0 ⌝ }}
+{{
+    match act {{
+{rest_arms}        _ => 0,
     }}
 }}
 """
@@ -478,10 +510,18 @@ def proofs():
         "word_of": proof(
             "word_of",
             lambda n: f"getD words ({n} - first-act) 0",
-            len(ACTS),
+            sum(map(has_word, ACTS)),
             "at-none-from first-act 0 words (c .before .args .act) (c .before .pre)",
-            f"use Rattle.paper.specs.Grammar.{{N}}\n{tables}{{first-act, code, packed, word}}\n{rows}{{words}}",
-            "N code packed word words",
+            f"use Rattle.paper.specs.Grammar.{{N}}\n{tables}{{first-act, act, packed, word}}\n{rows}{{acts, words}}",
+            "N act packed word acts words",
+        ),
+        "rest_of": proof(
+            "rest_of",
+            lambda n: f"getD rests ({n} - first-act) 0",
+            sum(act != ((), "itself") for act in ACTS),
+            "at-none-from first-act 0 rests (c .before .args .act) (c .before .pre)",
+            f"use Rattle.paper.specs.Grammar.{{N}}\n{tables}{{first-act, act, code, packed, rest}}\n{rows}{{acts, rests}}",
+            "N act code packed rest acts rests",
         ),
     }
 

@@ -1,50 +1,20 @@
--- The frames of a word, put on a stack one by one.
-use Prim.Native.Nat.{ℕ, zero, suc, _+_, _-_, _/_, _%_, _≤_, _<_}
+-- The frames of a word, written on a stack.
+use Prim.Native.Nat.{ℕ, zero, suc, _+_, _≤_, _<_}
 use native.Mathlib.Omega.{arith}
 use mathlib.Core.Path.{_≡_, refl, sym, ap, ap₂, _∙_}
-use mathlib.Core.Bool.{Bool, true, false}
-use mathlib.Core.List.{List, _∷_, _++_}
-use lib.Dec.{T, leb, leb→le}
+use mathlib.Core.List.{List, [], _∷_, _++_}
 use lib.ListN.{length, set, length-set}
-use lib.Seq.{getD-set-same, getD-set-other}
-use borrow.Author.Tests.{le-leb, lt-leb}
-use Rattle.paper.specs.Bytes.{pick}
+use lib.Seq.{sets, getD-set-same, getD-set-other}
+use Rattle.buffers.specs.Sets.{sets-append}
 use Rattle.grammar.specs.Stack.{stack}
-use Rattle.grammar.specs.Tables.{fits?, unpacked}
+use Rattle.grammar.specs.Tables.{digits, nine, onto}
 
--- no frame is left
-pub unpacked-end : (k n : ℕ) (fs : List ℕ) → n ≤ 1 → unpacked k n fs ≡ fs
-unfolding unpacked
-unpacked-end zero n fs h = refl
-unpacked-end (suc k) n fs h = rw (le-leb n 1 h)
-
--- one more frame
-pub record More (k n : ℕ) : Type 0 where
-  pub some : 0 < k
-  pub fits : T (fits? (k - 1) (n / 64))
-  pub next : (fs : List ℕ) → unpacked k n fs ≡ unpacked (k - 1) (n / 64) (n % 64 ∷ fs)
-
-pub one-more : (k n : ℕ) → 1 < n → T (fits? k n) → More k n
-unfolding fits? unpacked
-one-more zero n h t = absurd (omega (arith, leb→le n 1 t))
-one-more (suc k) n h t =
-    let e : suc k - 1 ≡ k = omega arith in
-    record {
-      some = omega arith;
-      fits = rw e (rw (lt-leb n 1 h) at t);
-      next = λ fs. rw (e, lt-leb n 1 h) refl;
-    }
-
--- on a stack: those of the word, and below them those of the stack
-pub unpacked-onto : (k n : ℕ) (fs gs : List ℕ) → unpacked k n (fs ++ gs) ≡ unpacked k n fs ++ gs
-unfolding unpacked
-unpacked-onto zero n fs gs = refl
-unpacked-onto (suc k) n fs gs = go (leb n 1) (unpacked-onto k (n / 64) (n % 64 ∷ fs) gs)
-  where
-    go : (b : Bool) → unpacked k (n / 64) (n % 64 ∷ fs ++ gs) ≡ unpacked k (n / 64) (n % 64 ∷ fs) ++ gs
-        → pick b (fs ++ gs) (unpacked k (n / 64) (n % 64 ∷ fs ++ gs)) ≡ pick b fs (unpacked k (n / 64) (n % 64 ∷ fs)) ++ gs
-    go true e = refl
-    go false e = e
+-- on a stack: the frames, and below them those of the stack
+pub onto-stack : (k : ℕ) (xs fs gs : List ℕ) → onto k xs (fs ++ gs) ≡ onto k xs fs ++ gs
+unfolding onto
+onto-stack zero xs fs gs = refl
+onto-stack (suc k) [] fs gs = refl
+onto-stack (suc k) (x ∷ xs) fs gs = onto-stack k xs (x ∷ fs) gs
 
 stack-below : (l : List ℕ) (at x d : ℕ) → d ≤ at → stack (set l at x) d ≡ stack l d
 unfolding stack
@@ -58,42 +28,51 @@ stack-put l d x h =
     let e : d + 1 ≡ suc d = omega arith in
     ap (stack (set l d x)) e ∙ ap₂ (λ (y : ℕ) (ys : List ℕ). y ∷ ys) (getD-set-same l d x 0 h) (stack-below l d x d (omega arith))
 
--- ---- the loop: what is left of a word is still to be put on the stack that stands
+-- what is written above a stack leaves it
+sets-above : (xs l : List ℕ) (at d : ℕ) → d ≤ at → stack (sets l at xs) d ≡ stack l d
+sets-above [] l at d h = refl
+sets-above (x ∷ xs) l at d h = sets-above xs (set l at x) (suc at) d (omega arith) ∙ stack-below l at x d h
 
-pub record Held (old : List ℕ) (at word : ℕ) (new : List ℕ) (d rest : ℕ) : Type 0 where
-  pub size : length new ≡ length old
-  pub room : d < at + 9
-  pub fits : T (fits? (at + 9 - d) rest)
-  pub stacked : unpacked (at + 9 - d) rest (stack new d) ≡ unpacked 9 word (stack old at)
+-- frames written from the depth of a stack on, of which the first k count
+pub stack-sets : (xs l : List ℕ) (at k : ℕ) → k ≤ length xs → at + length xs ≤ length l → stack (sets l at xs) (at + k) ≡ onto k xs (stack l at)
+unfolding onto
+stack-sets xs l at zero h r = let e : at + 0 ≡ at = omega arith in ap (stack (sets l at xs)) e ∙ sets-above xs l at at (omega arith)
+stack-sets [] l at (suc k) h r = absurd (omega arith)
+stack-sets (x ∷ xs) l at (suc k) h r =
+    let e : at + suc k ≡ suc at + k = omega arith in
+    let f : suc at ≡ at + 1 = omega arith in
+    ap (stack (sets (set l at x) (suc at) xs)) e
+    ∙ stack-sets xs (set l at x) (suc at) k (omega arith) (omega (arith, length-set l at x))
+    ∙ ap (onto k xs) (ap (stack (set l at x)) f ∙ stack-put l at x (omega arith))
 
-pub held-first : (old : List ℕ) (at word : ℕ) → T (fits? 9 word) → Held old at word old at word
-held-first old at word t =
-    let e : at + 9 - at ≡ 9 = omega arith in
-    record { size = refl; room = omega arith; fits = rw e t; stacked = rw e refl }
+-- they are nine
+pub nine-long : (n f : ℕ) → length (nine n f) ≡ 9
+unfolding digits
+nine-long n f = refl
 
-module _ {old : List ℕ} {at word : ℕ} {new : List ℕ} {d rest : ℕ} (h : Held old at word new d rest) (r : at + 9 ≤ length old) where
-  -- after a frame is written
-  put-one : 1 < rest → unpacked (at + 9 - d - 1) (rest / 64) (stack (set new d (rest % 64)) (d + 1)) ≡ unpacked 9 word (stack old at)
-  put-one l =
-      ap (unpacked (at + 9 - d - 1) (rest / 64)) (stack-put new d (rest % 64) (omega (arith, h .size, h .room)))
-      ∙ sym (one-more (at + 9 - d) rest l (h .fits) .next (stack new d))
-      ∙ h .stacked
+-- ---- bytes written one after the other
 
-  pub held-next : 2 ≤ rest / 64 → Held old at word (set new d (rest % 64)) (d + 1) (rest / 64)
-  held-next l =
-      let e : at + 9 - (d + 1) ≡ at + 9 - d - 1 = omega arith in
-      let m = one-more (at + 9 - d) rest (omega arith) (h .fits) in
-      record {
-        size = length-set new d (rest % 64) ∙ h .size;
-        room = omega (arith, one-more (at + 9 - d - 1) (rest / 64) (omega arith) (m .fits) .some);
-        fits = rw e (m .fits);
-        stacked = rw e (put-one (omega arith));
-      }
+-- one more
+put-next : (s t u : List ℕ) (at x : ℕ) (xs : List ℕ) → t ≡ sets s at xs → u ≡ set t (at + length xs) x → u ≡ sets s at (xs ++ x ∷ [])
+put-next s t u at x xs e f = f ∙ ap (λ (y : List ℕ). set y (at + length xs) x) e ∙ sym (sets-append s at xs (x ∷ []))
 
-  -- the last frame
-  pub held-last : 1 < rest → rest / 64 < 2 → stack (set new d (rest % 64)) (d + 1) ≡ unpacked 9 word (stack old at)
-  held-last l z = sym (unpacked-end (at + 9 - d - 1) (rest / 64) (stack (set new d (rest % 64)) (d + 1)) (omega arith)) ∙ put-one l
-
-  -- no frame
-  pub held-none : rest ≤ 1 → stack (set new d (rest % 64)) d ≡ unpacked 9 word (stack old at)
-  held-none l = stack-below new d (rest % 64) d (omega arith) ∙ sym (unpacked-end (at + 9 - d) rest (stack new d) l) ∙ h .stacked
+-- nine
+pub nine-put : (s s₁ s₂ s₃ s₄ s₅ s₆ s₇ s₈ s₉ : List ℕ) (at a b c d e f g h i : ℕ) → s₁ ≡ set s at a → s₂ ≡ set s₁ (at + 1) b → s₃ ≡ set s₂ (at + 2) c → s₄ ≡ set s₃ (at + 3) d → s₅ ≡ set s₄ (at + 4) e
+    → s₆ ≡ set s₅ (at + 5) f → s₇ ≡ set s₆ (at + 6) g → s₈ ≡ set s₇ (at + 7) h → s₉ ≡ set s₈ (at + 8) i
+    → s₉ ≡ sets s at (a ∷ b ∷ c ∷ d ∷ e ∷ f ∷ g ∷ h ∷ i ∷ [])
+nine-put s s₁ s₂ s₃ s₄ s₅ s₆ s₇ s₈ s₉ at a b c d e f g h i q₁ q₂ q₃ q₄ q₅ q₆ q₇ q₈ q₉ =
+    put-next s s₈ s₉ at i (a ∷ b ∷ c ∷ d ∷ e ∷ f ∷ g ∷ h ∷ [])
+    (put-next s s₇ s₈ at h (a ∷ b ∷ c ∷ d ∷ e ∷ f ∷ g ∷ [])
+    (put-next s s₆ s₇ at g (a ∷ b ∷ c ∷ d ∷ e ∷ f ∷ [])
+    (put-next s s₅ s₆ at f (a ∷ b ∷ c ∷ d ∷ e ∷ [])
+    (put-next s s₄ s₅ at e (a ∷ b ∷ c ∷ d ∷ [])
+    (put-next s s₃ s₄ at d (a ∷ b ∷ c ∷ [])
+    (put-next s s₂ s₃ at c (a ∷ b ∷ [])
+    (put-next s s₁ s₂ at b (a ∷ []) q₁ q₂)
+    q₃)
+    q₄)
+    q₅)
+    q₆)
+    q₇)
+    q₈)
+    q₉

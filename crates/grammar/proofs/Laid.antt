@@ -14,8 +14,8 @@ use Rattle.paper.specs.Open.{all-Bytes, all-Machine, all-Grammar}
 use Rattle.laws.specs.Tests.{and-left, and-right}
 use Rattle.laws.specs.Counts.{class-count, frame-count}
 use Rattle.tokens.specs.Spellings.{below, below-at}
-use Rattle.grammar.specs.Tables.{leaving-act, refusing-act, past-rows, no-entry, laid, code, packed, word, fits?, unpacked, gives?, says?}
-use Rattle.grammar.specs.Rows.{refusing, firsts, entries, words}
+use Rattle.grammar.specs.Tables.{leaving-act, refusing-act, past-rows, no-entry, laid, act, code, packed, word, rest, digits, onto, gives?, says?}
+use Rattle.grammar.specs.Rows.{refusing, firsts, entries, acts, words, rests}
 
 -- ---- the test
 
@@ -28,11 +28,11 @@ abbrev said : List ℕ → List ℕ → ℕ → ℕ → ℕ
 said fs es f c = told (getD fs f past-rows) c (getD es (getD fs f past-rows + c) no-entry)
 
 -- each entry says what the grammar says
-unfoldable right? : List ℕ → List ℕ → List ℕ → Bool
-right? fs es ws = below (λ f. below (λ c. says? ws (said fs es f c) (look f c)) class-count) frame-count
+unfoldable right? : List ℕ → List ℕ → List ℕ → List ℕ → Bool
+right? fs es ws rs = below (λ f. below (λ c. says? ws rs (said fs es f c) (look f c)) class-count) frame-count
 
-right : T (right? firsts entries words)
-unfolding right? below told laid code packed word fits? unpacked gives? says? firsts entries words all-Bytes all-Machine all-Grammar
+right : T (right? firsts entries words rests)
+unfolding right? below told laid act code packed word rest digits onto gives? says? firsts entries acts words rests all-Bytes all-Machine all-Grammar
 right = tt
 
 -- ---- from the test to the rule
@@ -92,40 +92,40 @@ look-high : (f c : ℕ) → frame-count ≤ f → look f c ≡ refuse 4
 unfolding look no-row
 look-high f c h = rows-miss grammar f c h low-rows ∙ ap no-row (not-among f may-be-empty h low-empty)
 
-none-refuses : T (says? words refusing-act (refuse 4))
+none-refuses : T (says? words rests refusing-act (refuse 4))
 unfolding says?
 none-refuses = tt
 
-high : (f c : ℕ) → c < class-count → frame-count ≤ f → T (says? words (said firsts entries f c) (look f c))
+high : (f c : ℕ) → c < class-count → frame-count ≤ f → T (says? words rests (said firsts entries f c) (look f c))
 unfolding told
 high f c h l =
     let e : getD entries (past-rows + c) no-entry ≡ no-entry = List·getD-eq-default entries no-entry (omega (arith, leb→le (length entries) past-rows few-entries)) in
     rw (no-frame f l, e, ne-eqb (no-entry / 256) c (λ z. omega arith), look-high f c l) none-refuses
 
-low : (f c : ℕ) → c < class-count → f < frame-count → T (says? words (said firsts entries f c) (look f c))
+low : (f c : ℕ) → c < class-count → f < frame-count → T (says? words rests (said firsts entries f c) (look f c))
 unfolding right?
 low f c h l = below-at _ class-count (below-at _ frame-count right f l) c h
 
 -- what the entry b + c says of class c, to frame f, whose row begins at b
 module _ (f c b e : ℕ) (h : c < class-count) (first : b ≡ getD firsts f past-rows) (entry : e ≡ getD entries (b + c) no-entry) where
-  by-entry : T (says? words (told b c e) (look f c))
+  by-entry : T (says? words rests (told b c e) (look f c))
   by-entry = rw (entry, first) (go (ltb f frame-count) refl)
     where
-      go : (t : Bool) → ltb f frame-count ≡ t → T (says? words (said firsts entries f c) (look f c))
+      go : (t : Bool) → ltb f frame-count ≡ t → T (says? words rests (said firsts entries f c) (look f c))
       go true z = low f c h (ltb-true f frame-count z)
       go false z = high f c h (ltb-false f frame-count z)
 
   -- the entry is for this class
-  pub taken : e / 256 ≡ c → T (says? words (e % 256) (look f c))
+  pub taken : e / 256 ≡ c → T (says? words rests (e % 256) (look f c))
   unfolding told
   taken z = rw (eq-eqb (e / 256) c z) at by-entry
 
   -- it is not, and the frame is one that leaves it
-  pub left : (e / 256 ≡ c → ⊥) → b < refusing → T (says? words leaving-act (look f c))
+  pub left : (e / 256 ≡ c → ⊥) → b < refusing → T (says? words rests leaving-act (look f c))
   unfolding told
   left z l = rw (ne-eqb (e / 256) c z, lt-ltb b refusing l) at by-entry
 
   -- or refuses it
-  pub refused : (e / 256 ≡ c → ⊥) → refusing ≤ b → T (says? words refusing-act (look f c))
+  pub refused : (e / 256 ≡ c → ⊥) → refusing ≤ b → T (says? words rests refusing-act (look f c))
   unfolding told
   refused z l = rw (ne-eqb (e / 256) c z, le-ltb b refusing l) at by-entry

@@ -3,7 +3,7 @@ use Prim.Native.Nat.{ℕ, _-_, _/_, _%_, _≤_, _<_}
 use native.Mathlib.Omega.{arith}
 use mathlib.Core.Path.{_≡_, refl, sym, ap, ap₂}
 use mathlib.Core.Bool.{not}
-use mathlib.Core.List.{List, []}
+use mathlib.Core.List.{List}
 use lib.Dec.{T, T-not, eqb, leb, ltb, eqb→eq, leb→le, ltb→lt}
 use lib.ListN.{getD}
 use borrow.Author.Tests.{eq-eqb, ne-eqb}
@@ -13,18 +13,18 @@ use Rattle.paper.specs.Grammar.{Gives, itself, for-strings, as-prefix, put}
 use Rattle.laws.specs.Tests.{and-left, and-right, is-true, as-T}
 use Rattle.laws.specs.Names.{same-eq}
 use Rattle.grammar.specs.Stack.{gives-of}
-use Rattle.grammar.specs.Tables.{leaving-act, first-act, fits?, unpacked, gives?, says?}
+use Rattle.grammar.specs.Tables.{leaving-act, first-act, wanted, gives?, says?}
 
-module _ (w : List ℕ) (x : ℕ) where
+module _ (ws rs : List ℕ) (x : ℕ) where
   -- the act that leaves
-  pub leaves-so : (l : Act Gives) → T (says? w x l) → x ≡ leaving-act → l ≡ leave
+  pub leaves-so : (l : Act Gives) → T (says? ws rs x l) → x ≡ leaving-act → l ≡ leave
   unfolding says?
   leaves-so (takes e ws) t h = absurd (omega (arith, leb→le first-act x (and-left (leb first-act x) _ t)))
   leaves-so leave t h = refl
   leaves-so (refuse k) t h = absurd (T-not (eqb x leaving-act) (and-left (not (eqb x leaving-act)) _ t) (as-T (eqb x leaving-act) (eq-eqb x leaving-act h)))
 
   -- any other below the first that takes refuses
-  pub refuses-so : (l : Act Gives) → T (says? w x l) → (x ≡ leaving-act → ⊥) → x < first-act → l ≡ refuse 4
+  pub refuses-so : (l : Act Gives) → T (says? ws rs x l) → (x ≡ leaving-act → ⊥) → x < first-act → l ≡ refuse 4
   unfolding says?
   refuses-so (takes e ws) t n h = absurd (omega (arith, leb→le first-act x (and-left (leb first-act x) _ t)))
   refuses-so leave t n h = absurd (n (eqb→eq x leaving-act t))
@@ -40,21 +40,22 @@ module _ (w : List ℕ) (x : ℕ) where
       let e : n ≡ k = eqb→eq n k (and-right (leb 3 n) _ t) in
       rw (ne-eqb n 0 (λ z. omega arith), ne-eqb n 1 (λ z. omega arith), ne-eqb n 2 (λ z. omega arith)) (ap put e)
 
-  -- the act of a word
-  pub record TakesSo (n : ℕ) (l : Act Gives) : Type 0 where
-    pub few : T (fits? 9 (n / 64))
-    pub acts : l ≡ takes (gives-of (n % 64)) (unpacked 9 (n / 64) [])
+  -- the act of a word and a rest
+  pub record TakesSo (n r : ℕ) (l : Act Gives) : Type 0 where
+    pub few : r / 64 % 64 ≤ 9
+    pub acts : l ≡ takes (gives-of (r % 64)) (wanted n r)
 
   -- those from it on take
-  pub takes-so : (l : Act Gives) → T (says? w x l) → first-act ≤ x → TakesSo (getD w (x - first-act) 0) l
+  pub takes-so : (l : Act Gives) → T (says? ws rs x l) → first-act ≤ x → TakesSo (getD ws (x - first-act) 0) (getD rs (x - first-act) 0) l
   unfolding says?
-  takes-so (takes e ws) t h =
-      let n : ℕ = getD w (x - first-act) 0 in
+  takes-so (takes e fs) t h =
+      let n : ℕ = getD ws (x - first-act) 0 in
+      let r : ℕ = getD rs (x - first-act) 0 in
       let t1 = and-right (leb first-act x) _ t in
-      let t2 = and-right (gives? e (n % 64)) _ t1 in
+      let t2 = and-right (gives? e (r % 64)) _ t1 in
       record {
-        few = and-left (fits? 9 (n / 64)) _ t2;
-        acts = ap₂ takes (sym (given-so e (n % 64) (and-left (gives? e (n % 64)) _ t1))) (sym (same-eq (unpacked 9 (n / 64) []) ws (is-true (same (unpacked 9 (n / 64) []) ws) (and-right (fits? 9 (n / 64)) _ t2))));
+        few = leb→le (r / 64 % 64) 9 (and-left (leb (r / 64 % 64) 9) _ t2);
+        acts = ap₂ takes (sym (given-so e (r % 64) (and-left (gives? e (r % 64)) _ t1))) (sym (same-eq (wanted n r) fs (is-true (same (wanted n r) fs) (and-right (leb (r / 64 % 64) 9) _ t2))));
       }
   takes-so leave t h = absurd (omega (arith, eqb→eq x leaving-act t))
   takes-so (refuse n) t h = absurd (omega (arith, ltb→lt x first-act (and-left (ltb x first-act) _ (and-right (not (eqb x leaving-act)) _ t))))

@@ -1,10 +1,10 @@
 -- How the tables of the grammar are laid out: acts, their words, the entries of rows; and when an act is what the grammar says.
-use Prim.Native.Nat.{ℕ, zero, suc, _+_, _-_, _*_, _/_, _%_}
-use mathlib.Core.Bool.{Bool, not, _&&_, _||_}
-use mathlib.Core.List.{List, [], _∷_}
+use Prim.Native.Nat.{ℕ, zero, suc, _+_, _-_, _*_, _/_, _%_, _^_}
+use mathlib.Core.Bool.{Bool, not, _&&_}
+use mathlib.Core.List.{List, [], _∷_, _++_}
 use lib.Dec.{eqb, leb, ltb}
-use lib.ListN.{getD}
-use Rattle.paper.specs.Bytes.{pick, same}
+use lib.ListN.{length, getD}
+use Rattle.paper.specs.Bytes.{same}
 use Rattle.paper.specs.Machine.{Act, take, leave, refuse}
 use Rattle.paper.specs.Grammar.{Gives, itself, for-strings, as-prefix, put}
 
@@ -47,24 +47,45 @@ code for-strings = 1
 code as-prefix = 2
 code (put k) = k
 
--- frames after a number, the last one lowest
+-- what an act gives, and the frames that it wants
+pub record Wanting : Type 0 where
+  pub gives : Gives
+  pub wants : List ℕ
+
+unfoldable pub act : Gives → List ℕ → Wanting
+act g fs = record { gives = g; wants = fs }
+
+-- bytes after a number, the last one lowest
 unfoldable pub packed : ℕ → List ℕ → ℕ
 packed n [] = n
-packed n (f ∷ fs) = packed (n * 64 + f) fs
+packed n (f ∷ fs) = packed (n * 256 + f) fs
 
--- what an act gives, and the frames that it wants: a 1, the frames, what is given
-unfoldable pub word : Gives → List ℕ → ℕ
-word g fs = packed 1 fs * 64 + code g
+-- the word of an act: the frames that it wants, a byte each, but for a ninth
+unfoldable pub word : Wanting → ℕ
+word a = packed 0 (a .wants) % 256 ^ 8
 
--- a number is at most k frames
-unfoldable pub fits? : ℕ → ℕ → Bool
-fits? zero n = leb n 1
-fits? (suc k) n = leb n 1 || fits? k (n / 64)
+-- the rest of what it says: the ninth frame, how many there are, and what is given
+unfoldable pub rest : Wanting → ℕ
+rest a = packed 0 (a .wants) / 256 ^ 8 * 4096 + length (a .wants) * 64 + code (a .gives)
 
--- at most k frames of a number put on a stack
-unfoldable pub unpacked : ℕ → ℕ → List ℕ → List ℕ
-unpacked zero n fs = fs
-unpacked (suc k) n fs = pick (leb n 1) fs (unpacked k (n / 64) (n % 64 ∷ fs))
+-- the lowest k bytes of a number, the lowest first
+unfoldable pub digits : ℕ → ℕ → List ℕ
+digits zero n = []
+digits (suc k) n = n % 256 ∷ digits k (n / 256)
+
+-- the frames of a word and a ninth one, the lowest on the stack first
+abbrev pub nine : ℕ → ℕ → List ℕ
+nine n f = digits 8 n ++ f ∷ []
+
+-- the first k of some frames put on a stack, one after the other
+unfoldable pub onto : ℕ → List ℕ → List ℕ → List ℕ
+onto zero fs gs = gs
+onto (suc k) [] gs = gs
+onto (suc k) (f ∷ fs) gs = onto k fs (f ∷ gs)
+
+-- the frames of an act by its word and the rest
+abbrev pub wanted : ℕ → ℕ → List ℕ
+wanted n r = onto (r / 64 % 64) (nine n (r / 4096 % 64)) []
 
 -- ---- what the grammar says
 
@@ -75,10 +96,11 @@ gives? for-strings g = eqb g 1
 gives? as-prefix g = eqb g 2
 gives? (put k) g = leb 3 g && eqb g k
 
--- the act x, by the words of the acts, is what the grammar says
-unfoldable pub says? : List ℕ → ℕ → Act Gives → Bool
-says? w x (take e ws) =
-    let n = getD w (x - first-act) 0 in
-    leb first-act x && (gives? e (n % 64) && (fits? 9 (n / 64) && same (unpacked 9 (n / 64) []) ws))
-says? w x leave = eqb x leaving-act
-says? w x (refuse k) = not (eqb x leaving-act) && (ltb x first-act && eqb k 4)
+-- the act x, by the words of the acts and the rests, is what the grammar says
+unfoldable pub says? : List ℕ → List ℕ → ℕ → Act Gives → Bool
+says? ws rs x (take e fs) =
+    let n = getD ws (x - first-act) 0 in
+    let r = getD rs (x - first-act) 0 in
+    leb first-act x && (gives? e (r % 64) && (leb (r / 64 % 64) 9 && same (wanted n r) fs))
+says? ws rs x leave = eqb x leaving-act
+says? ws rs x (refuse k) = not (eqb x leaving-act) && (ltb x first-act && eqb k 4)

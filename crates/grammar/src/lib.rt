@@ -9,14 +9,15 @@ ghost use mathlib.Core.Bool.{true};
 ghost use mathlib.Core.List.{[]};
 ghost use Prim.Native.Nat.{_+_, _≤_, _<_};
 ghost use lib.Dec.{T};
-ghost use lib.ListN.{length};
+ghost use lib.ListN.{length, set};
+ghost use lib.Seq.{sets};
 ghost use Rattle.paper.specs.Machine.{take};
-ghost use Rattle.grammar.specs.Stack.{stack, gives-of, Acts, Steps, Joins};
+ghost use Rattle.grammar.specs.Stack.{gives-of, Acts, Steps, Joins};
 ghost use Rattle.paper.specs.Tokens.{operator};
 ghost use Rattle.paper.specs.Grammar.{itself, given, look};
 ghost use Rattle.laws.specs.Counts.{class-count};
-ghost use Rattle.grammar.specs.Tables.{fits?, unpacked, says?};
-ghost use Rattle.grammar.specs.Rows.{words};
+ghost use Rattle.grammar.specs.Tables.{nine, says?};
+ghost use Rattle.grammar.specs.Rows.{words, rests};
 
 // The act of a frame that leaves an item to the frame below.
 const LEAVES: u8 = b'-';
@@ -30,7 +31,7 @@ const FIRST_ACT: u8 = b'0';
 // What a frame does with items of a class. An entry for another class is another frame's.
 fn act_of(frame: u8, class: u8) -> u8
     requires { ⌜ class < class-count ⌝ }
-    ensures { λ r. ⌜ T (says? words r (look frame class)) ⌝ }
+    ensures { λ r. ⌜ T (says? words rests r (look frame class)) ⌝ }
 {
     let first = rows::first_of(frame);
     let entry = rows::entry_at(first + class);
@@ -43,24 +44,36 @@ fn act_of(frame: u8, class: u8) -> u8
     REFUSES
 }
 
-// Puts the frames of a word on the stack of the first frames of a buffer, and returns the new depth. Of a word with no frames one byte is written too,
-// above the stack: the loop is tested at its end, since the compiler makes of a test before it a jump for each act in place of the table of words.
-fn put_frames(frames: &mut [u8], at: usize, word: u64) -> usize
-    requires { ⌜ (at + 9 ≤ length (now frames)) × T (fits? 9 word) ⌝ }
-    ensures { λ r. ⌜ (stack (now (frames .exit)) r ≡ unpacked 9 word (stack (now (frames .entry)) at)) × (r ≤ at + 9) ⌝ }
+// Writes a frame at a place of a buffer.
+fn put_frame(frames: &mut [u8], at: usize, frame: u8)
+    requires { ⌜ at < length (now frames) ⌝ }
+    ensures { λ _. ⌜ now (frames .exit) ≡ set (now (frames .entry)) at frame ⌝ }
 {
-    let mut depth = at;
-    let mut rest = word;
-    loop {
-        frames[depth] = (rest % 64) as u8;
-        if 1 < rest {
-            depth += 1;
-        }
-        rest /= 64;
-        if rest < 2 {
-            return depth;
-        }
-    }
+    frames[at] = frame;
+}
+
+// Writes the eight frames of a word and a ninth from a place of a buffer on, the lowest first. All nine are written, however few of them count: the compiler
+// makes one write of the first eight.
+fn put_frames(frames: &mut [u8], at: usize, word: u64, ninth: u8)
+    requires { ⌜ at + 9 ≤ length (now frames) ⌝ }
+    ensures { λ _. ⌜ now (frames .exit) ≡ sets (now (frames .entry)) at (nine word ninth) ⌝ }
+{
+    let above_1 = word / 256;
+    let above_2 = above_1 / 256;
+    let above_3 = above_2 / 256;
+    let above_4 = above_3 / 256;
+    let above_5 = above_4 / 256;
+    let above_6 = above_5 / 256;
+    let above_7 = above_6 / 256;
+    put_frame(frames, at, (word % 256) as u8);
+    put_frame(frames, at + 1, (above_1 % 256) as u8);
+    put_frame(frames, at + 2, (above_2 % 256) as u8);
+    put_frame(frames, at + 3, (above_3 % 256) as u8);
+    put_frame(frames, at + 4, (above_4 % 256) as u8);
+    put_frame(frames, at + 5, (above_5 % 256) as u8);
+    put_frame(frames, at + 6, (above_6 % 256) as u8);
+    put_frame(frames, at + 7, (above_7 % 256) as u8);
+    put_frame(frames, at + 8, ninth);
 }
 
 // What a frame does with an item: takes it, with what it gives and the new depth of the stack; leaves it; refuses it.
@@ -82,9 +95,9 @@ fn act_at(frames: &mut [u8], at: usize, class: u8) -> Act
     if act < FIRST_ACT {
         return Act::Refused;
     }
-    let word = rows::word_of(act);
-    let depth = put_frames(frames, at, word / 64);
-    Act::Took((word % 64) as u8, depth)
+    let rest = rows::rest_of(act);
+    put_frames(frames, at, rows::word_of(act), (rest / 4096 % 64) as u8);
+    Act::Took((rest % 64) as u8, at + (rest / 64 % 64) as usize)
 }
 
 // What a stack does with an item: takes it, with what is given for it and the new depth; or does not.

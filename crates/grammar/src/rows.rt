@@ -4,7 +4,7 @@ ghost use mathlib.Core.Path.{_≡_};
 ghost use Prim.Native.Nat.{_-_, _≤_};
 ghost use lib.ListN.{getD};
 ghost use Rattle.grammar.specs.Tables.{no-entry, past-rows, first-act};
-ghost use Rattle.grammar.specs.Rows.{firsts, entries, words};
+ghost use Rattle.grammar.specs.Rows.{firsts, entries, words, rests};
 
 // The rows of the frames that leave what they do not take begin before this place, those of the others here or later.
 pub(crate) const REFUSING: u8 = 58;
@@ -215,107 +215,184 @@ pub(crate) fn entry_at(place: u8) -> u16
     }
 }
 
-// The words that give a token of the grammar's own, and then want these frames.
-const NUMBER_ASSIGNED: u64 = 0o1_00 + OperatorToken::NUMBER_ASSIGNED.0 as u64;
-
-const ARRAY_OPEN: u64 = 0o1_00 + OperatorToken::ARRAY_OPEN.0 as u64;
-
-const DIM_ARRAY_OPEN: u64 = 0o1_00 + OperatorToken::DIM_ARRAY_OPEN.0 as u64;
-
-const FUNCTION_OPEN: u64 = 0o1_00 + OperatorToken::FUNCTION_OPEN.0 as u64;
-
-const DIM_STRING_OPEN: u64 = 0o1_00 + OperatorToken::DIM_STRING_OPEN.0 as u64;
-
-const STRING_ASSIGNED_THEN_STRING: u64 = 0o1_13_00 + OperatorToken::STRING_ASSIGNED.0 as u64;
-
-const NUMBER_ASSIGNED_THEN_N: u64 = 0o1_05_06_00 + OperatorToken::NUMBER_ASSIGNED.0 as u64;
-
-const SUBSTRING_OPEN_THEN_N_SECOND: u64 = 0o1_05_06_10_00 + OperatorToken::SUBSTRING_OPEN.0 as u64;
-
-const INNER_COMMA_THEN_N_CLOSE: u64 = 0o1_05_06_11_00 + OperatorToken::INNER_COMMA.0 as u64;
-
-// The word of an act: a 1, then two octal digits for each frame that it wants, from the top of the stack down, then two for what it gives: 0 for the
-// item's own token, 1 for the one for strings, 2 for the prefix one, any other number for that token.
+// The word of an act: two hexadecimal digits for each frame that it wants, from the top of the stack down, but for a ninth.
 pub(crate) fn word_of(act: u8) -> u64
     requires { ⌜ first-act ≤ act ⌝ }
     ensures { λ r. ⌜ r ≡ getD words (act - first-act) 0 ⌝ }
 {
     match act {
-        b'0' => 0o1_00, // nothing
+        b'7' => 0x02, // end
+        b'8' => 0x05, // operand
+        b'9' => 0x05, // operand
+        b':' => 0x06, // more terms
+        b';' => 0x0b, // string
+        b'<' => 0x0b, // string
+        b'=' => 0x0c, // substring
+        b'>' => 0x0d, // string comparison
+        b'?' => 0x10, // let target
+        b'@' => 0x19, // dim
+        b'A' => 0x1d, // plain variable
+        b'B' => 0x1e, // more variables
+        b'C' => 0x1f, // print list
+        b'D' => 0x03_04, // raw text, raw end
+        b'E' => 0x05_06, // N
+        b'F' => 0x05_06, // N
+        b'G' => 0x05_06, // N
+        b'H' => 0x06_21, // more terms, print separator
+        b'I' => 0x0b_06, // string, more terms
+        b'J' => 0x0c_0d, // substring, string comparison
+        b'K' => 0x0d_06, // string comparison, more terms
+        b'L' => 0x0e_02, // number assigned, end
+        b'M' => 0x16_02, // numeric variable, end
+        b'N' => 0x19_02, // dim, end
+        b'O' => 0x1d_02, // plain variable, end
+        b'P' => 0x20_21, // print comparison, print separator
+        b'Q' => 0x23_02, // restore number, end
+        b'R' => 0x24_02, // channel, end
+        b'S' => 0x27_02, // print, end
+        b'T' => 0x05_06_02, // N, end
+        b'U' => 0x05_06_08, // N, second
+        b'V' => 0x05_06_09, // N, close
+        b'W' => 0x05_06_09, // N, close
+        b'X' => 0x05_06_18, // N, more lines
+        b'Y' => 0x05_06_21, // N, print separator
+        b'Z' => 0x05_06_21, // N, print separator
+        b'[' => 0x05_06_26, // N, input separator
+        b'\\' => 0x0a_0b_09, // function open, string, close
+        b']' => 0x0c_0d_06, // substring, string comparison, more terms
+        b'^' => 0x0c_0f_02, // substring, string assigned, end
+        b'_' => 0x0c_20_21, // substring, print comparison, print separator
+        b'`' => 0x24_28_02, // channel, parameters, end
+        b'a' => 0x25_1d_02, // input channel, plain variable, end
+        b'b' => 0x05_06_09_06, // N, close, more terms
+        b'c' => 0x05_06_11_01, // N, then, after then
+        b'd' => 0x07_05_06_08, // array open, N, second
+        b'e' => 0x0a_05_06_09, // function open, N, close
+        b'f' => 0x0a_0b_09_06, // function open, string, close, more terms
+        b'g' => 0x24_22_16_02, // channel, comma, numeric variable, end
+        b'h' => 0x05_06_09_06_21, // N, close, more terms, print separator
+        b'i' => 0x07_05_06_08_06, // array open, N, second, more terms
+        b'j' => 0x0a_05_06_09_06, // function open, N, close, more terms
+        b'k' => 0x0a_05_06_09_0d, // function open, N, close, string comparison
+        b'l' => 0x0a_0b_09_06_21, // function open, string, close, more terms, print separator
+        b'm' => 0x1a_05_06_08_1c, // dim array open, N, second, more dims
+        b'n' => 0x1b_05_06_09_1c, // dim string open, N, close, more dims
+        b'o' => 0x24_22_05_06_02, // channel, comma, N, end
+        b'p' => 0x05_06_22_05_06_02, // N, comma, N, end
+        b'q' => 0x05_06_22_24_28_02, // N, comma, channel, parameters, end
+        b'r' => 0x07_05_06_08_06_21, // array open, N, second, more terms, print separator
+        b's' => 0x07_05_06_08_0e_02, // array open, N, second, number assigned, end
+        b't' => 0x0a_05_06_09_06_21, // function open, N, close, more terms, print separator
+        b'u' => 0x0a_05_06_09_0d_06, // function open, N, close, string comparison, more terms
+        b'v' => 0x0a_05_06_09_20_21, // function open, N, close, print comparison, print separator
+        b'w' => 0x24_22_16_22_16_02, // channel, comma, numeric variable, comma, numeric variable, end
+        b'x' => 0x05_06_17_05_06_18_02, // N, goto gosub, N, more lines, end
+        b'y' => 0x05_06_22_05_06_22_0b, // N, comma, N, comma, string
+        b'z' => 0x13_05_06_14_05_06_15_02, // for variable, for equals, N, to, N, step, end
+        _ => 0,
+    }
+}
+
+// The rests of acts that give a token of the grammar's own.
+const NUMBER_ASSIGNED: u32 = 0o00_00 + OperatorToken::NUMBER_ASSIGNED.0 as u32;
+
+const ARRAY_OPEN: u32 = 0o00_00 + OperatorToken::ARRAY_OPEN.0 as u32;
+
+const DIM_ARRAY_OPEN: u32 = 0o00_00 + OperatorToken::DIM_ARRAY_OPEN.0 as u32;
+
+const FUNCTION_OPEN: u32 = 0o00_00 + OperatorToken::FUNCTION_OPEN.0 as u32;
+
+const DIM_STRING_OPEN: u32 = 0o00_00 + OperatorToken::DIM_STRING_OPEN.0 as u32;
+
+const STRING_ASSIGNED_THEN_STRING: u32 = 0o01_00 + OperatorToken::STRING_ASSIGNED.0 as u32;
+
+const NUMBER_ASSIGNED_THEN_N: u32 = 0o02_00 + OperatorToken::NUMBER_ASSIGNED.0 as u32;
+
+const SUBSTRING_OPEN_THEN_N_SECOND: u32 = 0o03_00 + OperatorToken::SUBSTRING_OPEN.0 as u32;
+
+const INNER_COMMA_THEN_N_CLOSE: u32 = 0o03_00 + OperatorToken::INNER_COMMA.0 as u32;
+
+// The rest of what an act says, in octal: two digits for the ninth frame, two for how many there are, and two for what it gives: 0 for the item's own
+// token, 1 for the one for strings, 2 for the prefix one, any other number for that token.
+pub(crate) fn rest_of(act: u8) -> u32
+    requires { ⌜ first-act ≤ act ⌝ }
+    ensures { λ r. ⌜ r ≡ getD rests (act - first-act) 0 ⌝ }
+{
+    match act {
         b'1' => NUMBER_ASSIGNED,
         b'2' => ARRAY_OPEN,
         b'3' => DIM_ARRAY_OPEN,
         b'4' => FUNCTION_OPEN,
         b'5' => DIM_STRING_OPEN,
-        b'6' => 0o1_00_00, // statement
-        b'7' => 0o1_02_00, // end
-        b'8' => 0o1_05_00, // operand
-        b'9' => 0o1_05_02, // as prefix, operand
-        b':' => 0o1_06_00, // more terms
-        b';' => 0o1_13_01, // for strings, string
+        b'6' => 0o01_00, // itself
+        b'7' => 0o01_00, // itself
+        b'8' => 0o01_00, // itself
+        b'9' => 0o01_02, // as prefix
+        b':' => 0o01_00, // itself
+        b';' => 0o01_01, // for strings
         b'<' => STRING_ASSIGNED_THEN_STRING,
-        b'=' => 0o1_14_00, // substring
-        b'>' => 0o1_15_00, // string comparison
-        b'?' => 0o1_20_00, // let target
-        b'@' => 0o1_31_00, // dim
-        b'A' => 0o1_35_00, // plain variable
-        b'B' => 0o1_36_00, // more variables
-        b'C' => 0o1_37_00, // print list
-        b'D' => 0o1_03_04_00, // raw text, raw end
-        b'E' => 0o1_05_06_00, // N
-        b'F' => 0o1_05_06_02, // as prefix, N
+        b'=' => 0o01_00, // itself
+        b'>' => 0o01_00, // itself
+        b'?' => 0o01_00, // itself
+        b'@' => 0o01_00, // itself
+        b'A' => 0o01_00, // itself
+        b'B' => 0o01_00, // itself
+        b'C' => 0o01_00, // itself
+        b'D' => 0o02_00, // itself
+        b'E' => 0o02_00, // itself
+        b'F' => 0o02_02, // as prefix
         b'G' => NUMBER_ASSIGNED_THEN_N,
-        b'H' => 0o1_06_41_00, // more terms, print separator
-        b'I' => 0o1_13_06_01, // for strings, string, more terms
-        b'J' => 0o1_14_15_00, // substring, string comparison
-        b'K' => 0o1_15_06_00, // string comparison, more terms
-        b'L' => 0o1_16_02_00, // number assigned, end
-        b'M' => 0o1_26_02_00, // numeric variable, end
-        b'N' => 0o1_31_02_00, // dim, end
-        b'O' => 0o1_35_02_00, // plain variable, end
-        b'P' => 0o1_40_41_00, // print comparison, print separator
-        b'Q' => 0o1_43_02_00, // restore number, end
-        b'R' => 0o1_44_02_00, // channel, end
-        b'S' => 0o1_47_02_00, // print, end
-        b'T' => 0o1_05_06_02_00, // N, end
+        b'H' => 0o02_00, // itself
+        b'I' => 0o02_01, // for strings
+        b'J' => 0o02_00, // itself
+        b'K' => 0o02_00, // itself
+        b'L' => 0o02_00, // itself
+        b'M' => 0o02_00, // itself
+        b'N' => 0o02_00, // itself
+        b'O' => 0o02_00, // itself
+        b'P' => 0o02_00, // itself
+        b'Q' => 0o02_00, // itself
+        b'R' => 0o02_00, // itself
+        b'S' => 0o02_00, // itself
+        b'T' => 0o03_00, // itself
         b'U' => SUBSTRING_OPEN_THEN_N_SECOND,
-        b'V' => 0o1_05_06_11_00, // N, close
+        b'V' => 0o03_00, // itself
         b'W' => INNER_COMMA_THEN_N_CLOSE,
-        b'X' => 0o1_05_06_30_00, // N, more lines
-        b'Y' => 0o1_05_06_41_00, // N, print separator
-        b'Z' => 0o1_05_06_41_02, // as prefix, N, print separator
-        b'[' => 0o1_05_06_46_00, // N, input separator
-        b'\\' => 0o1_12_13_11_00, // function open, string, close
-        b']' => 0o1_14_15_06_00, // substring, string comparison, more terms
-        b'^' => 0o1_14_17_02_00, // substring, string assigned, end
-        b'_' => 0o1_14_40_41_00, // substring, print comparison, print separator
-        b'`' => 0o1_44_50_02_00, // channel, parameters, end
-        b'a' => 0o1_45_35_02_00, // input channel, plain variable, end
-        b'b' => 0o1_05_06_11_06_00, // N, close, more terms
-        b'c' => 0o1_05_06_21_01_00, // N, then, after then
-        b'd' => 0o1_07_05_06_10_00, // array open, N, second
-        b'e' => 0o1_12_05_06_11_00, // function open, N, close
-        b'f' => 0o1_12_13_11_06_00, // function open, string, close, more terms
-        b'g' => 0o1_44_42_26_02_00, // channel, comma, numeric variable, end
-        b'h' => 0o1_05_06_11_06_41_00, // N, close, more terms, print separator
-        b'i' => 0o1_07_05_06_10_06_00, // array open, N, second, more terms
-        b'j' => 0o1_12_05_06_11_06_00, // function open, N, close, more terms
-        b'k' => 0o1_12_05_06_11_15_00, // function open, N, close, string comparison
-        b'l' => 0o1_12_13_11_06_41_00, // function open, string, close, more terms, print separator
-        b'm' => 0o1_32_05_06_10_34_00, // dim array open, N, second, more dims
-        b'n' => 0o1_33_05_06_11_34_00, // dim string open, N, close, more dims
-        b'o' => 0o1_44_42_05_06_02_00, // channel, comma, N, end
-        b'p' => 0o1_05_06_42_05_06_02_00, // N, comma, N, end
-        b'q' => 0o1_05_06_42_44_50_02_00, // N, comma, channel, parameters, end
-        b'r' => 0o1_07_05_06_10_06_41_00, // array open, N, second, more terms, print separator
-        b's' => 0o1_07_05_06_10_16_02_00, // array open, N, second, number assigned, end
-        b't' => 0o1_12_05_06_11_06_41_00, // function open, N, close, more terms, print separator
-        b'u' => 0o1_12_05_06_11_15_06_00, // function open, N, close, string comparison, more terms
-        b'v' => 0o1_12_05_06_11_40_41_00, // function open, N, close, print comparison, print separator
-        b'w' => 0o1_44_42_26_42_26_02_00, // channel, comma, numeric variable, comma, numeric variable, end
-        b'x' => 0o1_05_06_27_05_06_30_02_00, // N, goto gosub, N, more lines, end
-        b'y' => 0o1_05_06_42_05_06_42_13_00, // N, comma, N, comma, string
-        b'z' => 0o1_22_23_05_06_24_05_06_25_02_00, // for variable, for equals, N, to, N, step, end
+        b'X' => 0o03_00, // itself
+        b'Y' => 0o03_00, // itself
+        b'Z' => 0o03_02, // as prefix
+        b'[' => 0o03_00, // itself
+        b'\\' => 0o03_00, // itself
+        b']' => 0o03_00, // itself
+        b'^' => 0o03_00, // itself
+        b'_' => 0o03_00, // itself
+        b'`' => 0o03_00, // itself
+        b'a' => 0o03_00, // itself
+        b'b' => 0o04_00, // itself
+        b'c' => 0o04_00, // itself
+        b'd' => 0o04_00, // itself
+        b'e' => 0o04_00, // itself
+        b'f' => 0o04_00, // itself
+        b'g' => 0o04_00, // itself
+        b'h' => 0o05_00, // itself
+        b'i' => 0o05_00, // itself
+        b'j' => 0o05_00, // itself
+        b'k' => 0o05_00, // itself
+        b'l' => 0o05_00, // itself
+        b'm' => 0o05_00, // itself
+        b'n' => 0o05_00, // itself
+        b'o' => 0o05_00, // itself
+        b'p' => 0o06_00, // itself
+        b'q' => 0o06_00, // itself
+        b'r' => 0o06_00, // itself
+        b's' => 0o06_00, // itself
+        b't' => 0o06_00, // itself
+        b'u' => 0o06_00, // itself
+        b'v' => 0o06_00, // itself
+        b'w' => 0o06_00, // itself
+        b'x' => 0o07_00, // itself
+        b'y' => 0o07_00, // itself
+        b'z' => 0o22_11_00, // itself
         _ => 0,
     }
 }

@@ -3,8 +3,8 @@ use Prim.Native.Nat.{ℕ, _-_}
 use mathlib.Core.Path.{_≡_, sym, ap}
 use lib.ListN.{getD}
 use Rattle.paper.specs.Grammar.{N}
-use Rattle.grammar.specs.Tables.{first-act, code, packed, word}
-use Rattle.grammar.specs.Rows.{words}
+use Rattle.grammar.specs.Tables.{first-act, act, packed, word}
+use Rattle.grammar.specs.Rows.{acts, words}
 use Rattle.grammar.proofs.Places.{places, at-none-from}
 use Rattle.grammar.proofs.rows.word_of.Statement.{statement}
 use Rattle.grammar.proofs.rows.word_of.Tie as tie
@@ -13,7 +13,7 @@ here : {x k : ℕ} → x ≡ k → getD words (k - first-act) 0 ≡ getD words (
 here e = sym (ap (λ n. getD words (n - first-act) 0) e)
 
 pub word-of-spec : {M : Type 1} → statement M
-unfolding N code packed word words places
+unfolding N act packed word acts words places
 word-of-spec =
     tie.close
     (tie.spec
@@ -85,11 +85,4 @@ word-of-spec =
     (λ c. here (c .match .keys66))
     (λ c. here (c .match .keys67))
     (λ c. here (c .match .keys68))
-    (λ c. here (c .match .keys69))
-    (λ c. here (c .match .keys70))
-    (λ c. here (c .match .keys71))
-    (λ c. here (c .match .keys72))
-    (λ c. here (c .match .keys73))
-    (λ c. here (c .match .keys74))
-    (λ c. here (c .match .keys75))
     (λ c. at-none-from first-act 0 words (c .before .args .act) (c .before .pre) (c .match .rest)))
