@@ -29,7 +29,7 @@ use Rattle.enter_line.specs.declared.Reading.{Reading}
 use Rattle.enter_line.specs.declared.Reading.the-variants.{Read, Delete, Refused, Kept}
 use Rattle.editor_edit.specs.declared.Editor.{Editor}
 use Rattle.editor_edit.specs.States.{state}
-use Rattle.editor_edit.specs.Lines.{Written}
+use Rattle.editor_accept.specs.Lines.{Written}
 use Rattle.editor.specs.Readings.{Ready, accept-read, Edits, typed-if, Prepared}
 
 -- ---- what is to come of a text, by what it is to be read as

@@ -18,7 +18,7 @@ use Rattle.enter_line.specs.declared.Reading.the-variants.{Read, Delete, Refuse
 use Rattle.editor_edit.specs.declared.Editor.{Editor}
 use Rattle.editor_edit.specs.declared.Entered.{Entered}
 use Rattle.editor_edit.specs.States.{state, entered, typed-outcome, refusing, Lies}
-use Rattle.editor_edit.specs.Lines.{Readable, Accepts, AcceptsDirect}
+use Rattle.editor_accept.specs.Lines.{Readable, Accepts, AcceptsDirect}
 use Rattle.editor.specs.Readings.{asked-number, Ready, accept-read, Edits}
 
 -- the place is that of its own number

@@ -17,7 +17,7 @@ use Rattle.enter_line.specs.declared.Reading.{Reading}
 use Rattle.enter_line.specs.declared.Reading.the-variants.{Read, Delete, Refused, Kept}
 use Rattle.editor_edit.specs.declared.Editor.{Editor}
 use Rattle.editor_edit.specs.States.{state}
-use Rattle.editor_edit.specs.Lines.{Written, Readable}
+use Rattle.editor_accept.specs.Lines.{Written, Readable}
 
 -- the number of the line that a text is about; 0 of a text that is refused
 unfoldable pub asked-number : Reading → ℕ

@@ -71,16 +71,16 @@ pub(crate) fn edit(
 {
     match reading {
         Reading::Refused(number, at, end) => refused_at(number, at, end, e),
-        Reading::Delete(_) => editor_edit::take_out(place, names, values, store, e),
+        Reading::Delete(_) => editor_lines::take_out(place, names, values, store, e),
         Reading::Read(l) => {
             let new = front(fresh, l.named);
             if l.number == DIRECT_NUMBER {
-                editor_edit::accept_direct(buffer, line, l.size, new, names, values, e)
+                editor_accept::accept_direct(buffer, line, l.size, new, names, values, e)
             } else {
-                editor_edit::accept(place, line, l.size, new, names, values, store, e)
+                editor_accept::accept(place, line, l.size, new, names, values, store, e)
             }
         }
-        Reading::Kept(l, at, end) => editor_edit::keep(
+        Reading::Kept(l, at, end) => editor_lines::keep(
             place,
             line,
             l.size,

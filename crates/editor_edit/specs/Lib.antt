@@ -1,4 +1,3 @@
 pub mod States
 pub mod Sound
-pub mod Lines
 pub mod Tight

@@ -1,6 +1,7 @@
 -- What a sound state is, as facts.
-use Prim.Native.Nat.{_*_, _≤_}
-use mathlib.Core.Path.{_≡_, sym, ap, subst}
+use Prim.Native.Nat.{ℕ, _*_, _≤_}
+use mathlib.Core.Path.{_≡_, sym, ap, subst, _∙_}
+use mathlib.Core.List.{List}
 use lib.Dec.{T, leb, leb→le}
 use lib.ListN.{length, take}
 use Rattle.paper.specs.Names.{sound-table}
@@ -9,7 +10,9 @@ use Rattle.paper.specs.Calls.{State, lines-of, sound-tables, agrees, sound-stat
 use Rattle.laws.specs.Tests.{and-left, and-right, and-both, is-true}
 use Rattle.laws.specs.Names.{Sound, sound-facts}
 use Rattle.store.specs.declared.Counts.{Counts}
-use Rattle.store.specs.Answers.{sound-counts}
+use Rattle.store.specs.declared.Place.{Place}
+use Rattle.store.specs.Answers.{sound-counts, place-of}
+use Rattle.editor_edit.specs.States.{Lies}
 
 tables : (s : State) → T (sound-state s) → T (sound-tables s)
 unfolding sound-state
@@ -42,10 +45,18 @@ abbrev pub counts-kept : State → Counts
 counts-kept s = record { used = s .used; lines = s .line-count; greatest = s .greatest }
 
 module _ (s : State) (kept : Counts) (is : kept ≡ counts-kept s) where
-  -- its lines
-  pub lines-kept : lines-in (take (kept .used) (s .store)) ≡ lines-of s
+  -- the lines of so many bytes
+  abbrev pub lines-counted : List (List ℕ)
+  lines-counted = lines-in (take (kept .used) (s .store))
+
+  -- they are its lines
+  pub lines-kept : lines-counted ≡ lines-of s
   unfolding lines-of
   lines-kept = ap (λ (k : Counts). lines-in (take (k .used) (s .store))) is
+
+  -- a place among them
+  pub lies-counted : (n : ℕ) (p : Place) → Lies p n s → p ≡ place-of n lines-counted
+  lies-counted n p h = h ∙ ap (place-of n) (sym lines-kept)
 
   -- the store has these counts
   pub counts-sound : T (sound-state s) → T (sound-counts (s .store) kept)

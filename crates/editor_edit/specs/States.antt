@@ -1,13 +1,8 @@
 -- The lent buffers and the record as a state of `paper`, and what a call answered and left as an outcome of `paper`.
-use Prim.Native.Nat.{ℕ, _+_}
+use Prim.Native.Nat.{ℕ}
 use mathlib.Core.Path.{_≡_}
-use mathlib.Core.Bool.{Bool}
 use mathlib.Core.List.{List}
-use lib.Dec.{ltb}
-use lib.ListN.{length}
-use Rattle.paper.specs.Bytes.{pick}
 use Rattle.paper.specs.Items.{Span, span}
-use Rattle.paper.specs.Names.{names-in}
 use Rattle.paper.specs.Calls.{State, lines-of}
 use Rattle.paper.specs.Calls.{Entered as Outcome}
 use Rattle.paper.specs.Direct.{Typed}
@@ -45,21 +40,6 @@ typed-outcome r names values store line = record { entered = entered r names val
 -- a refusal: nothing is added, and the record is as it was
 abbrev pub refusing : ℕ → Span → Editor → Entered
 refusing number place e = record { number = number; place = place .start; end = place .end; added = 0; editor = e }
-
--- the number of the refusal that a line of some size gets wherever it is to stand: 6 where its new names lack room, 7 where it is too long; 0 for none
-unfoldable pub short-of : Bool → ℕ → ℕ
-short-of lack size = pick lack 6 (pick (ltb 255 size) 7 0)
-
--- an accepted line: its new names are added, and the store has these counts
-abbrev pub accepting : List ℕ → Counts → Editor → Entered
-accepting fresh after e =
-    let added = length (names-in fresh) in record {
-      number = 0;
-      place = 0;
-      end = 0;
-      added = added;
-      editor = record { used = after .used; lines = after .lines; greatest = after .greatest; «name_count» = e .«name_count» + added; «name_bytes» = e .«name_bytes» + length fresh };
-    }
 
 -- a place is that of a number in the store
 abbrev pub Lies : Place → ℕ → State → Type 0

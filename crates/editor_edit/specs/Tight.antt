@@ -1,13 +1,11 @@
 -- One outcome: two that satisfy the same contract are equal, in the answer and in each lent buffer.
 use Prim.Native.Nat.{ℕ}
 use mathlib.Core.Path.{_≡_, sym, ap, _∙_}
-use mathlib.Core.List.{List, []}
-use Rattle.paper.specs.Line.{direct-number}
-use Rattle.paper.specs.Calls.{State, names-of, accept}
+use mathlib.Core.List.{List}
+use Rattle.paper.specs.Calls.{State}
 use Rattle.paper.specs.Calls.{Entered as Outcome}
-use Rattle.paper.specs.Direct.{Typed, accept-direct}
-use Rattle.editor_edit.specs.States.{state, entered, typed-outcome}
-use Rattle.editor_edit.specs.Lines.{Readable, Accepts, AcceptsDirect}
+use Rattle.paper.specs.Direct.{Typed}
+use Rattle.editor_edit.specs.States.{entered, typed-outcome}
 use Rattle.editor_edit.specs.declared.Editor.{Editor}
 use Rattle.editor_edit.specs.declared.Entered.{Entered}
 
@@ -30,19 +28,3 @@ pub one-typed : (o : Typed) (r r′ : Entered) (n v s l n′ v′ s′ l′ : Li
 one-typed o r r′ n v s l n′ v′ s′ l′ h k =
     let one = one-entered (o .entered) r r′ n v s n′ v′ s′ (ap (λ (x : Typed). x .entered) h) (ap (λ (x : Typed). x .entered) k) in
     (one .0, one .1, one .2, one .3, ap (λ (x : Typed). x .line) (h ∙ sym k))
-
--- of a line accepted that was read
-pub one-accepted : (x : State) (number : ℕ) (line : List ℕ) (size : ℕ) (fresh : List ℕ) → Readable (names-of x) number line size fresh
-    → (r r′ : Entered) (n v s n′ v′ s′ : List ℕ) → Accepts x number line size fresh (entered r n v s) → Accepts x number line size fresh (entered r′ n′ v′ s′)
-    → (r ≡ r′) × (n ≡ n′) × (v ≡ v′) × (s ≡ s′)
-one-accepted x number line size fresh read r r′ n v s n′ v′ s′ h k =
-    one-entered (accept x number (read .ts)) r r′ n v s n′ v′ s′ (h (read .ts) (read .written)) (k (read .ts) (read .written))
-
--- of a line without a number accepted that was read
-pub one-accepted-direct : (names values : List ℕ) (e : Editor) (buffer line : List ℕ) (size : ℕ) (fresh : List ℕ)
-    → Readable (names-of (state names values [] e)) direct-number line size fresh
-    → (r r′ : Entered) (n v l n′ v′ l′ : List ℕ) → AcceptsDirect names values e buffer line size fresh r n v l → AcceptsDirect names values e buffer line size fresh r′ n′ v′ l′
-    → (r ≡ r′) × (n ≡ n′) × (v ≡ v′) × (l ≡ l′)
-one-accepted-direct names values e buffer line size fresh read r r′ n v l n′ v′ l′ h k =
-    let one = one-typed (accept-direct (state names values [] e) buffer (read .ts)) r r′ n v [] l n′ v′ [] l′ (h [] (read .ts) (read .written)) (k [] (read .ts) (read .written)) in
-    (one .0, one .1, one .2, one .4)

@@ -1,10 +1,10 @@
 use Rattle.paper.specs.Calls.{names-of}
 use Rattle.editor_edit.specs.States.{state}
 use Rattle.editor_edit.specs.Sound.{table-sound, values-fit, counts-sound}
-use Rattle.editor_edit.proofs.AnswerLaws.{answer-short, room-is, place-is, answer-8, answer-0}
+use Rattle.editor_accept.proofs.AnswerLaws.{answer-short, room-is, place-is, answer-8, answer-0}
 use borrow.Author.Needs.{needs}
-use Rattle.editor_edit.proofs.accept.Statement.{statement}
-use Rattle.editor_edit.proofs.accept.Tie as tie
+use Rattle.editor_accept.proofs.accept.Statement.{statement}
+use Rattle.editor_accept.proofs.accept.Tie as tie
 
 shortage-requires : tie.Need-shortage-requires
 shortage-requires c κs = search needs

@@ -1,9 +1,9 @@
 use Rattle.editor_edit.specs.States.{state}
-use Rattle.editor_edit.specs.Sound.{counts-sound}
-use Rattle.editor_edit.proofs.AnswerLaws.{lies-counted, gone, absent}
+use Rattle.editor_edit.specs.Sound.{counts-sound, lies-counted}
+use Rattle.editor_lines.proofs.AnswerLaws.{gone, absent}
 use borrow.Author.Needs.{needs}
-use Rattle.editor_edit.proofs.take_out.Statement.{statement}
-use Rattle.editor_edit.proofs.take_out.Tie as tie
+use Rattle.editor_lines.proofs.take_out.Statement.{statement}
+use Rattle.editor_lines.proofs.take_out.Tie as tie
 
 store-counts-requires : tie.Need-store-counts-requires
 store-counts-requires c κs = search needs
@@ -11,7 +11,8 @@ store-counts-requires c κs = search needs
 take-out-requires : tie.Need-take-out-requires
 take-out-requires c κs =
     let args = c .before .before .before .before .before .args in
-    (counts-sound (state (args .names .now) (args .values .now) (args .store .now) (args .e)) _ (c .store-counts .ensures) (c .before .before .before .before .before .pre .0), lies-counted (args .names .now) (args .values .now) (args .store .now) (args .e) _ (c .store-counts .ensures) (args .place .number) (args .place) (c .before .before .before .before .before .pre .1))
+    let s = state (args .names .now) (args .values .now) (args .store .now) (args .e) in
+    (counts-sound s _ (c .store-counts .ensures) (c .before .before .before .before .before .pre .0), lies-counted s _ (c .store-counts .ensures) (args .place .number) (args .place) (c .before .before .before .before .before .pre .1))
 
 enum-known-left : tie.Need-enum-known-left
 enum-known-left c = search needs

@@ -1,2 +1,2 @@
-pub mod EditLaws
+pub mod StateLaws
 pub mod AnswerLaws

@@ -1,9 +1,9 @@
 use mathlib.Core.Path.{sym, _∙_}
 use borrow.Author.Tests.{lt-ltb, le-ltb}
-use Rattle.editor_edit.specs.States.{short-of}
+use Rattle.editor_names.specs.Answers.{short-of}
 use borrow.Author.Needs.{needs}
-use Rattle.editor_edit.proofs.shortage.Statement.{statement}
-use Rattle.editor_edit.proofs.shortage.Tie as tie
+use Rattle.editor_names.proofs.shortage.Statement.{statement}
+use Rattle.editor_names.proofs.shortage.Tie as tie
 
 lacks-room-requires : tie.Need-lacks-room-requires
 lacks-room-requires c κs = search needs

@@ -1,9 +1,9 @@
 use mathlib.Core.List.{[]}
 use Rattle.paper.specs.Line.{direct-number}
-use Rattle.editor_edit.proofs.AnswerLaws.{room-is, direct-short, direct-8, direct-0}
+use Rattle.editor_accept.proofs.AnswerLaws.{room-is, direct-short, direct-8, direct-0}
 use borrow.Author.Needs.{needs}
-use Rattle.editor_edit.proofs.accept_direct.Statement.{statement}
-use Rattle.editor_edit.proofs.accept_direct.Tie as tie
+use Rattle.editor_accept.proofs.accept_direct.Statement.{statement}
+use Rattle.editor_accept.proofs.accept_direct.Tie as tie
 
 shortage-requires : tie.Need-shortage-requires
 shortage-requires c κs = search needs

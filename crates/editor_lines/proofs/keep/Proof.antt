@@ -1,10 +1,10 @@
 use Rattle.paper.specs.Items.{span}
 use Rattle.editor_edit.specs.States.{state}
 use Rattle.editor_edit.specs.Sound.{counts-sound}
-use Rattle.editor_edit.proofs.AnswerLaws.{place-kept, kept-8, kept-4}
+use Rattle.editor_lines.proofs.AnswerLaws.{place-kept, kept-8, kept-4}
 use borrow.Author.Needs.{needs}
-use Rattle.editor_edit.proofs.keep.Statement.{statement}
-use Rattle.editor_edit.proofs.keep.Tie as tie
+use Rattle.editor_lines.proofs.keep.Statement.{statement}
+use Rattle.editor_lines.proofs.keep.Tie as tie
 
 store-counts-requires : tie.Need-store-counts-requires
 store-counts-requires c κs = search needs

@@ -4,110 +4,38 @@ use native.Mathlib.Omega.{arith}
 use mathlib.Core.Path.{_≡_, sym, ap, _∙_}
 use mathlib.Core.Bool.{true}
 use mathlib.Core.List.{List, [], _++_}
-use lib.Dec.{T}
 use lib.ListN.{length, take, length-take}
 use lib.Seq.{sets}
 use borrow.Author.Tests.{lt-ltb, le-ltb}
 use Rattle.paper.specs.Bytes.{joined}
 use Rattle.paper.specs.Tokens.{Token}
-use Rattle.paper.specs.Items.{Span, no-span}
+use Rattle.paper.specs.Items.{no-span}
 use Rattle.paper.specs.Names.{names-in, name-bytes, value-entries}
 use Rattle.paper.specs.Line.{line-number, direct-number}
-use Rattle.paper.specs.Store.{lines-in, put-line, take-out, overwritten}
-use Rattle.paper.specs.Calls.{State, names-of, lines-of, sound-state, refusal, delete, keep-line}
+use Rattle.paper.specs.Store.{put-line, overwritten}
+use Rattle.paper.specs.Calls.{State, names-of, lines-of, refusal}
 use Rattle.paper.specs.Direct.{same-buffer}
 use Rattle.laws.specs.Names.{closed?, Sound}
 use Rattle.buffers.specs.Sets.{overwrites}
 use Rattle.names_numbered.specs.Answers.{lacks, Room}
 use Rattle.store.specs.Answers.{place-of}
-use Rattle.store_edit.specs.Answers.{counts-of, too-long, stored-answer, stored-bytes, removed-answer, removed-bytes}
-use Rattle.store_edit.specs.Answered.{stored-done, stored-no-room, removed-done, removed-not-there}
+use Rattle.store_edit.specs.Answers.{counts-of, stored-answer, stored-bytes}
+use Rattle.store_edit.specs.Answered.{stored-done, stored-no-room}
 use Rattle.store.specs.declared.Counts.{Counts}
 use Rattle.store.specs.declared.Place.{Place}
 use Rattle.store_edit.specs.declared.Stored.{Stored}
 use Rattle.store_edit.specs.declared.Stored.the-variants.{Done, NoRoom}
-use Rattle.store_edit.specs.declared.Removed.{Removed}
-use Rattle.store_edit.specs.declared.Removed.the-variants.{Done as Gone, NotThere}
 use Rattle.editor_edit.specs.declared.Editor.{Editor}
 use Rattle.editor_edit.specs.declared.Entered.{Entered}
-use Rattle.editor_edit.specs.States.{state, counts-in, counting, entered, refusing, accepting, short-of, Lies}
-use Rattle.editor_edit.specs.Sound.{lines-kept}
-use Rattle.editor_edit.specs.Lines.{Written, Accepts, AcceptsDirect}
-use Rattle.editor_edit.proofs.EditLaws.{tables-stay, taken-out, not-there, roomy, number-is, short-stored, room-decides, short-direct, buffer-decides}
+use Rattle.editor_edit.specs.States.{state, counts-in, entered, refusing, Lies}
+use Rattle.editor_edit.specs.Sound.{lines-counted, lines-kept, lies-counted}
+use Rattle.editor_names.specs.Answers.{accepting, short-of}
+use Rattle.editor_accept.specs.Lines.{Written, Accepts, AcceptsDirect}
+use Rattle.editor_accept.proofs.AcceptLaws.{roomy, number-is, short-stored, room-decides, short-direct, buffer-decides}
 
 module _ (names values store : List ℕ) (e : Editor) where
   abbrev S : State
   S = state names values store e
-
-  -- ---- the counts that the store is asked with
-
-  module _ (kept : Counts) (is : kept ≡ counts-in e) where
-    -- the lines of so many bytes
-    abbrev lines-counted : List (List ℕ)
-    lines-counted = lines-in (take (kept .used) store)
-
-    -- a place among them
-    pub lies-counted : (n : ℕ) (p : Place) → Lies p n S → p ≡ place-of n lines-counted
-    lies-counted n p h = h ∙ ap (place-of n) (sym (lines-kept S kept is))
-
-    -- ---- taking a line out
-
-    module _ (n : ℕ) (r : Removed) (store′ : List ℕ) (a : r ≡ removed-answer n lines-counted) (b : store′ ≡ removed-bytes n store lines-counted) where
-      answered : r ≡ removed-answer n (lines-of S)
-      answered = a ∙ ap (removed-answer n) (lines-kept S kept is)
-
-      left-so : store′ ≡ removed-bytes n store (lines-of S)
-      left-so = b ∙ ap (removed-bytes n store) (lines-kept S kept is)
-
-      -- the line is gone
-      pub gone : T (sound-state S) → (left : Counts) (x : Editor) → r ≡ Gone left → x ≡ counting e left
-          → entered (record { number = 0; place = 0; end = 0; added = 0; editor = x }) names values store′ ≡ delete S n
-      unfolding removed-bytes counts-of
-      gone o left x g q =
-          let d = removed-done n (lines-of S) left (sym answered ∙ g) in
-          let st : store′ ≡ overwritten (joined (take-out n (lines-of S))) store = left-so ∙ rw (d .0) in
-          rw (q, st, d .1) (taken-out S o n (d .0))
-
-      -- the line is not there
-      pub absent : (x : Entered) → r ≡ NotThere → x ≡ refusing 9 no-span e → entered x names values store′ ≡ delete S n
-      unfolding removed-bytes
-      absent x g q =
-          let d = removed-not-there n (lines-of S) (sym answered ∙ g) in
-          let st : store′ ≡ store = left-so ∙ rw (d) in
-          rw (st, q) (not-there S n d)
-
-    -- ---- keeping a wrong line
-
-    module _ (o : T (sound-state S)) (line : List ℕ) (size : ℕ) (there : Span) (part : List ℕ) (p : part ≡ take size line) where
-      -- the place of its number
-      pub place-kept : (q : Place) → Lies q (line-number (take size line)) S → q ≡ place-of (line-number part) lines-counted
-      place-kept q h = lies-counted (line-number (take size line)) q h ∙ ap (λ (l : List ℕ). place-of (line-number l) lines-counted) (sym p)
-
-      module _ (r : Stored) (store′ : List ℕ) (a : r ≡ stored-answer store (put-line part lines-counted)) (z : store′ ≡ stored-bytes store (put-line part lines-counted)) where
-        abbrev with-kept : List (List ℕ)
-        with-kept = put-line (take size line) (lines-of S)
-
-        same-kept : put-line part lines-counted ≡ with-kept
-        same-kept = ap (put-line part) (lines-kept S kept is) ∙ ap (λ (l : List ℕ). put-line l (lines-of S)) p
-
-        -- 8
-        pub kept-8 : (x : Entered) → r ≡ NoRoom → x ≡ refusing 8 no-span e → entered x names values store′ ≡ keep-line S (take size line) there
-        unfolding stored-bytes keep-line refusal too-long
-        kept-8 x g q =
-            let no = stored-no-room store with-kept (ap (stored-answer store) (sym same-kept) ∙ sym a ∙ g) in
-            let st : store′ ≡ store = z ∙ ap (stored-bytes store) same-kept ∙ rw (no) in
-            rw (st, q) (sym (rw (no)))
-
-        -- 4
-        pub kept-4 : (after : Counts) (x : Editor) → r ≡ Done after → x ≡ counting e after
-            → entered (record { number = 4; place = there .start; end = there .end; added = 0; editor = x }) names values store′ ≡ keep-line S (take size line) there
-        unfolding stored-bytes keep-line counts-of too-long
-        kept-4 after x g q =
-            let yes = stored-done store with-kept after (ap (stored-answer store) (sym same-kept) ∙ sym a ∙ g) in
-            let st : store′ ≡ overwritten (joined with-kept) store = z ∙ ap (stored-bytes store) same-kept ∙ rw (yes .0) in
-            rw (q, st, yes .1) (sym (rw (yes .0, tables-stay S o with-kept)))
-
-  -- ---- accepting a line
 
   module _ (t : Sound names (e .«name_bytes») (e .«name_count»)) (v : 8 * e .«name_count» ≤ length values) (n : ℕ) (line : List ℕ) (size : ℕ) (fresh : List ℕ) where
     -- its number among 6 and 7, or 0
@@ -125,16 +53,16 @@ module _ (names values store : List ℕ) (e : Editor) where
 
     module _ (kept : Counts) (is : kept ≡ counts-in e) (k : ℕ) (l : k ≡ short) (d : k ≡ 0) (part : List ℕ) (p : part ≡ take size line) where
       -- the place of the line's number
-      pub place-is : (ts : List Token) (q : Place) → Written (names-of S) n ts line size fresh → Lies q n S → q ≡ place-of (line-number part) (lines-counted kept is)
+      pub place-is : (ts : List Token) (q : Place) → Written (names-of S) n ts line size fresh → Lies q n S → q ≡ place-of (line-number part) (lines-counted S kept is)
       place-is ts q w h =
           let same : line-number part ≡ n = ap line-number p ∙ number-is S t v n line size fresh ts w (sym l ∙ d) in
-          lies-counted kept is n q h ∙ ap (λ (m : ℕ). place-of m (lines-counted kept is)) (sym same)
+          lies-counted S kept is n q h ∙ ap (λ (m : ℕ). place-of m (lines-counted S kept is)) (sym same)
 
-      module _ (r : Stored) (store′ : List ℕ) (a : r ≡ stored-answer store (put-line part (lines-counted kept is))) (z : store′ ≡ stored-bytes store (put-line part (lines-counted kept is))) where
+      module _ (r : Stored) (store′ : List ℕ) (a : r ≡ stored-answer store (put-line part (lines-counted S kept is))) (z : store′ ≡ stored-bytes store (put-line part (lines-counted S kept is))) where
         abbrev put : List (List ℕ)
         put = put-line (take size line) (lines-of S)
 
-        same-put : put-line part (lines-counted kept is) ≡ put
+        same-put : put-line part (lines-counted S kept is) ≡ put
         same-put = ap (put-line part) (lines-kept S kept is) ∙ ap (λ (y : List ℕ). put-line y (lines-of S)) p
 
         put-answered : r ≡ stored-answer store put

@@ -1,6 +1,6 @@
 use borrow.Author.Needs.{needs}
-use Rattle.editor_edit.proofs.accepted.Statement.{statement}
-use Rattle.editor_edit.proofs.accepted.Tie as tie
+use Rattle.editor_names.proofs.accepted.Statement.{statement}
+use Rattle.editor_names.proofs.accepted.Tie as tie
 
 add-requires : tie.Need-add-requires
 add-requires c κs = search needs
