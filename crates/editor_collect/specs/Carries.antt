@@ -10,7 +10,7 @@ use Rattle.paper.specs.Bytes.{every, joined}
 use Rattle.paper.specs.Store.{lines-from, lines-in, whole-line?, overwritten}
 use Rattle.paper.specs.Collect.{renumbered}
 use Rattle.names_left.specs.Parts.{drop-take}
-use Rattle.list_renumber.specs.Numbers.{Ready, Portable, Carried}
+use Rattle.list_renumber.specs.Lines.{Ready, Portable, Carried}
 use Rattle.editor_collect.specs.Lines.{Next, next-line}
 
 -- each of some lines is ready

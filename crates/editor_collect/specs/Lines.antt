@@ -14,7 +14,7 @@ use Rattle.paper.specs.Store.{lines-from, lines-in, whole-line?}
 use Rattle.laws.specs.Tests.{and-left, and-right, is-true}
 use Rattle.laws.specs.Lines.{lines-next}
 use Rattle.store.specs.Rising.{first-go}
-use Rattle.list_renumber.specs.Marks.{marked}
+use Rattle.list_mark.specs.Marks.{marked}
 use Rattle.editor_collect.specs.Marks.{marked-line, marked-lines}
 
 -- ---- the first of some lines

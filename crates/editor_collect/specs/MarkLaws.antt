@@ -16,7 +16,7 @@ use Rattle.paper.specs.Errors.{error-line?}
 use Rattle.paper.specs.Collect.{some, uses?, line-uses?, used?}
 use Rattle.laws.specs.Names.{same-self, same-eq}
 use Rattle.list_pieces.specs.Rest.{Numbered}
-use Rattle.list_renumber.specs.Marks.{marked-by, marked}
+use Rattle.list_mark.specs.Marks.{marked-by, marked}
 use Rattle.names_left.specs.Marks.{stays?}
 use Rattle.names_left.specs.Agreement.{Agree}
 use Rattle.editor_collect.specs.Marks.{marked-line, marked-lines}

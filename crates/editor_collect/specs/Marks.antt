@@ -4,7 +4,7 @@ use mathlib.Core.List.{List, [], _∷_}
 use Rattle.paper.specs.Bytes.{pick}
 use Rattle.paper.specs.Line.{line-tokens}
 use Rattle.paper.specs.Errors.{error-line?}
-use Rattle.list_renumber.specs.Marks.{marked}
+use Rattle.list_mark.specs.Marks.{marked}
 
 -- marks, with those of a line
 unfoldable pub marked-line : List (List ℕ) → List ℕ → List ℕ → List ℕ

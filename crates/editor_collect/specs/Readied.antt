@@ -22,7 +22,8 @@ use Rattle.list_pieces.specs.Rest.{Numbered}
 use Rattle.list_pieces.specs.WellFormed.{passes-whole}
 use Rattle.names_left.specs.Marks.{numbers-by}
 use Rattle.names_left.specs.Agreement.{Agree, number-agrees, number-lower}
-use Rattle.list_renumber.specs.Numbers.{moves?, Moving, Ready}
+use Rattle.list_measure.specs.Numbers.{moves?}
+use Rattle.list_renumber.specs.Lines.{Moving, Ready}
 use Rattle.editor_collect.specs.Carries.{AllReady}
 
 or-first : (a b : Bool) → T a → T (a || b)

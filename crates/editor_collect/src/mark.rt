@@ -32,7 +32,7 @@ fn mark_line(line: &[u8], kinds: &[u8], marks: &mut [u8], frames: &mut [u8]) -> 
     if !well_formed_over(line, kinds, frames) {
         return false;
     }
-    list_renumber::mark_line(line, marks);
+    list_mark::mark_line(line, marks);
     true
 }
 

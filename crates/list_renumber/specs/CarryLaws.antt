@@ -1,7 +1,7 @@
 -- A line carried down: an error line as it is, any other rewritten.
-use Prim.Native.Nat.{ℕ, _+_, _-_, _≤_, _<_}
+use Prim.Native.Nat.{ℕ, _+_, _-_, _≤_}
 use native.Mathlib.Omega.{arith}
-use mathlib.Core.Path.{_≡_, refl, sym, ap, _∙_}
+use mathlib.Core.Path.{_≡_, sym, ap, _∙_}
 use mathlib.Core.Bool.{Bool, true, false}
 use mathlib.Core.List.{List}
 use lib.ListN.{length, take, drop, length-drop}
@@ -9,7 +9,7 @@ use lib.Seq.{sets, length-take-le}
 use Rattle.paper.specs.Errors.{error-line?}
 use Rattle.paper.specs.Collect.{renumbered}
 use Rattle.buffers.specs.Sets.{overwrites}
-use Rattle.list_renumber.specs.Numbers.{Movable, Rewritten, Portable, Carried}
+use Rattle.list_renumber.specs.Lines.{Movable, Rewritten, Portable, Carried}
 
 module _ (numbers room : List ℕ) (from size : ℕ) (there : from + size ≤ length room) {found : Bool} (is : found ≡ error-line? (take (from + size - from) (drop from room))) where
   found-so : found ≡ error-line? (take size (drop from room))

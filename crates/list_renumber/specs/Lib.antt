@@ -1,10 +1,5 @@
-pub mod Marks
-pub mod Walks
-pub mod MarkLaws
-pub mod Numbers
+pub mod Lines
 pub mod PieceBytes
-pub mod PassingLaws
-pub mod MeasureLaws
-pub mod WriteLaws
+pub mod OverLaws
 pub mod RewriteLaws
 pub mod CarryLaws

@@ -1,19 +1,20 @@
 -- What holds before each piece while a line is rewritten. Everything is written below the place that is read next: what is read is as it was.
-use Prim.Native.Nat.{ℕ, zero, suc, _+_, _-_, _*_, _/_, _%_, _≤_, _<_}
+use Prim.Native.Nat.{ℕ, zero, suc, _+_, _-_, _/_, _%_, _≤_, _<_}
 use native.Mathlib.Omega.{arith}
 use mathlib.Core.Path.{_≡_, refl, subst, sym, ap, ap₂, _∙_}
 use mathlib.Core.List.{List, [], _∷_, _++_, append-nil, append-assoc}
 use lib.ListN.{length, take, drop, getD, set, length-append, length-take, length-drop}
-use lib.Seq.{sets, drop-drop, take-take, getD-take, getD-drop, length-take-le}
+use lib.Seq.{sets, drop-set-lt, set-comm, drop-drop, take-take, getD-take, getD-drop, length-take-le}
 use Rattle.paper.specs.Line.{to-next, token-bytes, tokens-from, line-bytes, line-number, line-tokens}
 use Rattle.paper.specs.Store.{overwritten}
 use Rattle.buffers.specs.Sets.{sets-append, overwrites}
 use Rattle.list_pieces.specs.declared.Piece.{Piece}
 use Rattle.list_pieces.specs.Pieces.{piece-at, size-of, end-after}
-use Rattle.list_renumber.specs.Numbers.{new-size, piece-bytes, Passing, Moving}
-use Rattle.list_renumber.specs.Walks.{tokens-at, none-past, stands-first}
-use Rattle.list_renumber.specs.PassingLaws.{fits, passing-shorter, passing-long, passing-bytes, passing-step}
-use Rattle.list_renumber.specs.WriteLaws.{set-under, drop-under}
+use Rattle.list_measure.specs.Numbers.{new-size, piece-bytes, Passing}
+use Rattle.list_mark.specs.Walks.{tokens-at, none-past, stands-first}
+use Rattle.list_measure.specs.PassingLaws.{fits, passing-shorter, passing-step}
+use Rattle.list_renumber.specs.Lines.{Moving}
+use Rattle.list_renumber.specs.OverLaws.{passing-long, passing-bytes}
 
 -- ---- the line in the room
 
@@ -34,6 +35,17 @@ rest-in room from size at = drop-take at size (drop from room) ∙ ap (take (siz
 -- a piece of it
 piece-in : (room : List ℕ) (from size at n : ℕ) → at + n ≤ size → take n (drop at (take size (drop from room))) ≡ take n (drop (from + at) room)
 piece-in room from size at n h = ap (take n) (rest-in room from size at) ∙ take-take n (size - at) (drop (from + at) room) (omega arith)
+
+-- ---- what is written below
+
+-- what is written from a place on leaves a byte before it, and the bytes after it, as they were
+pub set-under : (l : List ℕ) (i : ℕ) (vs : List ℕ) (j a : ℕ) → j < i → set (sets l i vs) j a ≡ sets (set l j a) i vs
+set-under l i [] j a h = refl
+set-under l i (v ∷ vs) j a h = set-under (set l i v) (suc i) vs j a (omega arith) ∙ ap (λ (x : List ℕ). sets x (suc i) vs) (set-comm l i j v a (λ e. omega arith))
+
+pub drop-under : (l : List ℕ) (i : ℕ) (vs : List ℕ) (k : ℕ) → i + length vs ≤ k → drop k (sets l i vs) ≡ drop k l
+drop-under l i [] k h = refl
+drop-under l i (v ∷ vs) k h = drop-under (set l i v) (suc i) vs k (omega arith) ∙ drop-set-lt k l i v (omega arith)
 
 -- ---- before each piece
 

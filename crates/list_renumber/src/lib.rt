@@ -1,27 +1,7 @@
-// The variables of a line: those that it uses are marked, and the line is rewritten in place with their new numbers.
-mod mark;
-mod measure;
-mod write;
-
+// A line rewritten in place with the new numbers of its variables, or carried down as it is.
 ghost use Prim.Native.Nat.{_+_, _≤_, _<_};
 ghost use lib.ListN.{length, take, drop};
-ghost use Rattle.list_renumber.specs.Marks.{Readable, Marked};
-ghost use Rattle.list_renumber.specs.Numbers.{Movable, Rewritten, Portable, Carried};
-
-// Marks the variables that a well-formed line uses, each at its number. The other marks stay.
-pub fn mark_line(line: &[u8], marks: &mut [u8])
-    requires { ⌜ Readable (now line) ⌝ }
-    ensures { λ _. ⌜ Marked (now (line .entry)) (now (marks .entry)) (now (marks .exit)) ⌝ }
-{
-    let mut at: usize = 3;
-    let mut end: usize = 3;
-    while at < line.len() {
-        let piece = list_pieces::piece_at(line, at, end);
-        mark::mark_piece(piece, marks);
-        end = list_pieces::end_after(line, at, end, piece);
-        at += list_pieces::size_of(piece);
-    }
-}
+ghost use Rattle.list_renumber.specs.Lines.{Movable, Rewritten, Portable, Carried};
 
 // Rewrites a well-formed line of `size` bytes at `from`, each of whose variables has a new number that is no greater: the line then stands at the front. Answers
 // how long it is.
@@ -39,9 +19,9 @@ fn renumber_line(room: &mut [u8], from: usize, size: usize, numbers: &[u8]) -> u
         let line = &room[from..stop];
         let piece = list_pieces::piece_at(line, at, end);
         let next = list_pieces::end_after(line, at, end, piece);
-        let offset = measure::new_offset(line, at, end, piece, next, to, numbers);
-        write::write_piece(room, from + at, to, piece, offset, numbers);
-        to += measure::new_size(piece, numbers);
+        let offset = list_measure::new_offset(line, at, end, piece, next, to, numbers);
+        list_write::write_piece(room, from + at, to, piece, offset, numbers);
+        to += list_measure::new_size(piece, numbers);
         at += list_pieces::size_of(piece);
         end = next;
     }
@@ -59,7 +39,7 @@ pub fn carry_line(room: &mut [u8], from: usize, size: usize, numbers: &[u8]) -> 
 {
     let stop = from + size;
     if list_error::is_error_line(&room[from..stop]) {
-        write::move_down(room, from, 0, size);
+        store_gap::carry_down(room, 0, from, size);
         return size;
     }
     renumber_line(room, from, size, numbers)

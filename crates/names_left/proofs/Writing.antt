@@ -1,14 +1,12 @@
 -- Bytes still to be written to a buffer, and one entry or name moved down in it.
-use Prim.Native.Nat.{ℕ, _+_, _-_, _*_, _≤_}
+use Prim.Native.Nat.{ℕ, _+_, _*_, _≤_}
 use native.Mathlib.Omega.{arith}
 use mathlib.Core.Path.{_≡_, refl, sym, ap, _∙_}
 use mathlib.Core.List.{List, [], _∷_, _++_, append-assoc}
 use lib.ListN.{length, take, drop, set, length-append, length-drop}
-use lib.Seq.{sets, sets-eq, paste, length-sets, length-take-le, set-at, append-snoc}
+use lib.Seq.{sets, sets-eq, length-sets, length-take-le, set-at, append-snoc}
 use Rattle.paper.specs.Store.{overwritten}
 use Rattle.buffers.specs.Sets.{sets-append, overwrites}
-use Rattle.store_gap.specs.Moves.{bytes-moved}
-use Rattle.store_gap.specs.MoveLaws.{tail-placed}
 use Rattle.names_left.specs.Marks.{numbered}
 
 -- ---- what is still to be written
@@ -39,16 +37,7 @@ module _ {l₀ : List ℕ} {i₀ : ℕ} {xs₀ l : List ℕ} {i : ℕ} {xs : Lis
 pub onward-end : {l₀ xs₀ l : List ℕ} {i : ℕ} {xs : List ℕ} → Onward l₀ 0 xs₀ l i xs → xs ≡ [] → i ≤ length l → l ≡ overwritten xs₀ l₀
 onward-end {l₀} {xs₀} {l} {i} {xs} o e h = sym (o .whole ∙ ap (sets l i) e) ∙ overwrites l₀ xs₀ (omega (arith, o .size, ap length e, o .room))
 
--- ---- bytes moved down
-
-pub moved-down : (l d : List ℕ) (to from end r : ℕ) → to ≤ from → from ≤ end → end ≤ length d
-    → (r ≡ bytes-moved to (from - to) 0 end) × (l ≡ paste d (to + 0) (drop (to + (from - to)) d) r) → l ≡ sets d to (take (end - from) (drop from d))
-moved-down l d to from end r h g k e =
-    let z : to + 0 ≡ to = omega arith in
-    let f : to + (from - to) ≡ from = omega arith in
-    let n : length (take (end - from) (drop from d)) ≡ end - from = length-take-le (end - from) (drop from d) (omega (arith, length-drop from d)) in
-    let all : l ≡ paste d (to + 0) (drop (to + (from - to)) d) (end - (to + (from - to))) = tail-placed d l to (from - to) 0 end r e in
-    all ∙ rw (z, f) refl ∙ ap (λ (j : ℕ). take to d ++ take (end - from) (drop from d) ++ drop (to + j) d) (sym n) ∙ sym (sets-eq (take (end - from) (drop from d)) d to (omega arith))
+-- ---- a value moved
 
 regroup : (p : List ℕ) (a b : ℕ) (xs more : List ℕ) → (p ++ a ∷ b ∷ xs) ++ more ≡ (p ++ a ∷ []) ++ b ∷ (xs ++ more)
 regroup p a b xs more = append-assoc p (a ∷ b ∷ xs) more ∙ sym (append-snoc p a (b ∷ (xs ++ more)))
@@ -68,9 +57,5 @@ number-set d i x [] h g = absurd (omega arith)
 number-set d i x (a ∷ []) h g = absurd (omega arith)
 number-set d i x (a ∷ b ∷ e) h g = second-set d i a b x (take 6 e) (omega (arith, length-take-le 6 e (omega arith)))
 
-pub moved-value : (l d : List ℕ) (to from : ℕ) → to ≤ from → 8 * from + 8 ≤ length d → l ≡ sets d (8 * to) (take (8 * from + 8 - 8 * from) (drop (8 * from) d))
-    → set l (8 * to + 1) to ≡ sets d (8 * to) (numbered to (drop (8 * from) d))
-moved-value l d to from h g e =
-    let n : 8 * from + 8 - 8 * from ≡ 8 = omega arith in
-    ap (λ (z : List ℕ). set z (8 * to + 1) to) (e ∙ ap (λ (k : ℕ). sets d (8 * to) (take k (drop (8 * from) d))) n)
-    ∙ number-set d (8 * to) to (drop (8 * from) d) (omega (arith, length-drop (8 * from) d)) (omega arith)
+pub moved-value : (l d : List ℕ) (to from : ℕ) → to ≤ from → 8 * from + 8 ≤ length d → l ≡ sets d (8 * to) (take 8 (drop (8 * from) d)) → set l (8 * to + 1) to ≡ sets d (8 * to) (numbered to (drop (8 * from) d))
+moved-value l d to from h g e = ap (λ (z : List ℕ). set z (8 * to + 1) to) e ∙ number-set d (8 * to) to (drop (8 * from) d) (omega (arith, length-drop (8 * from) d)) (omega arith)

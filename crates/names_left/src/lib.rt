@@ -1,27 +1,20 @@
 // The names that are marked stay, with their values: one walk over the name table and the values, in place.
 use names_form::table;
+use store_gap::carry_down;
 ghost use mathlib.Core.Path.{_≡_};
 ghost use Prim.Native.Nat.{_+_, _-_, _*_, _≤_, _<_};
-ghost use lib.ListN.{length, take, drop};
+ghost use lib.ListN.{length, drop};
 ghost use lib.Seq.{sets};
 ghost use Rattle.paper.specs.Names.{most-names};
 ghost use Rattle.names_left.specs.Marks.{numbered};
 ghost use Rattle.names_left.specs.Answers.{Tabled, Leaves};
-
-// Moves the bytes from `from` up to `end` down to `to`.
-fn move_down(s: &mut [u8], to: usize, from: usize, end: usize)
-    requires { ⌜ (to ≤ from) × (from ≤ end) × (end ≤ length (now s)) ⌝ }
-    ensures { λ _. ⌜ now (s .exit) ≡ sets (now (s .entry)) to (take (end - from) (drop from (now (s .entry)))) ⌝ }
-{
-    store_gap::resize(s, to, from - to, 0, end);
-}
 
 // Moves a value from one number to another that is not above it, and writes the number into it.
 fn move_value(values: &mut [u8], to: usize, from: usize)
     requires { ⌜ (to ≤ from) × (to < 256) × (8 * from + 8 ≤ length (now values)) ⌝ }
     ensures { λ _. ⌜ now (values .exit) ≡ sets (now (values .entry)) (8 * to) (numbered to (drop (8 * from) (now (values .entry)))) ⌝ }
 {
-    move_down(values, 8 * to, 8 * from, 8 * from + 8);
+    carry_down(values, 8 * to, 8 * from, 8);
     values[8 * to + 1] = to as u8;
 }
 
@@ -43,7 +36,7 @@ pub fn keep_marked(names: &mut [u8], name_bytes: usize, values: &mut [u8], marks
     while at < name_bytes {
         let end = table::name_end(&names[..name_bytes], at);
         if marks[number] != 0 {
-            move_down(names, to, at, end);
+            carry_down(names, to, at, end - at);
             move_value(values, kept, number);
             marks[number] = kept as u8;
             to += end - at;

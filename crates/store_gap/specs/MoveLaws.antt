@@ -1,5 +1,5 @@
 -- Bytes moved inside one list, one at a time: down from the first on, or up from the last on.
-use mathlib.Core.Path.{_≡_, refl, sym, ap, _∙_, subst}
+use mathlib.Core.Path.{_≡_, refl, sym, ap, ap₂, _∙_, subst}
 use mathlib.Core.Bool.{Bool, true, false}
 use mathlib.Core.List.{List, [], _∷_, _++_, append-assoc}
 use Prim.Native.Nat.{ℕ, suc, _+_, _-_, _≤_, _<_}
@@ -8,7 +8,7 @@ use native.Mathlib.Numerals.{add-one}
 use native.Mathlib.Omega.{arith}
 use lib.ListN.{length, getD, set, take, drop, length-drop, length-append, take-append-drop, List·getD-append}
 use lib.Dec.{eqb}
-use lib.Seq.{paste, paste-zero, paste-suc, drop-paste, length-paste, length-take-le, take-suc, drop-cons, set-at, append-snoc, getD-drop, getD-take, drop-drop}
+use lib.Seq.{sets, sets-eq, paste, paste-zero, paste-suc, drop-paste, length-paste, length-take-le, take-suc, drop-cons, set-at, append-snoc, getD-drop, getD-take, drop-drop}
 use borrow.Author.Tests.{eqb-true}
 use Rattle.paper.specs.Bytes.{pick}
 use Rattle.store_gap.specs.Moves.{bytes-moved}
@@ -124,3 +124,18 @@ up-end l d at from n i r z c e =
     let f : from + i ≡ from = omega arith in
     let m : n - i ≡ r = omega arith in
     e ∙ ap (λ (k : ℕ). paste d k (drop (from + i) d) (n - i)) a ∙ ap (λ (k : ℕ). paste d at (drop k d) (n - i)) f ∙ ap (paste d at (drop from d)) m
+
+-- ---- a gap closed
+
+-- what stands after it is then set at its place
+pub gap-closed : (d l : List ℕ) (to from n r : ℕ) → to ≤ from → from + n ≤ length d → (r ≡ bytes-moved to (from - to) 0 (from + n)) × (l ≡ paste d (to + 0) (drop (to + (from - to)) d) r) → l ≡ sets d to (take n (drop from d))
+gap-closed d l to from n r h g e =
+    let a : to + 0 ≡ to = omega arith in
+    let b : to + (from - to) ≡ from = omega arith in
+    let k : from + n - (to + (from - to)) ≡ n = omega arith in
+    let m : length (take n (drop from d)) ≡ n = length-take-le n (drop from d) (omega (arith, length-drop from d)) in
+    tail-placed d l to (from - to) 0 (from + n) r e
+    ∙ ap₂ (λ (x y : ℕ). paste d x (drop y d) (from + n - (to + (from - to)))) a b
+    ∙ ap (paste d to (drop from d)) k
+    ∙ ap (λ (x : ℕ). take to d ++ take n (drop from d) ++ drop (to + x) d) (sym m)
+    ∙ sym (sets-eq (take n (drop from d)) d to (omega arith))

@@ -1,8 +1,8 @@
 // Moves of bytes inside a store. Each answers how many bytes it moved, for the store may lie in slow memory.
 ghost use mathlib.Core.Path.{_≡_};
 ghost use Prim.Native.Nat.{_+_, _-_, _≤_};
-ghost use lib.ListN.{length, drop};
-ghost use lib.Seq.{paste};
+ghost use lib.ListN.{length, take, drop};
+ghost use lib.Seq.{paste, sets};
 ghost use Rattle.store_gap.specs.Moves.{bytes-moved};
 
 // Moves `n` bytes at `from` down to `at`, the first of them first.
@@ -57,4 +57,12 @@ pub fn resize(s: &mut [u8], at: usize, old: usize, new: usize, used: usize) -> u
     } else {
         move_up(s, to, from, n)
     }
+}
+
+// Carries `n` bytes at `from` down to `to`: the gap between the two closes.
+pub fn carry_down(s: &mut [u8], to: usize, from: usize, n: usize)
+    requires { ⌜ (to ≤ from) × (from + n ≤ length (now s)) ⌝ }
+    ensures { λ _. ⌜ now (s .exit) ≡ sets (now (s .entry)) to (take n (drop from (now (s .entry)))) ⌝ }
+{
+    resize(s, to, from - to, 0, from + n);
 }

@@ -6,8 +6,8 @@ use mathlib.Core.List.{List}
 use lib.ListN.{length, take, drop, getD}
 use Rattle.paper.specs.Line.{token-bytes, line-tokens}
 use Rattle.list_pieces.specs.PieceLaws.{piece-some}
-use Rattle.list_renumber.specs.Numbers.{Moving}
-use Rattle.list_renumber.specs.PassingLaws.{fits, passing-shorter}
+use Rattle.list_renumber.specs.Lines.{Moving}
+use Rattle.list_measure.specs.PassingLaws.{fits, passing-shorter}
 use Rattle.list_renumber.specs.RewriteLaws.{Rewriting, line-read, rewriting-first, rewriting-here, rewriting-turn, rewriting-done}
 use borrow.Author.Needs.{needs}
 use Rattle.list_renumber.proofs.renumber_line.Statement.{statement}

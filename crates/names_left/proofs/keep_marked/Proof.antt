@@ -25,6 +25,7 @@ keep-marked-spec =
     (λ c. sym (length-take-le _ _ (c .before .before .loop .inv .within)))
     (λ c κs. tt)
     (λ c. omega (arith, turn-fits (c .before .before .before .before .loop .inv) _ (c .before .before .before .loop-test .taken) (c .before .name-end .ensures)))
+    (λ c. omega (arith, turn-fits (c .before .before .before .before .before .before .loop .inv) _ (c .before .before .before .before .before .loop-test .taken) (c .before .before .before .name-end .ensures)))
     (λ c κs. omega (arith, turn-fits (c .before .before .before .before .before .before .loop .inv) _ (c .before .before .before .before .before .loop-test .taken) (c .before .before .before .name-end .ensures)))
     (λ c κs. omega (arith, turn-fits (c .before .before .before .before .before .before .before .before .before .before .loop .inv) _ (c .before .before .before .before .before .before .before .before .before .loop-test .taken) (c .before .before .before .before .before .before .before .name-end .ensures)))
     (λ c. omega (arith, turn-fits (c .before .before .before .before .before .before .before .before .before .before .before .before .before .loop .inv) _ (c .before .before .before .before .before .before .before .before .before .before .before .before .loop-test .taken) (c .before .before .before .before .before .before .before .before .before .before .name-end .ensures)))

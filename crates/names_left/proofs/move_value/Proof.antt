@@ -9,12 +9,10 @@ move-value-spec =
     (tie.spec
     (λ c. search needs)
     (λ c. search needs)
-    (λ c. search needs)
-    (λ c. search needs)
     (λ c κs. search needs)
     (λ c. search needs)
     (λ c. search needs)
     (λ c. search needs)
     (λ c. search needs)
     (λ c. search needs)
-    (λ c. let start = c .before .before .before .before .before in moved-value _ _ _ _ (start .pre .0) (start .pre .2) (c .before .before .move-down .ensures)))
+    (λ c. let start = c .before .before .before .before .before in moved-value _ _ _ _ (start .pre .0) (start .pre .2) (c .before .before .carry-down .ensures)))

@@ -1,0 +1,4 @@
+pub mod Numbers
+pub mod SizeLaws
+pub mod PassingLaws
+pub mod MeasureLaws
