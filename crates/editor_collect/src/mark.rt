@@ -1,6 +1,6 @@
 // The first pass: each line is tested, and the names that it uses are marked. Nothing that is lent is written.
-use list_line::DEEPEST;
-use list_line::well_formed_over;
+use list_alone::DEEPEST;
+use list_alone::well_formed_over;
 use names_numbered::KINDS;
 use names_numbered::list_kinds;
 use store::heads;

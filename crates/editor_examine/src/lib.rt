@@ -1,6 +1,6 @@
 // A program from another tokenizer: its tables and every line examined before a tag takes it. Nothing is written.
-use list_line::DEEPEST;
-use list_line::well_formed_over;
+use list_alone::DEEPEST;
+use list_alone::well_formed_over;
 use names_numbered::KINDS;
 use names_numbered::list_kinds;
 use store::GREATEST_NUMBER;

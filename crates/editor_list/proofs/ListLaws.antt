@@ -15,11 +15,12 @@ use Rattle.laws.specs.Lines.{room-lent}
 use Rattle.store.specs.Answers.{place-of}
 use Rattle.store.specs.Places.{place-within, missing, there, line-there}
 use Rattle.store.specs.declared.Place.{Place}
-use Rattle.list_line.specs.Listed.{answer, lists}
+use Rattle.list_outcome.specs.Outcomes.{answer}
+use Rattle.list_line.specs.Listed.{lists}
 use Rattle.list_pieces.specs.Rest.{Sound}
 use Rattle.list_pieces.specs.NameLaws.{sound-own}
 use Rattle.editor_list.specs.declared.Listed.{Listed as Answer}
-use Rattle.list_line.specs.declared.Outcome.{Outcome as Found}
+use Rattle.list_outcome.specs.declared.Outcome.{Outcome as Found}
 use Rattle.editor_list.specs.Answers.{unlisted, listed, Numbered}
 use Rattle.editor_edit.specs.States.{Lies}
 use Rattle.editor_edit.specs.Sound.{table-tested, store-sound}

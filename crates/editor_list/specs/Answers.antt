@@ -4,8 +4,8 @@ use mathlib.Core.Path.{_≡_}
 use mathlib.Core.List.{List}
 use Rattle.paper.specs.Calls.{Listed as Written-out}
 use Rattle.editor_list.specs.declared.Listed.{Listed}
-use Rattle.list_line.specs.declared.Outcome.{Outcome as Found}
-use Rattle.list_line.specs.Listed.{answer}
+use Rattle.list_outcome.specs.declared.Outcome.{Outcome as Found}
+use Rattle.list_outcome.specs.Outcomes.{answer}
 
 -- a refusal: nothing is written
 abbrev pub unlisted : ℕ → Listed

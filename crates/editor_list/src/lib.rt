@@ -1,6 +1,6 @@
 // The listing of a stored line, and of the line in a line buffer.
 use editor_edit::Editor;
-use list_line::Outcome;
+use list_outcome::Outcome;
 use store::Place;
 use store::heads;
 ghost use mathlib.Core.Path.{_≡_};

@@ -2,7 +2,7 @@
 use editor_edit::Editor;
 use file_load::HEAD;
 use file_load::Opened;
-use list_line::DEEPEST;
+use list_alone::DEEPEST;
 use list_weigh::Weighing;
 use list_weigh::Weight;
 use names_numbered::KINDS;

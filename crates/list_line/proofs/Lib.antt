@@ -1,4 +1,2 @@
 pub mod PassLaws
-pub mod NumberLaws
-pub mod AnswerLaws
-pub mod FitLaws
+pub mod EitherLaws

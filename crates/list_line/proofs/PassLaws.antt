@@ -4,7 +4,7 @@ use native.Mathlib.Omega.{arith}
 use native.Mathlib.Nat.{zero-add}
 use native.Mathlib.Numerals.{add-one}
 use mathlib.Core.Path.{_≡_, refl, subst, sym, ap, ap₂, _∙_}
-use mathlib.Core.Bool.{Bool, true, false, not}
+use mathlib.Core.Bool.{Bool, true, false}
 use mathlib.Core.Logic.{_⊎_, inl, inr, ⊎-elim}
 use mathlib.Core.List.{List, [], _∷_, _++_, append-nil, append-assoc}
 use lib.Dec.{leb}
@@ -27,9 +27,10 @@ use Rattle.grammar.specs.Stack.{stack}
 use Rattle.list_check.specs.Passes.{Onward}
 use Rattle.list_text.specs.Texts.{piece-text, Writes}
 use Rattle.list_text.specs.InTurn.{then, as-text}
-use Rattle.list_line.specs.Listed.{lawful-for, formed-listing, head-for, capped, found, measured}
+use Rattle.list_head.specs.Heads.{lawful-for, head-for}
+use Rattle.list_line.specs.Listed.{formed-listing, capped, found, measured}
 use Rattle.list_pieces.specs.WellFormed.{passes-whole}
-use Rattle.list_line.proofs.FitLaws.{Fitting, fitting-first, fitting-next, fitting-fails, fitting-open, fitting-wants, fitting-done, short-go}
+use Rattle.list_alone.specs.FitLaws.{Fitting, fitting-first, fitting-next, fitting-fails, fitting-open, fitting-wants, fitting-done, short-go}
 use Rattle.list_pieces.specs.Decoded.{pieces}
 use Rattle.list_pieces.specs.RestLaws.{later, written-here}
 

@@ -1,13 +1,13 @@
 // The first pass over a line: whether it is well-formed, and how long its listing is.
-use crate::DEEPEST;
-use crate::head;
+use list_alone::DEEPEST;
 use list_check::Fit;
 ghost use mathlib.Core.Path.{_≡_};
 ghost use Prim.Native.Nat.{_≤_, _<_, _+_, _^_};
 ghost use lib.ListN.{length, take, getD};
 ghost use Rattle.paper.specs.Names.{names-in};
 ghost use Rattle.list_pieces.specs.Rest.{Sound, Head};
-ghost use Rattle.list_line.specs.Listed.{lawful-for, capped, measured};
+ghost use Rattle.list_head.specs.Heads.{lawful-for};
+ghost use Rattle.list_line.specs.Listed.{capped, measured};
 
 // What the first pass finds: the line is not well-formed; or the length of its listing, or the first that is longer than the room.
 pub enum Measure {
@@ -46,7 +46,7 @@ fn measure_body(
     let mut at: usize = 3;
     let mut end: usize = 3;
     let mut depth: usize = 1;
-    let mut total = longer(0, head::write_head(line, direct, none), room);
+    let mut total = longer(0, list_head::write_head(line, direct, none), room);
     while at < line.len() {
         let piece = list_pieces::piece_at(line, at, end);
         match list_check::check_piece(line, at, piece, names, size, frames, depth) {
@@ -74,7 +74,7 @@ pub fn measure_line(line: &[u8], direct: bool, names: &[u8], size: usize, room: 
     requires { ⌜ Sound (now names) size × (room < 2 ^ 63) ⌝ }
     ensures { λ r. ⌜ r ≡ measured direct (names-in (take size (now (names .entry)))) (now (line .entry)) room ⌝ }
 {
-    if !head::is_right(line, direct) {
+    if !list_head::is_right(line, direct) {
         return Measure::NotWellFormed;
     }
     let mut frames = [0u8; DEEPEST];

@@ -141,7 +141,7 @@ pub fn weigh(line: &[u8], names: &[u8], size: usize, kinds: &[u8], frames: &mut 
         }
         return Weighing::Weighs(weigh_error(line));
     }
-    if !list_line::well_formed_over(line, kinds, frames) {
+    if !list_alone::well_formed_over(line, kinds, frames) {
         return Weighing::NotListable;
     }
     Weighing::Weighs(weigh_formed(line, names, size))

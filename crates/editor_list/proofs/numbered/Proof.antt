@@ -1,6 +1,6 @@
 use mathlib.Core.Path.{sym, ap, _∙_}
-use Rattle.list_line.specs.Listed.{answer}
-use Rattle.list_line.specs.declared.Outcome.{Outcome}
+use Rattle.list_outcome.specs.Outcomes.{answer}
+use Rattle.list_outcome.specs.declared.Outcome.{Outcome}
 use Rattle.editor_list.specs.declared.Listed.{Listed}
 use Rattle.editor_list.specs.Answers.{listed}
 use borrow.Author.Needs.{needs}

@@ -3,7 +3,8 @@ use mathlib.Core.Path.{sym, _∙_}
 use lib.ListN.{take}
 use Rattle.paper.specs.Names.{names-in}
 use Rattle.list_line.proofs.PassLaws.{says-length, says-none, lists-long, lists-fits}
-use Rattle.list_line.proofs.AnswerLaws.{refused, too-long, written, as-formed, as-error}
+use Rattle.list_outcome.specs.AnswerLaws.{refused, too-long, written}
+use Rattle.list_line.proofs.EitherLaws.{as-formed, as-error}
 use borrow.Author.Needs.{needs}
 use Rattle.list_line.proofs.list.Statement.{statement}
 use Rattle.list_line.proofs.list.Tie as tie

@@ -4,8 +4,8 @@ use mathlib.Core.Path.{refl}
 use lib.ListN.{take, length-replicate}
 use borrow.Author.Tests.{not-false, not-true}
 use Rattle.paper.specs.Names.{names-in}
-use Rattle.list_line.specs.Listed.{lawful-for}
-use Rattle.list_line.proofs.FitLaws.{head-right, head-wrong}
+use Rattle.list_head.specs.Heads.{lawful-for}
+use Rattle.list_alone.specs.FitLaws.{head-right, head-wrong}
 use Rattle.list_line.proofs.PassLaws.{not-measured}
 use borrow.Author.Needs.{needs}
 use Rattle.list_line.proofs.first.measure_line.Statement.{statement}
