@@ -1,8 +1,8 @@
 // The first pass: each line is tested, and the names that it uses are marked. Nothing that is lent is written.
 use list_alone::DEEPEST;
 use list_alone::well_formed_over;
-use names_numbered::KINDS;
-use names_numbered::list_kinds;
+use names_kinds::KINDS;
+use names_kinds::list_kinds;
 use store::heads;
 ghost use mathlib.Core.Path.{_≡_};
 ghost use mathlib.Core.Bool.{true};
@@ -15,7 +15,7 @@ ghost use Rattle.paper.specs.Line.{lawful-number?};
 ghost use Rattle.paper.specs.Names.{names-in};
 ghost use Rattle.paper.specs.Errors.{listable?};
 ghost use Rattle.paper.specs.Store.{lines-in, whole-line?};
-ghost use Rattle.names_numbered.specs.Kinds.{Kinds};
+ghost use Rattle.names_kinds.specs.Kinds.{Kinds};
 ghost use Rattle.list_pieces.specs.Rest.{Numbered, Sound};
 ghost use Rattle.list_check.specs.Walks.{Listed};
 ghost use Rattle.editor_collect.specs.Marks.{marked-line, marked-lines};

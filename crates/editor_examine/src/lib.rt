@@ -1,8 +1,8 @@
 // A program from another tokenizer: its tables and every line examined before a tag takes it. Nothing is written.
 use list_alone::DEEPEST;
 use list_alone::well_formed_over;
-use names_numbered::KINDS;
-use names_numbered::list_kinds;
+use names_kinds::KINDS;
+use names_kinds::list_kinds;
 use store::GREATEST_NUMBER;
 use store::heads;
 ghost use mathlib.Core.Path.{_≡_};

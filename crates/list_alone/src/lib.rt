@@ -6,7 +6,7 @@ ghost use Prim.Native.Nat.{ℕ, _≤_};
 ghost use lib.ListN.{length, getD};
 ghost use Rattle.paper.specs.Line.{lawful-number?};
 ghost use Rattle.paper.specs.WellFormed.{well-formed?};
-ghost use Rattle.names_numbered.specs.Kinds.{Kinds};
+ghost use Rattle.names_kinds.specs.Kinds.{Kinds};
 ghost use Rattle.list_pieces.specs.Rest.{Numbered, Head};
 ghost use Rattle.list_check.specs.Walks.{Listed};
 

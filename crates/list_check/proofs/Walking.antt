@@ -7,7 +7,7 @@ use mathlib.Core.List.{List}
 use lib.Dec.{eqb}
 use borrow.Author.Tests.{eqb-true, eqb-false}
 use lib.ListN.{length, drop}
-use Rattle.names_numbered.specs.Kinds.{kind-at, kind-there, kind-some}
+use Rattle.names_kinds.specs.Kinds.{kind-at, kind-there, kind-some}
 use Rattle.list_pieces.specs.declared.Piece.{Piece}
 use Rattle.list_pieces.specs.Pieces.{piece-at, size-of, end-after}
 use Rattle.list_check.specs.declared.Fit.{Fit}

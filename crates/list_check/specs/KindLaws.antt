@@ -7,7 +7,7 @@ use lib.Seq.{sets}
 use Rattle.paper.specs.Names.{names-in, most-names, sound-table}
 use Rattle.laws.specs.Tests.{is-true}
 use Rattle.laws.specs.Names.{sound-facts}
-use Rattle.names_numbered.specs.Kinds.{Kinds, kinds-of, kinds-listed}
+use Rattle.names_kinds.specs.Kinds.{Kinds, kinds-of, kinds-listed}
 use Rattle.list_pieces.specs.Rest.{Sound}
 use Rattle.list_pieces.specs.NameLaws.{sound-numbered}
 use Rattle.list_check.specs.Walks.{Listed}

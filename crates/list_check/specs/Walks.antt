@@ -3,7 +3,7 @@ use Prim.Native.Nat.{ℕ, _+_, _<_, _^_}
 use mathlib.Core.Path.{_≡_}
 use mathlib.Core.List.{List}
 use lib.ListN.{drop}
-use Rattle.names_numbered.specs.Kinds.{Kinds}
+use Rattle.names_kinds.specs.Kinds.{Kinds}
 use Rattle.list_pieces.specs.declared.Piece.{Piece}
 use Rattle.list_pieces.specs.Pieces.{piece-at, size-of, end-after}
 use Rattle.list_pieces.specs.Rest.{Rest, Numbered}

@@ -12,7 +12,7 @@ ghost use Rattle.paper.specs.Names.{names-in};
 ghost use Rattle.laws.specs.Counts.{class-count};
 ghost use Rattle.list_pieces.specs.declared.Piece.the-variants.{Word, Text, Target, Variable, Constant, Quoted, Operator};
 ghost use Rattle.list_pieces.specs.Pieces.{size-of, end-after};
-ghost use Rattle.names_numbered.specs.Kinds.{kind-at, Kinds};
+ghost use Rattle.names_kinds.specs.Kinds.{kind-at, Kinds};
 ghost use Rattle.list_check.specs.Passes.{Ended, Checked};
 ghost use Rattle.list_check.specs.Walks.{Small, gone, Listed, Goes};
 ghost use Rattle.list_pieces.specs.Rest.{Numbered, Sound};
@@ -110,7 +110,7 @@ fn check_target(
     if kind == 0 {
         return Fit::Fails;
     }
-    if names_numbered::WORD <= kind {
+    if names_kinds::WORD <= kind {
         return Fit::Fails;
     }
     match grammar::take_item(frames, depth, first_class(kind)) {
@@ -216,7 +216,7 @@ fn kind_at(names: &[u8], size: usize, number: usize) -> u8
         return 0;
     }
     if names_numbered::is_statement_word(names, size, number) {
-        own + names_numbered::WORD
+        own + names_kinds::WORD
     } else {
         own
     }
@@ -303,7 +303,7 @@ pub fn check_next(
         }
         Piece::NoTarget => Walk::Stops,
         Piece::Variable(variable) => {
-            let own = buffers::byte_at(kinds, variable.number as usize) % names_numbered::WORD;
+            let own = buffers::byte_at(kinds, variable.number as usize) % names_kinds::WORD;
             let fit = check_variable(line, at, variable, own, frames, depth);
             go_on(fit, line, at, end, piece)
         }

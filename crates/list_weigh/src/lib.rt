@@ -10,7 +10,7 @@ ghost use Rattle.paper.specs.Line.{lawful-number?};
 ghost use Rattle.paper.specs.Names.{names-in};
 ghost use Rattle.paper.specs.WellFormed.{formed?};
 ghost use Rattle.paper.specs.Errors.{error-line?};
-ghost use Rattle.names_numbered.specs.Kinds.{Kinds};
+ghost use Rattle.names_kinds.specs.Kinds.{Kinds};
 ghost use Rattle.list_pieces.specs.Rest.{Sound};
 ghost use Rattle.list_weigh.specs.Weights.{Small, nothing as no-weight, plus, piece-weight, head-weight, formed-weight, error-weight, weighing, Slight};
 

@@ -3,4 +3,3 @@ pub mod Values
 pub mod Numbers
 pub mod Rooms
 pub mod Stands
-pub mod Listing

@@ -16,10 +16,9 @@ use Rattle.paper.specs.Names.{names-in, less-open}
 use Rattle.names_numbered.specs.declared.Name.{Name}
 use Rattle.names_form.specs.Tables.{cleared, unmarked, first-size}
 use Rattle.names_form.specs.Places.{name-parts, first-most}
-use Rattle.names_form.specs.Shapes.{bare-last}
+use Rattle.names_form.specs.Shapes.{bare-last, kind-last}
 use Rattle.names_numbered.specs.Standing.{start, start-bytes, start-within}
 use Rattle.names_numbered.specs.Answers.{Stands}
-use Rattle.names_numbered.proofs.Values.{kind-last}
 
 no-statement : statement-word? (less-open []) ≡ false
 unfolding statement-word? less-open find-word found? statements word bytes same

@@ -2,7 +2,7 @@
 use Prim.Native.Nat.{ℕ, suc, _+_, _-_, _*_, _≤_, _<_}
 use native.Mathlib.Numerals.{add-one}
 use native.Mathlib.Omega.{arith}
-use mathlib.Core.Path.{_≡_, refl, sym, ap, _∙_}
+use mathlib.Core.Path.{_≡_, sym, ap, _∙_}
 use mathlib.Core.List.{List, [], _∷_, _++_}
 use lib.ListN.{length, take, drop, getD, length-append}
 use lib.Seq.{sets, sets-eq, length-take-le}
@@ -14,14 +14,8 @@ use Rattle.laws.specs.Names.{bytes-of-names}
 use Rattle.laws.specs.Tables.{length-entries}
 use Rattle.names_form.specs.Tables.{cleared, unmarked, first-size}
 use Rattle.names_form.specs.Places.{name-parts, name-here, none-left}
+use Rattle.names_form.specs.Shapes.{kind-last}
 use Rattle.names_numbered.specs.Answers.{Room}
-
--- a name's kind is that of its last byte
-pub kind-last : (xs : List ℕ) (x n s a : ℕ) → by-kind (xs ++ x ∷ []) n s a ≡ by-kind (x ∷ []) n s a
-unfolding by-kind
-kind-last [] x n s a = refl
-kind-last (y ∷ []) x n s a = refl
-kind-last (y ∷ z ∷ zs) x n s a = kind-last (z ∷ zs) x n s a
 
 -- one entry, and those of the names after it
 pub value-more : (t : List ℕ) (at end i : ℕ) {all after : List ℕ} (values : List ℕ) (b : ℕ) → at < length t → end ≡ at + first-size (drop at t) → b ≡ cleared (getD t (end - 1) 0)

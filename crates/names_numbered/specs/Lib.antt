@@ -1,4 +1,3 @@
 pub mod Answers
 pub mod Uses
 pub mod Standing
-pub mod Kinds

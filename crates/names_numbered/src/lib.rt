@@ -10,13 +10,12 @@ ghost use Prim.Native.Nat.{_+_, _-_, _*_, _≤_, _<_};
 ghost use lib.ListN.{length, take, getD};
 ghost use lib.Seq.{sets};
 ghost use Rattle.paper.specs.Bytes.{pick, joined};
-ghost use Rattle.paper.specs.Tokens.{by-kind, class, variable};
+ghost use Rattle.paper.specs.Tokens.{by-kind};
 ghost use Rattle.paper.specs.Words.{statement-word?};
 ghost use Rattle.paper.specs.Names.{names-in, name-bytes, less-open, value-entries};
 ghost use Rattle.paper.specs.Store.{overwritten};
 ghost use Rattle.laws.specs.Names.{plain-name};
 ghost use Rattle.names_numbered.specs.Answers.{spelled, Numbers, lacks, Room, Stands};
-ghost use Rattle.names_numbered.specs.Kinds.{kind-of, kinds-of};
 
 // ---- the number of a name
 
@@ -252,51 +251,4 @@ pub fn is_statement_word(names: &[u8], size: usize, number: usize) -> bool
     }
     let last_at = end - 1;
     shape::is_statement(&used[from..last_at], table::clear(used[last_at]))
-}
-
-// ---- the kinds of all names
-
-// The length of a list of kinds: as many as a table has names at most.
-pub const KINDS: usize = 256;
-
-// What a kind has more where the name is a statement word.
-pub const WORD: u8 = 8;
-
-// The class of a variable, by the last byte of its name.
-fn class_of(last: u8) -> u8
-    ensures { λ r. ⌜ (r ≡ class (variable (last ∷ []))) × (r ≤ 7) ⌝ }
-{
-    match last {
-        36 => class::STRING_VARIABLE,
-        40 => class::ARRAY,
-        _ => class::NUMERIC_VARIABLE,
-    }
-}
-
-// The kind of a name, from its bytes before its last and its last: the class of the variable, and WORD more where the name is a statement word.
-fn kind_of(front: &[u8], last: u8) -> u8
-    ensures { λ r. ⌜ r ≡ kind-of (now (front .entry) ++ last ∷ []) ⌝ }
-{
-    let kind = class_of(last);
-    if shape::is_statement(front, last) {
-        kind + WORD
-    } else {
-        kind
-    }
-}
-
-// Writes the kinds of the names of some bytes to the front of a buffer, in the order of their numbers, as many as fit.
-pub fn list_kinds(names: &[u8], kinds: &mut [u8])
-    ensures { λ _. ⌜ now (kinds .exit) ≡ sets (now (kinds .entry)) 0 (kinds-of (names-in (now (names .entry)))) ⌝ }
-{
-    let mut at: usize = 0;
-    let mut number: usize = 0;
-    while at < names.len() {
-        let end = table::name_end(names, at);
-        let last_at = end - 1;
-        let kind = kind_of(&names[at..last_at], table::clear(names[last_at]));
-        buffers::put(kinds, number, kind);
-        at = end;
-        number += 1;
-    }
 }

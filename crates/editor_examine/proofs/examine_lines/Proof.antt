@@ -8,7 +8,7 @@ use lib.Seq.{sets, length-take-le}
 use borrow.Author.Tests.{not-false, not-true}
 use Rattle.paper.specs.Names.{names-in, most-names}
 use Rattle.paper.specs.WellFormed.{well-formed?}
-use Rattle.names_numbered.specs.Kinds.{kinds-of}
+use Rattle.names_kinds.specs.Kinds.{kinds-of}
 use Rattle.store.specs.Rising.{past, walk-goes}
 use Rattle.list_pieces.specs.NameLaws.{sound-numbered}
 use Rattle.list_check.specs.KindLaws.{sound-kinds, sound-listed}

@@ -5,7 +5,7 @@ use mathlib.Core.List.{List}
 use lib.ListN.{length, take, replicate, length-replicate}
 use lib.Seq.{sets, length-take-le}
 use Rattle.paper.specs.Names.{names-in, most-names}
-use Rattle.names_numbered.specs.Kinds.{kinds-of}
+use Rattle.names_kinds.specs.Kinds.{kinds-of}
 use Rattle.store.specs.Rising.{past}
 use Rattle.list_check.specs.KindLaws.{sound-kinds}
 use Rattle.list_weigh.specs.Weights.{Slight}

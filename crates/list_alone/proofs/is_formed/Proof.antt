@@ -5,7 +5,7 @@ use mathlib.Core.Path.{_≡_, refl, sym, _∙_}
 use mathlib.Core.List.{List}
 use lib.ListN.{length, drop}
 use Rattle.paper.specs.Line.{lawful-number?}
-use Rattle.names_numbered.specs.Kinds.{Kinds}
+use Rattle.names_kinds.specs.Kinds.{Kinds}
 use Rattle.list_pieces.specs.Rest.{Numbered}
 use Rattle.list_pieces.specs.PieceLaws.{piece-some}
 use Rattle.list_alone.specs.FitLaws.{Fitting, fitting-first, fitting-step, fitting-fails, fitting-open, fitting-ends}

@@ -9,7 +9,7 @@ use Rattle.paper.specs.Words.{statement-word?}
 use Rattle.paper.specs.Tokens.{variable, assigned, class, as-read}
 use Rattle.paper.specs.Names.{less-open}
 use Rattle.laws.specs.Tests.{as-T}
-use Rattle.names_numbered.specs.Kinds.{kind-there, kind-class, kind-some, a-word, no-word}
+use Rattle.names_kinds.specs.Kinds.{kind-there, kind-class, kind-some, a-word, no-word}
 use Rattle.list_pieces.specs.Pieces.{tokens-of-piece, size-of}
 use Rattle.list_pieces.specs.PieceLaws.{piece-some, target-told}
 use Rattle.list_pieces.specs.GivenLaws.{an-assigned-plain}

@@ -5,7 +5,7 @@ use mathlib.Core.List.{[]}
 use lib.ListN.{drop, getD, length-drop}
 use lib.Seq.{getD-drop}
 use Rattle.paper.specs.Tokens.{variable, as-read}
-use Rattle.names_numbered.specs.Kinds.{kind-there, kind-class, kind-some}
+use Rattle.names_kinds.specs.Kinds.{kind-there, kind-class, kind-some}
 use Rattle.list_pieces.specs.Pieces.{tokens-of-piece, size-of}
 use Rattle.list_pieces.specs.PieceLaws.{piece-some, variable-told}
 use Rattle.list_pieces.specs.GivenLaws.{a-variable-plain}

@@ -2,7 +2,7 @@ use native.Mathlib.Omega.{arith}
 use mathlib.Core.Path.{sym, _∙_}
 use lib.ListN.{take}
 use Rattle.paper.specs.Names.{names-in}
-use Rattle.names_numbered.specs.Kinds.{kind-class}
+use Rattle.names_kinds.specs.Kinds.{kind-class}
 use Rattle.list_pieces.specs.NameLaws.{there, not-there}
 use Rattle.list_check.proofs.Walking.{class-none}
 use borrow.Author.Needs.{needs}

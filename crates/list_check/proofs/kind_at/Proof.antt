@@ -3,7 +3,7 @@ use mathlib.Core.Path.{sym, _∙_}
 use mathlib.Core.Bool.{true, false}
 use lib.ListN.{take}
 use Rattle.paper.specs.Names.{names-in}
-use Rattle.names_numbered.specs.Kinds.{kind-class, kind-word}
+use Rattle.names_kinds.specs.Kinds.{kind-class, kind-word}
 use Rattle.list_check.proofs.Walking.{kind-none, kind-known}
 use borrow.Author.Needs.{needs}
 use Rattle.list_check.proofs.kind_at.Statement.{statement}

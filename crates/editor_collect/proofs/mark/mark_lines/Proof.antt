@@ -11,7 +11,7 @@ use lib.Seq.{sets, length-take-le}
 use borrow.Author.Tests.{not-false, not-true}
 use Rattle.paper.specs.Names.{names-in, most-names}
 use Rattle.paper.specs.Store.{whole-line?}
-use Rattle.names_numbered.specs.Kinds.{Kinds, kinds-of}
+use Rattle.names_kinds.specs.Kinds.{Kinds, kinds-of}
 use Rattle.store.specs.Rising.{past}
 use Rattle.list_pieces.specs.NameLaws.{sound-numbered}
 use Rattle.list_check.specs.KindLaws.{sound-kinds}

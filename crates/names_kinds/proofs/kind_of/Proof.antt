@@ -2,10 +2,10 @@ use native.Mathlib.Omega.{arith}
 use Prim.Native.Nat.{_+_}
 use mathlib.Core.Path.{_≡_, _∙_}
 use mathlib.Core.Bool.{true, false}
-use Rattle.names_numbered.proofs.Listing.{kind-made}
+use Rattle.names_kinds.proofs.Listing.{kind-made}
 use borrow.Author.Needs.{needs}
-use Rattle.names_numbered.proofs.kind_of.Statement.{statement}
-use Rattle.names_numbered.proofs.kind_of.Tie as tie
+use Rattle.names_kinds.proofs.kind_of.Statement.{statement}
+use Rattle.names_kinds.proofs.kind_of.Tie as tie
 
 pub kind-of-spec : {M : Type 1} → statement M
 kind-of-spec =

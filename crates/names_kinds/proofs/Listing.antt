@@ -13,8 +13,8 @@ use Rattle.paper.specs.Tokens.{variable, class}
 use Rattle.paper.specs.Names.{names-in, less-open}
 use Rattle.names_form.specs.Tables.{cleared, unmarked, first-size}
 use Rattle.names_form.specs.Places.{name-parts, name-here, none-left}
-use Rattle.names_numbered.specs.Kinds.{kind-of, kinds-of}
-use Rattle.names_numbered.proofs.Values.{kind-last}
+use Rattle.names_form.specs.Shapes.{kind-last}
+use Rattle.names_kinds.specs.Kinds.{kind-of, kinds-of}
 
 -- a kind, from its two parts
 pub kind-made : (xs : List ℕ) (x k : ℕ) (b : Bool) {q : Bool} → k ≡ class (variable (x ∷ [])) → q ≡ statement-word? (less-open (xs ++ x ∷ [])) → q ≡ b → k + pick b 8 0 ≡ kind-of (xs ++ x ∷ [])

@@ -1,10 +1,10 @@
 -- The kind of a name: all that the test of a line asks of it. A list of the kinds of all names answers for the table.
 use Prim.Native.Nat.{ℕ, zero, suc, _+_, _%_, _≤_, _<_}
 use native.Mathlib.Omega.{arith}
-use mathlib.Core.Path.{_≡_, refl, sym, ap, _∙_}
+use mathlib.Core.Path.{_≡_, refl, ap, _∙_}
 use mathlib.Core.Bool.{Bool, true, false}
 use mathlib.Core.List.{List, [], _∷_, _++_}
-use lib.Dec.{ltb, leb, leb→le, ltb→lt}
+use lib.Dec.{ltb, leb, leb→le}
 use lib.ListN.{length, drop, getD, replicate, length-replicate, List·getD-eq-default}
 use lib.Seq.{sets, sets-eq, getD-drop}
 use borrow.Author.Tests.{ltb-true, ltb-false}

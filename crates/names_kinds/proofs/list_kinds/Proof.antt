@@ -1,16 +1,16 @@
 -- The loop keeps: the kinds still to be listed over the list as it is now make all that are to be listed over that at entry.
-use Prim.Native.Nat.{_+_, _-_, _≤_}
+use Prim.Native.Nat.{_-_, _≤_}
 use native.Mathlib.Omega.{arith}
 use mathlib.Core.Path.{_∙_, _≡_, refl}
 use lib.ListN.{drop, length}
 use lib.Seq.{sets}
 use Rattle.paper.specs.Names.{names-in}
 use Rattle.names_form.specs.Places.{name-bounds}
-use Rattle.names_numbered.specs.Kinds.{kinds-of}
-use Rattle.names_numbered.proofs.Listing.{kind-more, kind-end}
+use Rattle.names_kinds.specs.Kinds.{kinds-of}
+use Rattle.names_kinds.proofs.Listing.{kind-more, kind-end}
 use borrow.Author.Needs.{needs}
-use Rattle.names_numbered.proofs.list_kinds.Statement.{statement}
-use Rattle.names_numbered.proofs.list_kinds.Tie as tie
+use Rattle.names_kinds.proofs.list_kinds.Statement.{statement}
+use Rattle.names_kinds.proofs.list_kinds.Tie as tie
 
 abbrev Inv-loop : tie.InvT-loop
 Inv-loop names kinds₀ at₀ number₀ kinds at number = (at ≤ length names) × (number ≤ at) × (length kinds ≡ length kinds₀) × (sets kinds₀ 0 (kinds-of (names-in names)) ≡ sets kinds number (kinds-of (names-in (drop at names))))

@@ -1,8 +1,8 @@
 use native.Mathlib.Omega.{arith}
 use Rattle.paper.specs.Tokens.{class, by-kind}
 use borrow.Author.Tests.{eq-eqb, ne-eqb}
-use Rattle.names_numbered.proofs.class_of.Statement.{statement}
-use Rattle.names_numbered.proofs.class_of.Tie as tie
+use Rattle.names_kinds.proofs.class_of.Statement.{statement}
+use Rattle.names_kinds.proofs.class_of.Tie as tie
 
 pub class-of-spec : {M : Type 1} → statement M
 unfolding class by-kind
