@@ -9,8 +9,8 @@ use lib.Seq.{drop-drop, getD-drop, getD-take, take-at, drop-at, take-all, take-t
 use Rattle.paper.specs.Bytes.{every, joined}
 use Rattle.paper.specs.Store.{lines-from, lines-in, whole-line?, overwritten}
 use Rattle.paper.specs.Collect.{renumbered}
-use Rattle.names_left.specs.Parts.{drop-take}
-use Rattle.list_renumber.specs.Lines.{Ready, Portable, Carried}
+use Rattle.laws.specs.Parts.{drop-take}
+use Rattle.list_renumber.specs.Lines.{Ready, Carried}
 use Rattle.editor_collect.specs.Lines.{Next, next-line}
 
 -- each of some lines is ready

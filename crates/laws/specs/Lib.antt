@@ -3,6 +3,7 @@ pub mod Counts
 pub mod RowTests
 pub mod Classes
 pub mod Runs
+pub mod Parts
 pub mod Lines
 pub mod Shares
 pub mod Names

@@ -1,12 +1,13 @@
 -- What holds before each piece while a line is rewritten. Everything is written below the place that is read next: what is read is as it was.
-use Prim.Native.Nat.{ℕ, zero, suc, _+_, _-_, _/_, _%_, _≤_, _<_}
+use Prim.Native.Nat.{ℕ, suc, _+_, _-_, _/_, _%_, _≤_, _<_}
 use native.Mathlib.Omega.{arith}
 use mathlib.Core.Path.{_≡_, refl, subst, sym, ap, ap₂, _∙_}
 use mathlib.Core.List.{List, [], _∷_, _++_, append-nil, append-assoc}
 use lib.ListN.{length, take, drop, getD, set, length-append, length-take, length-drop}
-use lib.Seq.{sets, drop-set-lt, set-comm, drop-drop, take-take, getD-take, getD-drop, length-take-le}
+use lib.Seq.{sets, set-comm, drop-drop, take-take, getD-take, getD-drop, length-take-le}
 use Rattle.paper.specs.Line.{to-next, token-bytes, tokens-from, line-bytes, line-number, line-tokens}
 use Rattle.paper.specs.Store.{overwritten}
+use Rattle.laws.specs.Parts.{drop-take, drop-sets}
 use Rattle.buffers.specs.Sets.{sets-append, overwrites}
 use Rattle.list_pieces.specs.declared.Piece.{Piece}
 use Rattle.list_pieces.specs.Pieces.{piece-at, size-of, end-after}
@@ -18,16 +19,6 @@ use Rattle.list_renumber.specs.OverLaws.{passing-long, passing-bytes}
 
 -- ---- the line in the room
 
-drop-take : (s n : ℕ) (l : List ℕ) → drop s (take n l) ≡ take (n - s) (drop s l)
-drop-take zero n l = let z : n ≡ n - 0 = omega arith in ap (λ (k : ℕ). take k l) z
-drop-take (suc s) zero l = let z : zero ≡ zero - suc s = omega arith in ap (λ (k : ℕ). take k (drop (suc s) l)) z
-drop-take (suc s) (suc n) [] = none (suc n - suc s)
-  where
-    none : (k : ℕ) → _≡_ {A = List ℕ} [] (take k [])
-    none zero = refl
-    none (suc k) = refl
-drop-take (suc s) (suc n) (x ∷ l) = let z : n - s ≡ suc n - suc s = omega arith in drop-take s n l ∙ ap (λ (k : ℕ). take k (drop s l)) z
-
 -- its rest from a place on
 rest-in : (room : List ℕ) (from size at : ℕ) → drop at (take size (drop from room)) ≡ take (size - at) (drop (from + at) room)
 rest-in room from size at = drop-take at size (drop from room) ∙ ap (take (size - at)) (drop-drop at from room)
@@ -36,16 +27,10 @@ rest-in room from size at = drop-take at size (drop from room) ∙ ap (take (siz
 piece-in : (room : List ℕ) (from size at n : ℕ) → at + n ≤ size → take n (drop at (take size (drop from room))) ≡ take n (drop (from + at) room)
 piece-in room from size at n h = ap (take n) (rest-in room from size at) ∙ take-take n (size - at) (drop (from + at) room) (omega arith)
 
--- ---- what is written below
-
--- what is written from a place on leaves a byte before it, and the bytes after it, as they were
-pub set-under : (l : List ℕ) (i : ℕ) (vs : List ℕ) (j a : ℕ) → j < i → set (sets l i vs) j a ≡ sets (set l j a) i vs
+-- what is written from a place on leaves a byte before it as it was
+set-under : (l : List ℕ) (i : ℕ) (vs : List ℕ) (j a : ℕ) → j < i → set (sets l i vs) j a ≡ sets (set l j a) i vs
 set-under l i [] j a h = refl
 set-under l i (v ∷ vs) j a h = set-under (set l i v) (suc i) vs j a (omega arith) ∙ ap (λ (x : List ℕ). sets x (suc i) vs) (set-comm l i j v a (λ e. omega arith))
-
-pub drop-under : (l : List ℕ) (i : ℕ) (vs : List ℕ) (k : ℕ) → i + length vs ≤ k → drop k (sets l i vs) ≡ drop k l
-drop-under l i [] k h = refl
-drop-under l i (v ∷ vs) k h = drop-under (set l i v) (suc i) vs k (omega arith) ∙ drop-set-lt k l i v (omega arith)
 
 -- ---- before each piece
 
@@ -74,7 +59,7 @@ module _ {ns new : List (List ℕ)} {numbers body old : List ℕ} {at end to : �
   rewriting-still from size =
       rest-in out from size at
       ∙ ap (λ (x : List ℕ). take (size - at) (drop (from + at) x)) (k .bytes)
-      ∙ ap (take (size - at)) (drop-under old 3 (k .text) (from + at) (omega (arith, k .below, k .place)))
+      ∙ ap (take (size - at)) (drop-sets (from + at) old 3 (k .text) (omega (arith, k .below, k .place)))
       ∙ sym (rest-in old from size at)
 
 pub rewriting-next : {ns new : List (List ℕ)} {numbers body old : List ℕ} {at end to : ℕ} {out : List ℕ} (line : List ℕ) → Rewriting ns new numbers body old at end to out (drop at line)

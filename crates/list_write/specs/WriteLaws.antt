@@ -1,25 +1,18 @@
 -- Bytes written further down in the same bytes.
-use Prim.Native.Nat.{ℕ, zero, suc, _+_, _≤_}
+use Prim.Native.Nat.{ℕ, suc, _+_, _-_, _≤_}
 use native.Mathlib.Omega.{arith}
 use native.Mathlib.Numerals.{add-one}
-use mathlib.Core.Path.{_≡_, refl, sym, ap, ap₂, _∙_}
+use mathlib.Core.Path.{_≡_, sym, ap, ap₂, _∙_}
 use mathlib.Core.List.{List, [], _∷_}
 use lib.ListN.{take, drop, set}
 use lib.Seq.{sets, drop-drop, drop-set-lt}
-
-drop-first : (n : ℕ) (l : List ℕ) → drop 1 (take (suc n) l) ≡ take n (drop 1 l)
-drop-first n [] = take-none n
-  where
-    take-none : (n : ℕ) → _≡_ {A = List ℕ} [] (take n [])
-    take-none zero = refl
-    take-none (suc n) = refl
-drop-first n (x ∷ l) = refl
+use Rattle.laws.specs.Parts.{drop-take}
 
 -- an offset and the bytes after it, moved
 pub offset-moved : (d l : List ℕ) (to from n o : ℕ) → to ≤ from → (first : List ℕ) → first ≡ set d to o → l ≡ sets first (to + 1) (take (2 + n) (drop (from + 1) first)) → l ≡ sets d to (o ∷ drop 1 (take (3 + n) (drop from d)))
 offset-moved d l to from n o h first e f =
-    let t : 3 + n ≡ suc (2 + n) = omega arith in
-    let u : drop 1 (take (3 + n) (drop from d)) ≡ take (2 + n) (drop (from + 1) d) = ap (λ (x : ℕ). drop 1 (take x (drop from d))) t ∙ drop-first (2 + n) (drop from d) ∙ ap (take (2 + n)) (drop-drop 1 from d) in
+    let t : 3 + n - 1 ≡ 2 + n = omega arith in
+    let u : drop 1 (take (3 + n) (drop from d)) ≡ take (2 + n) (drop (from + 1) d) = drop-take 1 (3 + n) (drop from d) ∙ ap (λ (x : ℕ). take x (drop 1 (drop from d))) t ∙ ap (take (2 + n)) (drop-drop 1 from d) in
     let s : drop (from + 1) first ≡ drop (from + 1) d = ap (drop (from + 1)) e ∙ drop-set-lt (from + 1) d to o (omega arith) in
     f
     ∙ ap (λ (x : List ℕ). sets first (to + 1) (take (2 + n) x)) s

@@ -9,12 +9,12 @@ use lib.ListN.{length, take, drop, getD, set, length-set, length-drop}
 use lib.Seq.{sets, length-sets, take-take, drop-drop, drop-cons, set-getD, drop-set-lt, length-take-le}
 use borrow.Author.Tests.{eq-eqb, ne-eqb}
 use Rattle.paper.specs.Names.{names-in, marked, name-bytes, most-names}
+use Rattle.laws.specs.Parts.{drop-take, drop-sets}
 use Rattle.laws.specs.Names.{closed?, bytes-of-names}
 use Rattle.names_form.specs.Tables.{unmarked, first-size}
 use Rattle.names_form.specs.Places.{name-bounds, name-here, names-before, closed-before, closed-after, none-left}
 use Rattle.names_left.specs.Marks.{stays?, left-by, numbered, values-by, numbers-by}
 use Rattle.names_left.specs.Answers.{Tabled, Leaves}
-use Rattle.names_left.specs.Parts.{drop-take, drop-sets}
 use Rattle.names_left.proofs.Writing.{Onward, onward-start, onward-step, onward-as, onward-end}
 
 -- the names from a place of a table of `size` bytes on

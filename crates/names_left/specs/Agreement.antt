@@ -11,7 +11,7 @@ use Rattle.paper.specs.Names.{number-of, known?}
 use Rattle.paper.specs.Store.{overwritten}
 use Rattle.paper.specs.Collect.{names-left, values-left}
 use Rattle.laws.specs.Names.{same-eq, known-less}
-use Rattle.names_left.specs.Parts.{drop-take}
+use Rattle.laws.specs.Parts.{drop-take}
 use Rattle.names_left.specs.Marks.{stays?, left-by, numbered, values-by, numbers-by}
 
 -- a mark for each name, which says that the name stays exactly when it passes the test

@@ -1,4 +1,3 @@
 pub mod Marks
 pub mod Answers
-pub mod Parts
 pub mod Agreement

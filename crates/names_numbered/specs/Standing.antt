@@ -6,9 +6,10 @@ use mathlib.Core.Bool.{Bool, true, false}
 use mathlib.Core.List.{List, [], _∷_}
 use lib.Dec.{leb, eqb}
 use lib.ListN.{length, take, drop, getD, length-append, length-drop}
-use lib.Seq.{take-nil, drop-nil, take-take, drop-drop, length-take-le}
+use lib.Seq.{drop-nil, take-take, drop-drop, length-take-le}
 use Rattle.paper.specs.Bytes.{pick, joined}
 use Rattle.paper.specs.Names.{names-in, less-open}
+use Rattle.laws.specs.Parts.{drop-take}
 use Rattle.names_numbered.specs.declared.Name.{Name}
 use Rattle.names_form.specs.Tables.{cleared, unmarked, first-size}
 use Rattle.names_form.specs.Places.{first-some, first-most, first-name, length-unmarked}
@@ -117,12 +118,6 @@ bare-short (x ∷ []) = go (eqb x 40)
     go true = omega arith
     go false = omega arith
 bare-short (x ∷ y ∷ ys) = let more = bare-short (y ∷ ys) in omega arith
-
-drop-take : (s n : ℕ) (l : List ℕ) → drop s (take n l) ≡ take (n - s) (drop s l)
-drop-take zero n l = let z : n ≡ n - 0 = omega arith in ap (λ (k : ℕ). take k l) z
-drop-take (suc s) zero l = let z : zero ≡ zero - suc s = omega arith in ap (λ (k : ℕ). take k (drop (suc s) l)) z
-drop-take (suc s) (suc n) [] = sym (take-nil (suc n - suc s))
-drop-take (suc s) (suc n) (x ∷ l) = let z : n - s ≡ suc n - suc s = omega arith in drop-take s n l ∙ ap (λ (k : ℕ). take k (drop s l)) z
 
 -- Of the name with a number, in a table of `size` bytes.
 module _ {r : Name} {number : ℕ} (names : List ℕ) (size : ℕ) (a : Stands (names-in (take size names)) number r) where
