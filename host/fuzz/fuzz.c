@@ -20,9 +20,7 @@ extern __typeof__(virgontey_show) reference_show;
 extern __typeof__(virgontey_examine) reference_examine;
 extern __typeof__(virgontey_save) reference_save;
 extern __typeof__(virgontey_load) reference_load;
-#ifdef WITH_COLLECT
 extern __typeof__(virgontey_collect) reference_collect;
-#endif
 
 /* What is left of an input. */
 struct choices {
@@ -278,11 +276,9 @@ static void load(struct choices *c) {
 }
 
 static void collect(void) {
-#ifdef WITH_COLLECT
     virgontey_collect(TABLES(&sides[0]), STORE(&sides[0]), RECORD(&sides[0]), sides[0].answer, VIRGONTEY_COLLECT_LENGTH);
     reference_collect(TABLES(&sides[1]), STORE(&sides[1]), RECORD(&sides[1]), sides[1].answer, VIRGONTEY_COLLECT_LENGTH);
     compare(COLLECT);
-#endif
 }
 
 /* A record that lacks counts, and an answer that lacks room, which the reference does not know: refused with 1, as far as there is room to say it, and nothing else changes. */
