@@ -52,6 +52,7 @@ pub record Wanting : Type 0 where
   pub gives : Gives
   pub wants : List ℕ
 
+-- the act that gives this and wants these frames, from the top of the stack down
 unfoldable pub act : Gives → List ℕ → Wanting
 act g fs = record { gives = g; wants = fs }
 
