@@ -30,7 +30,7 @@ REASONS = {
     r"Line.variable-(size-a-number-one-more-2|number-a-number-one-more-[268])$": "what a variable has past the end: its bytes always stand there",
     r"Calls.outcome-": "items that run out before the frames, or frames before the items: neither occurs",
 }
-FILES = ["Bytes", "Words", "Tokens", "Constants", "Names", "Items", "Machine", "Grammar", "Line", "WellFormed", "Listing", "Store", "Calls", "Direct", "Errors", "Batch", "Examine", "Files", "Collect", "Weigh"]
+FILES = ["Bytes", "Words", "Tokens", "Constants", "Names", "Items", "Machine", "Grammar", "Line", "WellFormed", "Listing", "Store", "Calls", "Direct"]
 
 # kind: [(name, file, text, wrong text)]
 BY_HAND = {
@@ -62,7 +62,7 @@ BY_HAND = {
         ("any_room_for_old_names", "Calls", "ltb (length old) (length ns)\n    &&", "ltb (length old) (length ns)\n    ||"),
         ("direct_text_of_any_length", "Direct", "(leb (length text) 120 && unnumbered? (head-of text))", "unnumbered? (head-of text)"),
         ("direct_over_unsound_store", "Direct", "pick (sound-state s && ", "pick (sound-table (s .names) (s .name-size) (s .name-count) && "),
-        ("any_number_in_a_line_buffer", "Direct", "listable? direct-number? ns l", "listable? (λ n. true) ns l"),
+        ("any_number_in_a_line_buffer", "Direct", "formed? direct-number? ns l", "formed? (λ n. true) ns l"),
         ("shown_over_any_names", "Direct", "pick (sound-table names size count && leb (8 * count) (length values))", "pick (leb (8 * count) (length values))"),
         ("and_as_or", "Words", 'word 0x29 "OR" or-and', 'word 0x2a "OR" or-and'),
     ],
@@ -75,7 +75,7 @@ BY_HAND = {
         ("eight_before_seven", "Calls", "pick lacking (refuse 6) (pick (ltb 255 (length line)) (refuse 7) (pick unfitting (refuse 8) accepted))", "pick lacking (refuse 6) (pick unfitting (refuse 8) (pick (ltb 255 (length line)) (refuse 7) accepted))"),
         ("eight_before_six", "Calls", "pick lacking (refuse 6) (pick (ltb 255 (length line)) (refuse 7) (pick unfitting (refuse 8) accepted))", "pick (lacking && not unfitting) (refuse 6) (pick (ltb 255 (length line)) (refuse 7) (pick unfitting (refuse 8) accepted))"),
         ("ten_before_nine", "Calls", "pick (not (stored? n (lines-of s))) (not-listed 9 output) listed", "pick (not (stored? n (lines-of s)) && well-formed? (names-of s) l) (not-listed 9 output) listed"),
-        ("eleven_before_ten", "Calls", "pick (not listable) (not-listed 10 output) (pick (ltb (length output) (length text)) (not-listed 11 output) listed)", "pick (ltb (length output) (length text)) (not-listed 11 output) (pick (not listable) (not-listed 10 output) listed)"),
+        ("eleven_before_ten", "Calls", "pick (not formed) (not-listed 10 output) (pick (ltb (length output) (length text)) (not-listed 11 output) listed)", "pick (ltb (length output) (length text)) (not-listed 11 output) (pick (not formed) (not-listed 10 output) listed)"),
         ("nine_before_one", "Calls", "list n s output = let listed = list-sound n s output in pick (sound-state s) listed (not-listed 1 output)", "list n s output = let listed = list-sound n s output in pick (sound-state s || eqb (listed .number) 9) listed (not-listed 1 output)"),
         ("values_untested_in_listing", "Calls", "list n s output = let listed = list-sound n s output in pick (sound-state s) listed (not-listed 1 output)", "list n s output = let listed = list-sound n s output in pick (sound-table (s .names) (s .name-size) (s .name-count) && (sound-store (s .store) (s .used) && agrees s)) listed (not-listed 1 output)"),
         ("five_for_a_constant_that_fits_nowhere", "Grammar", "if-in-range false (refuse k) = refuse k", "if-in-range false (refuse k) = refuse 5"),

@@ -205,13 +205,13 @@ def fit_tokens():
     return out
 
 
-def class_proof(kind, keys, of, laws, before, otherwise, definitions, unfolded):
-    """The proof of the class of a kind of words: what is answered before the `match`, the arm of each key, and the rest."""
-    answers = [*before, *(f"at-key {of} 0x{t:02x} (c .match .keys{i + 1})" for i, t in enumerate(keys)), otherwise]
+def class_proof(kind, of, argument, definitions, unfolded):
+    """The proof of the class of a kind of words: an arm for each fit token, in their order, and the rest."""
+    arms = "".join(f"    (λ c. at-key {of} 0x{t:02x} (c .match .keys{i + 1}))\n" for i, t in enumerate(FIT[kind]))
     return f"""-- Each arm of `{kind}_class` says the class of its token's word. ({MADE_BY})
 {definitions}
 use Rattle·tokens·proofs.proofs.Keys.{{at-key}}
-use Rattle·tokens·proofs.proofs.Classes.{{{laws}}}
+use Rattle·tokens·proofs.proofs.Classes.{{{kind}-else}}
 use Rattle·tokens·proofs.proofs.{kind}_class.Statement.{{statement}}
 use Rattle·tokens·proofs.proofs.{kind}_class.Tie as tie
 
@@ -220,7 +220,7 @@ unfolding {unfolded}
 {kind}-class-spec =
     tie.close
     (tie.spec
-{chr(10).join(f"    (λ c. {answer})" for answer in answers)})
+{arms}    (λ c. {kind}-else (c .before .args .token{argument}) (c .match .rest)))
 """
 
 
@@ -229,36 +229,25 @@ def class_proofs():
     return {
         "statement": class_proof(
             "statement",
-            FIT["statement"],
             "(λ (t : ℕ). (word-of statements t) .class)",
-            "statement-else",
-            [],
-            "statement-else (c .before .args .token .0) (c .match .rest)",
+            " .0",
             f"use Prim.Native.Nat.{{ℕ}}\n{words_file}{{word, statements, word-of}}",
             "word-of statements word",
         ),
-        # the end of raw text, the last, is tested before the `match`, past the functions
         "operator": class_proof(
             "operator",
-            FIT["operator"][:-1],
             "operator-class",
-            "operator-past, operator-else",
-            [
-                "at-key operator-class 0x9b (c .if2 .taken)",
-                "operator-past (c .before .before .before .args .token) (c .before .if1 .taken) (c .if2 .left)",
-            ],
-            "operator-else (c .before .before .before .args .token) (c .match .rest, λ e. omega arith)",
-            f"use native.Mathlib.Omega.{{arith}}\nuse Rattle·paper.specs.Tokens.{{operator-class}}\n"
-            f"{words_file}{{word, read-operators, functions, placed-operators, operators, word-of}}",
+            "",
+            f"use Rattle·paper.specs.Tokens.{{operator-class}}\n{words_file}{{word, read-operators, functions, placed-operators, operators, word-of}}",
             "operator-class word-of operators read-operators functions placed-operators word",
         ),
     }
 
 
-# ---- grammar_rows: the rows laid over one another, and what the acts say
+# ---- grammar: the rows laid over one another, and what the acts say
 
-LAYOUT = numbers(open("crates/grammar_rows/specs/Tables.antt").read())
-FIRST_ACT, PAST_ROWS, NO_ENTRY, NO_FRAME = (LAYOUT[name] for name in ("first-act", "past-rows", "no-entry", "no-frame"))
+LAYOUT = numbers(open("crates/grammar/specs/Tables.antt").read())
+FIRST_ACT, PAST_ROWS, NO_ENTRY = LAYOUT["first-act"], LAYOUT["past-rows"], LAYOUT["no-entry"]
 GIVEN = {"itself": 0, "for-strings": 1, "as-prefix": 2}
 
 
@@ -328,9 +317,8 @@ def act_term(act):
 
 
 def row_tables():
-    def lined(listed):
-        return "\n    ∷ ".join(" ∷ ".join(listed[i : i + 12]) for i in range(0, len(listed), 12))
-
+    listed = [str(FIRSTS[f]) for f in FRAMES]
+    lines = "\n    ∷ ".join(" ∷ ".join(listed[i : i + 12]) for i in range(0, len(listed), 12))
     classes = "".join(written(48 + CLASSES[entry(p)[0]]) if p in ENTRIES else "~" for p in PLACES)
     acts = "".join(written(BYTES[entry(p)[1]]) if p in ENTRIES else "." for p in PLACES)
     acts_as_terms = [act_term(act) for act in ACTS]
@@ -341,7 +329,7 @@ use mathlib.Core.List.{{List, [], _∷_, map}}
 use Rattle·paper.specs.Bytes.{{bytes}}
 use Rattle·paper.specs.Frames.{{{", ".join(f for f in FRAMES if f in named)}}}
 use Rattle·paper.specs.Grammar.{{itself, for-strings, as-prefix, put, N}}
-use Rattle·grammar_rows·specs.specs.Tables.{{laid, Wanting, act, word, rest}}
+use Rattle·grammar·specs.specs.Tables.{{laid, Wanting, act, word, rest}}
 
 -- the rows of the frames that leave what they do not take begin before this place, those of the others here or later
 abbrev pub refusing : ℕ
@@ -350,12 +338,7 @@ refusing = {REFUSING}
 -- where the row of each frame begins
 unfoldable pub firsts : List ℕ
 firsts =
-    {lined([str(FIRSTS[f]) for f in FRAMES])} ∷ []
-
--- the operator that each frame takes and then wants nothing, if it joins no terms; 0 where there is none
-unfoldable pub lasts : List ℕ
-lasts =
-    {lined([f"0x{LASTS[f]:02x}" if LASTS[f] else "0" for f in FRAMES])} ∷ []
+    {lines} ∷ []
 
 -- for each place the class, and what the frame whose row it is does with its items
 unfoldable pub entries : List ℕ
@@ -396,44 +379,20 @@ def given_rest(act):
     return name, f"{rest_digits(frames)}_00", f"OperatorToken::{OPERATORS[gives]}.0 as u32"
 
 
-def wants_arm(act):
-    """What `wants_of` says of an act, and in words what it gives and wants."""
+def has_word(act):
+    """Is the word of an act other than 0, as any number's is that is no act."""
+    return any(FRAMES[f] for f in act[0])
+
+
+def word_arm(act):
+    """What `word_of` says of an act, and in words what it wants."""
+    return f"{frames_word(act[0])}, // {', '.join(plain(f) for f in with_n(act[0]))}"
+
+
+def rest_arm(act):
+    """What `rest_of` says of an act, and in words what it gives."""
     frames, gives = act
-    rest = f"{rest_digits(frames)}_{GIVEN[gives]:02o}" if gives in GIVEN else given_rest(act)[0]
-    said = ", ".join(([plain(gives)] if gives in GIVEN else []) + [plain(f) for f in with_n(frames)])
-    return f"""        b'{written(BYTES[act])}' => Wants {{
-            word: {frames_word(frames) if frames else "0"},
-            rest: {rest},
-        }},{f" // {said}" if said else ""}
-"""
-
-
-# the acts that are not as any number's that is none: these want a frame, or give another token
-TOLD_ACTS = [act for act in ACTS if act != ((), "itself")]
-
-
-# ---- grammar_rows: the operator after which a frame wants nothing
-
-READ_AS = {w.token: next(r.token for r in words("operators") if r.spelling == w.spelling) for w in words("placed-operators")}
-CLASS_OF = {0x16: "line-end", **{w.token: w.class_ for w in words("operators")}}
-
-
-def given_for(gives, token):
-    """Is this operator the one that is given for what it is read as."""
-    return token not in READ_AS if gives == "itself" else gives == token
-
-
-def last_operator(frame):
-    """The first operator that a frame takes and then wants nothing, if more terms are not joined by it; 0 where there is none."""
-    for token in sorted(CLASS_OF):
-        of = CLASS_OF[READ_AS.get(token, token)]
-        wants, gives = TAKES[frame].get(of, (None, None))
-        if wants == () and given_for(gives, token) and of not in TAKES["want-more-terms"]:
-            return token
-    return 0
-
-
-LASTS = {f: last_operator(f) for f in FRAMES}
+    return f"{rest_digits(frames)}_{GIVEN[gives]:02o}, // {plain(gives)}" if gives in GIVEN else f"{given_rest(act)[0]},"
 
 
 def code():
@@ -446,24 +405,21 @@ def code():
     for name, frames, token in (given_rest(act) for act in ACTS if act[1] not in GIVEN):
         line = f"const {name}: u32 = {frames} + {token};"
         givens += "\n" + (line if len(line) <= 100 else line.replace(" + ", "\n    + ")) + "\n"
-    lasts = "".join(f"        {FRAMES[f]} => {f'OperatorToken::{OPERATORS[LASTS[f]]}.0' if LASTS[f] else '0'}, // {plain(f)}\n" for f in FRAMES)
-    wants = "".join(map(wants_arm, TOLD_ACTS))
-    return f"""// The grammar as a table: the rows of its frames, laid over one another, and the words of their acts. ({MADE_BY})
+    word_arms = "".join(f"        b'{written(BYTES[act])}' => {word_arm(act)}\n" for act in ACTS if has_word(act))
+    rest_arms = "".join(f"        b'{written(BYTES[act])}' => {rest_arm(act)}\n" for act in ACTS if act != ((), "itself"))
+    return f"""// The rows of the grammar's frames, laid over one another, and the words of their acts. ({MADE_BY})
 use tokens::OperatorToken;
 ghost use mathlib.Core.Path.{{_≡_}};
-ghost use Prim.Native.Nat.{{_-_, _≤_, _<_}};
-ghost use lib.Dec.{{T}};
+ghost use Prim.Native.Nat.{{_-_, _≤_}};
 ghost use lib.ListN.{{getD}};
-ghost use Rattle·paper.specs.Grammar.{{look}};
-ghost use Rattle·laws.specs.Counts.{{class-count}};
-ghost use Rattle·grammar_rows·specs.specs.Tables.{{no-entry, past-rows, no-frame, first-act, says?}};
-ghost use Rattle·grammar_rows·specs.specs.Rows.{{firsts, entries, lasts, words, rests}};
+ghost use Rattle·grammar·specs.specs.Tables.{{no-entry, past-rows, first-act}};
+ghost use Rattle·grammar·specs.specs.Rows.{{firsts, entries, words, rests}};
 
 // The rows of the frames that leave what they do not take begin before this place, those of the others here or later.
-const REFUSING: u8 = {REFUSING};
+pub(crate) const REFUSING: u8 = {REFUSING};
 
 // Where the row of a frame begins among the entries. The entry for a class is as many places further.
-fn first_of(frame: u8) -> u8
+pub(crate) fn first_of(frame: u8) -> u8
     ensures {{ λ r. ⌜ r ≡ getD firsts frame past-rows ⌝ }}
 {{
     match frame {{
@@ -473,7 +429,7 @@ fn first_of(frame: u8) -> u8
 
 // The entry at a place: a class, and what the frame whose row this is does with its items. The rows of the frames lie over one another, so that an
 // entry of one stands where others have none. It is a `match`, since a table that is borrowed is laid down anew in each call.
-fn entry_at(place: u8) -> u16
+pub(crate) fn entry_at(place: u8) -> u16
     ensures {{ λ r. ⌜ r ≡ getD entries place no-entry ⌝ }}
 {{
     match place {{
@@ -481,58 +437,26 @@ fn entry_at(place: u8) -> u16
     }}
 }}
 
-// The act of a frame that leaves an item to the frame below.
-pub const LEAVES: u8 = b'-';
-
-// The act of a frame that refuses an item.
-const REFUSES: u8 = b'.';
-
-// The first act that takes an item; one before it that does not leave it refuses it.
-pub const FIRST_ACT: u8 = b'0';
-
-// What a frame does with items of a class. An entry for another class is another frame's.
-pub fn act_of(frame: u8, class: u8) -> u8
-    requires {{ ⌜ class < class-count ⌝ }}
-    ensures {{ λ r. ⌜ T (says? words rests r (look frame class)) ⌝ }}
+// The word of an act: two hexadecimal digits for each frame that it wants, from the top of the stack down, but for a ninth.
+pub(crate) fn word_of(act: u8) -> u64
+    requires {{ ⌜ first-act ≤ act ⌝ }}
+    ensures {{ λ r. ⌜ r ≡ getD words (act - first-act) 0 ⌝ }}
 {{
-    let first = first_of(frame);
-    let entry = entry_at(first + class);
-    if entry / 256 == class as u16 {{
-        return (entry % 256) as u8;
+    match act {{
+{word_arms}        _ => 0,
     }}
-    if first < REFUSING {{
-        return LEAVES;
-    }}
-    REFUSES
-}}
-
-// The operator that a frame takes and then wants nothing, if it joins no terms; 0 where there is none. Each frame has an arm, so that the compiler makes a table
-// of them.
-pub fn last_of(frame: u8) -> u8
-    ensures {{ λ r. ⌜ r ≡ getD lasts frame no-frame ⌝ }}
-{{
-    match frame {{
-{lasts}        _ => {NO_FRAME},
-    }}
-}}
-
-// What an act wants and gives, in two numbers that the compiler can load. The word has two hexadecimal digits for each frame that it wants, from the top of the stack
-// down, but for a ninth. The rest has two octal digits for the ninth frame, two for how many there are, and two for what is given: 0 for the item's own token, 1
-// for the one for strings, 2 for the prefix one, any other number for that token.
-pub struct Wants {{
-    pub word: u64,
-    pub rest: u32,
 }}
 
 // The rests of acts that give a token of the grammar's own.
 {givens.lstrip()}
-// What an act wants and gives.
-pub fn wants_of(act: u8) -> Wants
+// The rest of what an act says, in octal: two digits for the ninth frame, two for how many there are, and two for what it gives: 0 for the item's own
+// token, 1 for the one for strings, 2 for the prefix one, any other number for that token.
+pub(crate) fn rest_of(act: u8) -> u32
     requires {{ ⌜ first-act ≤ act ⌝ }}
-    ensures {{ λ r. ⌜ (r .word ≡ getD words (act - first-act) 0) × (r .rest ≡ getD rests (act - first-act) 0) ⌝ }}
+    ensures {{ λ r. ⌜ r ≡ getD rests (act - first-act) 0 ⌝ }}
 {{
     match act {{
-{wants}        _ => Wants {{ word: 0, rest: 0 }},
+{rest_arms}        _ => 0,
     }}
 }}
 """
@@ -543,13 +467,13 @@ def proof(function, value, count, otherwise, definitions, unfolded=""):
     name = function.replace("_", "-")
     arms = "".join(f"    (λ c. here (c .match .keys{i + 1}))\n" for i in range(count))
     return f"""-- Each arm of `{function}` says what the table says at its key. ({MADE_BY})
-use Prim.Native.Nat.{{ℕ}}
+use Prim.Native.Nat.{{ℕ{", _-_" if " - " in value("n") else ""}}}
 use mathlib.Core.Path.{{_≡_, sym, ap}}
 use lib.ListN.{{getD}}
 {definitions}
-use Rattle·grammar_rows·proofs.proofs.Places.{{places, {otherwise.split()[0]}}}
-use Rattle·grammar_rows·proofs.proofs.{function}.Statement.{{statement}}
-use Rattle·grammar_rows·proofs.proofs.{function}.Tie as tie
+use Rattle·grammar·proofs.proofs.Places.{{places, {otherwise.split()[0]}}}
+use Rattle·grammar·proofs.proofs.rows.{function}.Statement.{{statement}}
+use Rattle·grammar·proofs.proofs.rows.{function}.Tie as tie
 
 here : {{x k : ℕ}} → x ≡ k → {value("k")} ≡ {value("x")}
 here e = sym (ap (λ n. {value("n")}) e)
@@ -563,40 +487,9 @@ unfolding {unfolded} places
 """
 
 
-def wants_proof():
-    """The proof of `wants_of`, of which two tables tell."""
-    arms = "".join(f"    (λ c. here (c .match .keys{i + 1}))\n" for i in range(len(TOLD_ACTS)))
-    return f"""-- Each arm of `wants_of` says what the tables say at its key. ({MADE_BY})
-use Prim.Native.Nat.{{ℕ, _-_}}
-use mathlib.Core.Path.{{_≡_, sym, ap}}
-use mathlib.Core.List.{{[]}}
-use lib.ListN.{{getD}}
-use Rattle·paper.specs.Bytes.{{every, among}}
-use Rattle·paper.specs.Grammar.{{N}}
-use Rattle·grammar_rows·specs.specs.Tables.{{first-act, act, code, packed, word, rest}}
-use Rattle·grammar_rows·specs.specs.Rows.{{acts, words, rests}}
-use Rattle·grammar_rows·proofs.proofs.Places.{{places, none-among, at-none-from}}
-use Rattle·grammar_rows·proofs.proofs.wants_of.Statement.{{statement}}
-use Rattle·grammar_rows·proofs.proofs.wants_of.Tie as tie
-
-here : {{x k : ℕ}} → x ≡ k → (getD words (k - first-act) 0 ≡ getD words (x - first-act) 0) × (getD rests (k - first-act) 0 ≡ getD rests (x - first-act) 0)
-here e = (sym (ap (λ n. getD words (n - first-act) 0) e), sym (ap (λ n. getD rests (n - first-act) 0) e))
-
-pub wants-of-spec : {{M : Type 1}} → statement M
-unfolding N act code packed word rest acts words rests places every among
-wants-of-spec =
-    tie.close
-    (tie.spec
-{arms}    (λ c. (
-      at-none-from first-act 0 words (c .before .args .act) (c .before .pre) (none-among (places first-act 0 words []) (places first-act 0 rests []) (c .before .args .act) tt (c .match .rest)),
-      at-none-from first-act 0 rests (c .before .args .act) (c .before .pre) (c .match .rest),
-    )))
-"""
-
-
 def proofs():
-    tables = "use Rattle·grammar_rows·specs.specs.Tables."
-    rows = "use Rattle·grammar_rows·specs.specs.Rows."
+    tables = "use Rattle·grammar·specs.specs.Tables."
+    rows = "use Rattle·grammar·specs.specs.Rows."
     return {
         "first_of": proof(
             "first_of",
@@ -614,15 +507,22 @@ def proofs():
             f"use Rattle·paper.specs.Open.{{all-Bytes}}\n{tables}{{no-entry, laid}}\n{rows}{{entries}}",
             "all-Bytes laid entries",
         ),
-        "last_of": proof(
-            "last_of",
-            lambda n: f"getD lasts {n} no-frame",
-            len(FRAMES),
-            "at-none no-frame lasts (c .before .args .frame)",
-            f"{tables}{{no-frame}}\n{rows}{{lasts}}",
-            "lasts",
+        "word_of": proof(
+            "word_of",
+            lambda n: f"getD words ({n} - first-act) 0",
+            sum(map(has_word, ACTS)),
+            "at-none-from first-act 0 words (c .before .args .act) (c .before .pre)",
+            f"use Rattle·paper.specs.Grammar.{{N}}\n{tables}{{first-act, act, packed, word}}\n{rows}{{acts, words}}",
+            "N act packed word acts words",
         ),
-        "wants_of": wants_proof(),
+        "rest_of": proof(
+            "rest_of",
+            lambda n: f"getD rests ({n} - first-act) 0",
+            sum(act != ((), "itself") for act in ACTS),
+            "at-none-from first-act 0 rests (c .before .args .act) (c .before .pre)",
+            f"use Rattle·paper.specs.Grammar.{{N}}\n{tables}{{first-act, act, code, packed, rest}}\n{rows}{{acts, rests}}",
+            "N act code packed rest acts rests",
+        ),
     }
 
 
@@ -636,9 +536,9 @@ def main():
         "crates/tokens/src/number.rt": token_numbers(),
         "crates/tokens/proofs/FitTokens.antt": fit_tokens(),
         **{f"crates/tokens/proofs/{kind}_class/Proof.antt": text for kind, text in class_proofs().items()},
-        "crates/grammar_rows/specs/Rows.antt": row_tables(),
-        "crates/grammar_rows/src/lib.rt": code(),
-        **{f"crates/grammar_rows/proofs/{function}/Proof.antt": text for function, text in proofs().items()},
+        "crates/grammar/specs/Rows.antt": row_tables(),
+        "crates/grammar/src/rows.rt": code(),
+        **{f"crates/grammar/proofs/rows/{function}/Proof.antt": text for function, text in proofs().items()},
     }
     other = [path for path, made_text in made.items() if not os.path.exists(path) or open(path).read() != made_text]
     if sys.argv[1:] == ["--check"]:

@@ -7,7 +7,7 @@ ghost use Rattle.paper.specs.Errors.{listable?};
 ghost use Rattle.paper.specs.Store.{lines_in, whole_line?};
 ghost use Rattle.names_kinds.specs.Kinds.{Kinds};
 ghost use Rattle.list_pieces.specs.Rest.{Numbered, Sound};
-ghost use Rattle.list_walk.specs.Walks.{Listed};
+ghost use Rattle.list_check.specs.Walks.{Listed};
 ghost use Rattle.editor_collect.specs.Marks.{marked_line, marked_lines};
 
 use list_alone::{DEEPEST, well_formed_over};

@@ -3,13 +3,13 @@ use Rattle.std.proofs.Common.{◌≡◌, ℕ, ◌+◌, ◌-◌, ◌/◌, ◌%◌
 use lib.Seq.{sets}
 use Rattle.paper.specs.Machine.{Act as ActOf}
 use Rattle.paper.specs.Grammar.{Gives, look}
-use Rattle.grammar_rows.specs.Tables.{first_act, nine, wanted}
-use Rattle.grammar_rows.specs.Rows.{words, rests}
-use Rattle.grammar_rows.specs.Table.{TakesSo}
 use Rattle.grammar.specs.declared.Act.TheVariants as Act'
 use Rattle.grammar.specs.Stack.{stack, Acts}
-use Rattle.grammar.specs.Frames.{onto_stack, stack_sets, nine_long}
-use Rattle.grammar.specs.StackLaws.{acts_took}
+use Rattle.grammar.specs.Tables.{first_act, nine, wanted}
+use Rattle.grammar.specs.Rows.{words, rests}
+use Rattle.grammar.proofs.Table.{TakesSo}
+use Rattle.grammar.proofs.Frames.{onto_stack, stack_sets, nine_long}
+use Rattle.grammar.proofs.StackLaws.{acts_took}
 
 module _ {l : ActOf Gives} (x n r : ℕ) (t : TakesSo words rests x (get_or words (x - first_act) 0) (get_or rests (x - first_act) 0) l) (e : n ≡ get_or words (x - first_act) 0) (k : r ≡ get_or rests (x - first_act) 0) where
   -- its word and rest as they were looked up

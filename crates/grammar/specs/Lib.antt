@@ -1,3 +1,3 @@
 pub mod Stack
-pub mod Frames
-pub mod StackLaws
+pub mod Tables
+pub mod Rows

@@ -1,18 +1,21 @@
 -- The stack of frames in a buffer, and what it does with an item.
-use Rattle.std.specs.Prelude.{◌≡◌, ℕ, zero, suc, ◌+◌, ◌≤◌, List, [], ◌∷◌, ◌++◌, ◌≢◌, slice_index}
+use Rattle.std.specs.Prelude.{◌≡◌, ℕ, zero, suc, ◌+◌, ◌≤◌, Bool, true, false, List, [], ◌∷◌, ◌++◌, ◌==◌, ◌≢◌, slice_index}
+use Rattle.paper.specs.Bytes.{pick}
 use Rattle.paper.specs.Machine.{take, leave, refuse, took, step}
-use Rattle.paper.specs.Grammar.{Gives, look}
+use Rattle.paper.specs.Grammar.{Gives, itself, for_strings, as_prefix, put, look}
 use Rattle.grammar.specs.declared.Act.{Act}
 use Rattle.grammar.specs.declared.Act.TheVariants as Act'
 use Rattle.grammar.specs.declared.Step.{Step}
 use Rattle.grammar.specs.declared.Step.TheVariants as Step'
--- what a number says is given
-unfoldable pub use Rattle.grammar_rows.specs.Tables.{gives_of}
 
 -- the first d frames of a buffer as a stack, the last one on top
 unfoldable pub stack : List ℕ → ℕ → List ℕ
 stack l zero = []
 stack l (suc d) = slice_index l d ∷ stack l d
+
+-- what a number says is given: 0 the item's own token, 1 the one for strings, 2 the prefix one, any other number that token
+unfoldable pub gives_of : ℕ → Gives
+gives_of g = pick (g == 0) itself (pick (g == 1) for_strings (pick (g == 2) as_prefix (put g)))
 
 -- a frame at a place takes an item of a class, gives g, and has the frames that it wants in its own place, d frames in all
 pub record TakesAt (old : List ℕ) (at c g d : ℕ) (new : List ℕ) : Type 0 where
@@ -31,3 +34,8 @@ pub record Acts (old : List ℕ) (at c : ℕ) (r : Act) (new : List ℕ) : Type 
 pub record Steps (old : List ℕ) (depth c : ℕ) (r : Step) (new : List ℕ) : Type 0 where
   pub takes : (g d : ℕ) → r ≡ Step'.Took g d → (step look (stack old depth) c ≡ took (gives_of g) (stack new d)) × (d ≤ depth + 8)
   pub refuses : r ≡ Step'.Refused → (e : Gives) (gs : List ℕ) → step look (stack old depth) c ≢ took e gs
+
+-- whether an item of a class joins terms: where more terms may follow it is taken, and wants an operand and more terms; any other is left
+pub record Joins (c : ℕ) (r : Bool) : Type 0 where
+  pub joins : r ≡ true → look 6 c ≡ take itself (5 ∷ 6 ∷ [])
+  pub leaves : r ≡ false → look 6 c ≡ leave

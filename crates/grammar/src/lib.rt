@@ -1,14 +1,42 @@
-// The stack of frames that reads items by the grammar's table.
-ghost use Rattle.std.specs.Prelude.{◌≡◌, ◌+◌, ◌<◌, ◌≤◌, length, slice_set};
-ghost use Rattle.std.proofs.lemmas.List.Edits.{sets};
-ghost use Rattle.paper.specs.Tokens.{operator};
-ghost use Rattle.paper.specs.Grammar.{given};
-ghost use Rattle.laws.specs.Counts.{class_count};
-ghost use Rattle.grammar_rows.specs.Tables.{nine};
-ghost use Rattle.grammar.specs.Stack.{gives_of, Acts, Steps};
+// The grammar as a table, and the stack of frames that reads items by it.
+mod rows;
 
-use grammar_rows::{FIRST_ACT, LEAVES};
-use tokens::{TO_PREFIX, TO_STRINGS};
+ghost use Rattle.std.specs.Prelude.{◌≡◌, ◌+◌, ◌<◌, ◌≤◌, true, T, [], length, slice_set};
+ghost use Rattle.std.proofs.lemmas.List.Edits.{sets};
+ghost use Rattle.paper.specs.Machine.{take};
+ghost use Rattle.grammar.specs.Stack.{gives_of, Acts, Steps, Joins};
+ghost use Rattle.paper.specs.Tokens.{operator};
+ghost use Rattle.paper.specs.Grammar.{itself, given, look};
+ghost use Rattle.laws.specs.Counts.{class_count};
+ghost use Rattle.grammar.specs.Tables.{nine, says?};
+ghost use Rattle.grammar.specs.Rows.{words, rests};
+
+use tokens::{TO_PREFIX, TO_STRINGS, class};
+
+// The act of a frame that leaves an item to the frame below.
+const LEAVES: u8 = b'-';
+
+// The act of a frame that refuses an item.
+const REFUSES: u8 = b'.';
+
+// The first act that takes an item; one before it that does not leave it refuses it.
+const FIRST_ACT: u8 = b'0';
+
+// What a frame does with items of a class. An entry for another class is another frame's.
+fn act_of(frame: u8, class: u8) -> u8
+    requires { class < class_count }
+    ensures { T (says? words rests result (look frame class)) }
+{
+    let first = rows::first_of(frame);
+    let entry = rows::entry_at(first + class);
+    if entry / 256 == class as u16 {
+        return (entry % 256) as u8;
+    }
+    if first < rows::REFUSING {
+        return LEAVES;
+    }
+    REFUSES
+}
 
 // Writes a frame at a place of a buffer.
 fn put_frame(frames: &mut [u8], at: usize, frame: u8)
@@ -20,7 +48,7 @@ fn put_frame(frames: &mut [u8], at: usize, frame: u8)
 
 // Writes the eight frames of a word and a ninth from a place of a buffer on, the lowest first. All nine are written, however few of them count: the compiler
 // makes one write of the first eight.
-pub fn put_frames(frames: &mut [u8], at: usize, word: u64, ninth: u8)
+fn put_frames(frames: &mut [u8], at: usize, word: u64, ninth: u8)
     requires { at + 9 ≤ length frames.old }
     ensures { frames.new ≡ sets frames.old at (nine word ninth) }
 {
@@ -55,17 +83,15 @@ fn act_at(frames: &mut [u8], at: usize, class: u8) -> Act
     requires { (at + 9 ≤ length frames.old) × (class < class_count) }
     ensures { Acts frames.old at class result frames.new }
 {
-    let act = grammar_rows::act_of(frames[at], class);
+    let act = act_of(frames[at], class);
     if act == LEAVES {
         return Act::Left;
     }
     if act < FIRST_ACT {
         return Act::Refused;
     }
-    let wants = grammar_rows::wants_of(act);
-    let word = wants.word;
-    let rest = wants.rest;
-    put_frames(frames, at, word, (rest / 4096 % 64) as u8);
+    let rest = rows::rest_of(act);
+    put_frames(frames, at, rows::word_of(act), (rest / 4096 % 64) as u8);
     Act::Took((rest % 64) as u8, at + (rest / 64 % 64) as usize)
 }
 
@@ -92,6 +118,83 @@ pub fn take_item(frames: &mut [u8], depth: usize, class: u8) -> Step
         }
     }
     Step::Refused
+}
+
+// The frames that items meet most, by their numbers in the grammar.
+const END: u8 = 2;
+
+const OPERAND: u8 = 5;
+
+const MORE_TERMS: u8 = 6;
+
+const CLOSE: u8 = 9;
+
+const COMMA: u8 = 34;
+
+// Whether a frame is one of these and takes items of a class as they are, and then wants nothing.
+fn is_last(frame: u8, class: u8) -> bool
+    ensures { result ≡ true → look frame class ≡ take itself [] }
+{
+    match frame {
+        END => class == class::LINE_END,
+        OPERAND => match class {
+            class::NUMBER => true,
+            class::NUMERIC_VARIABLE => true,
+            _ => false,
+        },
+        CLOSE => class == class::CLOSE_SIGN,
+        COMMA => class == class::COMMA,
+        _ => false,
+    }
+}
+
+// Whether items of a class join terms: `=`, comparisons, signs and factors, OR, AND.
+fn joins_terms(class: u8) -> bool
+    requires { class < class_count }
+    ensures { Joins class result }
+{
+    match class {
+        class::EQUALS => true,
+        class::COMPARISON => true,
+        class::PLUS_MINUS => true,
+        class::FACTOR_SIGN => true,
+        class::OR_AND => true,
+        _ => false,
+    }
+}
+
+// What a stack does with an item, as `take_item` says it; that its last frame takes the item and wants nothing is seen without the table.
+fn take_last(frames: &mut [u8], depth: usize, class: u8) -> Step
+    requires { (depth + 8 ≤ length frames.old) × (class < class_count) }
+    ensures { Steps frames.old depth class result frames.new }
+{
+    if depth == 0 {
+        return Step::Refused;
+    }
+    let top = depth - 1;
+    if is_last(frames[top], class) {
+        return Step::Took(0, top);
+    }
+    take_item(frames, depth, class)
+}
+
+// The same; what most items meet is seen without the table: that more terms may follow, and then an item that joins them or another one.
+pub fn take_next(frames: &mut [u8], depth: usize, class: u8) -> Step
+    requires { (depth + 8 ≤ length frames.old) × (class < class_count) }
+    ensures { Steps frames.old depth class result frames.new }
+{
+    if depth == 0 {
+        return Step::Refused;
+    }
+    let top = depth - 1;
+    if frames[top] != MORE_TERMS {
+        return take_last(frames, depth, class);
+    }
+    if joins_terms(class) {
+        frames[depth] = OPERAND;
+        return Step::Took(0, depth + 1);
+    }
+    take_last(frames, top, class)
 }
 
 // The operator that is given for the operator `own`, by the number of what is given: for those below 128, as all are but the end of raw text.

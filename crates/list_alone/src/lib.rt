@@ -4,9 +4,9 @@ ghost use Rattle.paper.specs.Line.{lawful_number?};
 ghost use Rattle.paper.specs.WellFormed.{well_formed?};
 ghost use Rattle.names_kinds.specs.Kinds.{Kinds};
 ghost use Rattle.list_pieces.specs.Rest.{Numbered, Head};
-ghost use Rattle.list_walk.specs.Walks.{Listed};
+ghost use Rattle.list_check.specs.Walks.{Listed};
 
-use list_walk::Walk;
+use list_check::Walk;
 
 // As long as the deepest stack of frames that a line of 255 bytes can need: no piece needs more than eight frames for each of its bytes.
 pub const DEEPEST: usize = 2056;
@@ -20,7 +20,7 @@ fn is_formed(line: &[u8], kinds: &[u8], frames: &mut [u8]) -> bool
     let mut end: usize = 3;
     let mut depth: usize = 1;
     while at < line.len() {
-        match list_walk::check_next(line, at, end, kinds, frames, depth) {
+        match list_check::check_next(line, at, end, kinds, frames, depth) {
             Walk::On(n, e, d) => {
                 at += n;
                 end = e;

@@ -1,2 +1,3 @@
 pub mod Passes
-pub mod Checking
+pub mod Walks
+pub mod KindLaws

@@ -1,10 +1,12 @@
 // The check of one piece: whether it is right, and fits where it stands.
-ghost use Rattle.std.specs.Prelude.{◌≡◌, List, ℕ, ◌+◌, ◌%◌, ◌≤◌, ◌<◌, length, take};
+ghost use Rattle.std.specs.Prelude.{◌≡◌, List, ℕ, ◌+◌, ◌%◌, ◌≤◌, ◌<◌, length, take, drop};
 ghost use Rattle.paper.specs.Names.{names_in};
 ghost use Rattle.laws.specs.Counts.{class_count};
 ghost use Rattle.list_pieces.specs.declared.Piece.TheVariants.{Word, Text, Target, Variable, Constant, Quoted, Operator};
-ghost use Rattle.names_kinds.specs.Kinds.{kind_at};
+ghost use Rattle.list_pieces.specs.Pieces.{size_of, end_after};
+ghost use Rattle.names_kinds.specs.Kinds.{kind_at, Kinds};
 ghost use Rattle.list_check.specs.Passes.{Ended, Checked};
+ghost use Rattle.list_check.specs.Walks.{Small, gone, Listed, Goes};
 ghost use Rattle.list_pieces.specs.Rest.{Numbered, Sound};
 
 use grammar::Step;
@@ -19,7 +21,7 @@ pub enum Fit {
 }
 
 // A statement's word.
-pub fn check_word(line: &[u8], at: usize, token: u8, frames: &mut [u8], depth: usize) -> Fit
+fn check_word(line: &[u8], at: usize, token: u8, frames: &mut [u8], depth: usize) -> Fit
     requires { (at < length line.now) × (depth + 24 ≤ length frames.old) }
     ensures { (ns : List (List ℕ)) → Numbered ns → Checked ns line.now at (Word token) frames.old depth result frames.new }
 {
@@ -51,7 +53,7 @@ fn check_raw(frames: &mut [u8], depth: usize) -> Fit
 }
 
 // REM or DATA with its text.
-pub fn check_text(
+fn check_text(
     line: &[u8],
     at: usize,
     token: u8,
@@ -88,7 +90,7 @@ fn first_class(kind: u8) -> u8
 }
 
 // LET without its word, and the variable that comes first, whose name is of a kind.
-pub fn check_target(
+fn check_target(
     line: &[u8],
     at: usize,
     variable: VariableToken,
@@ -115,7 +117,7 @@ pub fn check_target(
 }
 
 // A variable of a class, 0 where there is no such name.
-pub fn check_variable(
+fn check_variable(
     line: &[u8],
     at: usize,
     variable: VariableToken,
@@ -132,28 +134,28 @@ pub fn check_variable(
     if own == 0 {
         return Fit::Fails;
     }
-    match grammar::take_item(frames, depth, own) {
+    match grammar::take_next(frames, depth, own) {
         Step::Took(_, d) => Fit::Fits(d),
         Step::Refused => Fit::Fails,
     }
 }
 
 // A constant.
-pub fn check_constant(line: &[u8], at: usize, frames: &mut [u8], depth: usize) -> Fit
+fn check_constant(line: &[u8], at: usize, frames: &mut [u8], depth: usize) -> Fit
     requires { (at < length line.now) × (depth + 24 ≤ length frames.old) }
     ensures { (ns : List (List ℕ)) → Numbered ns → Checked ns line.now at Constant frames.old depth result frames.new }
 {
     if !constant_text::is_right(line, at + 1) {
         return Fit::Fails;
     }
-    match grammar::take_item(frames, depth, class::NUMBER) {
+    match grammar::take_next(frames, depth, class::NUMBER) {
         Step::Took(_, d) => Fit::Fits(d),
         Step::Refused => Fit::Fails,
     }
 }
 
 // A string of so many bytes.
-pub fn check_quoted(line: &[u8], at: usize, size: u8, frames: &mut [u8], depth: usize) -> Fit
+fn check_quoted(line: &[u8], at: usize, size: u8, frames: &mut [u8], depth: usize) -> Fit
     requires { (at < length line.now) × (depth + 24 ≤ length frames.old) }
     ensures { (ns : List (List ℕ)) → Numbered ns → Checked ns line.now at (Quoted size) frames.old depth result frames.new }
 {
@@ -162,8 +164,7 @@ pub fn check_quoted(line: &[u8], at: usize, size: u8, frames: &mut [u8], depth: 
         return Fit::Fails;
     }
     let from = at + 2;
-    let past = from + n;
-    if buffers::run_end(&line[..past], from, buffers::Run::StringBytes) < past {
+    if buffers::run_end(line, from, buffers::Run::StringBytes) - from < n {
         return Fit::Fails;
     }
     match grammar::take_item(frames, depth, class::QUOTED) {
@@ -173,12 +174,12 @@ pub fn check_quoted(line: &[u8], at: usize, size: u8, frames: &mut [u8], depth: 
 }
 
 // An operator or function: the one that the grammar gives for what it is read as.
-pub fn check_operator(token: u8, frames: &mut [u8], depth: usize) -> Fit
+fn check_operator(token: u8, frames: &mut [u8], depth: usize) -> Fit
     requires { depth + 24 ≤ length frames.old }
     ensures { (ns : List (List ℕ)) → Numbered ns → (l : List ℕ) (at : ℕ) → at < length l → Checked ns l at (Operator token) frames.old depth result frames.new }
 {
     let read = tokens::read_as(token);
-    match grammar::take_item(frames, depth, tokens::operator_class(read)) {
+    match grammar::take_next(frames, depth, tokens::operator_class(read)) {
         Step::Took(gives, d) => {
             if grammar::given_operator(gives, read) == token {
                 Fit::Fits(d)
@@ -246,5 +247,75 @@ pub fn check_piece(
         Piece::Constant => check_constant(line, at, frames, depth),
         Piece::Quoted(n) => check_quoted(line, at, n, frames, depth),
         Piece::Operator(token) => check_operator(token, frames, depth),
+    }
+}
+
+// How a walk over a line goes on after a piece: so many bytes further, in a statement that ends there, over so many frames; or not.
+#[derive(Drop)]
+pub enum Walk {
+    On(usize, usize, usize),
+    Stops,
+}
+
+// How a walk goes on after a piece that fits or not.
+fn go_on(fit: Fit, line: &[u8], at: usize, end: usize, piece: Piece) -> Walk
+    requires { (at < length line.now) × Small piece fit }
+    ensures { result ≡ gone fit (size_of piece) (end_after end (drop at line.now) piece) }
+{
+    match fit {
+        Fit::Fits(d) => Walk::On(
+            list_pieces::size_of(piece),
+            list_pieces::end_after(line, at, end, piece),
+            d,
+        ),
+        Fit::Fails => Walk::Stops,
+    }
+}
+
+// How a walk goes on after the piece at a place, in a statement that ends at `end`, over a list of the kinds of all names.
+pub fn check_next(
+    line: &[u8],
+    at: usize,
+    end: usize,
+    kinds: &[u8],
+    frames: &mut [u8],
+    depth: usize,
+) -> Walk
+    requires { (at < length line.now) × (depth + 24 ≤ length frames.old) × Listed kinds.now }
+    ensures { (ns : List (List ℕ)) → Numbered ns → Kinds ns kinds.now → Goes ns line.now at end frames.old depth result frames.new }
+{
+    let piece = list_pieces::piece_at(line, at, end);
+    match piece {
+        Piece::Word(token) => {
+            let fit = check_word(line, at, token, frames, depth);
+            go_on(fit, line, at, end, piece)
+        }
+        Piece::Text(token, n) => {
+            let fit = check_text(line, at, token, n, frames, depth);
+            go_on(fit, line, at, end, piece)
+        }
+        Piece::Target(variable) => {
+            let kind = buffers::byte_at(kinds, variable.number as usize);
+            let fit = check_target(line, at, variable, kind, frames, depth);
+            go_on(fit, line, at, end, piece)
+        }
+        Piece::NoTarget => Walk::Stops,
+        Piece::Variable(variable) => {
+            let own = buffers::byte_at(kinds, variable.number as usize) % names_kinds::WORD;
+            let fit = check_variable(line, at, variable, own, frames, depth);
+            go_on(fit, line, at, end, piece)
+        }
+        Piece::Constant => {
+            let fit = check_constant(line, at, frames, depth);
+            go_on(fit, line, at, end, piece)
+        }
+        Piece::Quoted(n) => {
+            let fit = check_quoted(line, at, n, frames, depth);
+            go_on(fit, line, at, end, piece)
+        }
+        Piece::Operator(token) => {
+            let fit = check_operator(token, frames, depth);
+            go_on(fit, line, at, end, piece)
+        }
     }
 }

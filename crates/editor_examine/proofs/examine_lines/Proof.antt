@@ -11,7 +11,7 @@ use Rattle.paper.specs.WellFormed.{well_formed?}
 use Rattle.names_kinds.specs.Kinds.{kinds_of}
 use Rattle.store.specs.Rising.{past, walk_goes}
 use Rattle.list_pieces.specs.NameLaws.{sound_numbered}
-use Rattle.list_walk.specs.KindLaws.{sound_kinds, sound_listed}
+use Rattle.list_check.specs.KindLaws.{sound_kinds, sound_listed}
 use Rattle.editor_examine.specs.Verdicts.{verdict, lines_verdict}
 use Rattle.editor_examine.proofs.ExamineLaws.{none_left, not_sound, line_bad, line_good}
 use borrow.Author.Rules.{rules}

@@ -7,7 +7,7 @@ use lib.Seq.{sets, length-take-le}
 use Rattle.paper.specs.Names.{names_in, most_names}
 use Rattle.names_kinds.specs.Kinds.{kinds_of}
 use Rattle.store.specs.Rising.{past}
-use Rattle.list_walk.specs.KindLaws.{sound_kinds}
+use Rattle.list_check.specs.KindLaws.{sound_kinds}
 use Rattle.list_weigh.specs.Weights.{Slight}
 use Rattle.file_weigh.proofs.LinesLaws.{Going, going_first, going_done, going_small, going_line, going_refused, going_light, going_next}
 use borrow.Author.Rules.{rules}

@@ -1,6 +1,6 @@
 use Rattle.std.proofs.Common.{arith, rules}
-use Rattle.grammar_rows.specs.Tables.{digits}
-use Rattle.grammar.specs.Frames.{nine_put}
+use Rattle.grammar.specs.Tables.{digits}
+use Rattle.grammar.proofs.Frames.{nine_put}
 use Rattle.grammar.proofs.put_frames.Statement.{statement}
 use Rattle.grammar.proofs.put_frames.Tie as tie
 

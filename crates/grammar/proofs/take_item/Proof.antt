@@ -1,5 +1,5 @@
 use Rattle.std.proofs.Common.{◌≡◌, ◌≤◌, length, refl, ap, ◌∙◌, arith, rules}
-use Rattle.grammar.specs.StackLaws.{Down, down_left, down_refused, down_over, down_took}
+use Rattle.grammar.proofs.StackLaws.{Down, down_left, down_refused, down_over, down_took}
 use Rattle.grammar.proofs.take_item.Statement.{statement}
 use Rattle.grammar.proofs.take_item.Tie as tie
 

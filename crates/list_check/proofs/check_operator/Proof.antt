@@ -1,6 +1,6 @@
 use native.Mathlib.Omega.{arith}
 use Rattle.laws.specs.Classes.{operator_low}
-use Rattle.list_check.specs.Checking.{pass_operator, fail_given, fail_operator}
+use Rattle.list_check.proofs.Checking.{pass_operator, fail_given, fail_operator}
 use borrow.Author.Rules.{rules}
 use Rattle.list_check.proofs.check_operator.Statement.{statement}
 use Rattle.list_check.proofs.check_operator.Tie as tie
@@ -16,8 +16,8 @@ check-operator-spec =
     (λ c κs. search rules)
     (λ c. search rules)
     (λ c. search rules)
-    (λ c. λ ns nd l at h end e. pass_operator (record { numbered = nd; inside = h; stands = e }) c.before.before.before.before.before.before.before.before.before.before.read_as.ensures c.before.before.before.before.before.before.before.before.operator_class.ensures c.before.before.before.before.before.before.before.take-item.ensures _ _ c.before.before.before.gives.given.1 c.before.given_operator.result c.before.given_operator.ensures c.if1.true)
+    (λ c. λ ns nd l at h end e. pass_operator (record { numbered = nd; inside = h; stands = e }) c.before.before.before.before.before.before.before.before.before.before.read_as.ensures c.before.before.before.before.before.before.before.before.operator_class.ensures c.before.before.before.before.before.before.before.take_next.ensures _ _ c.before.before.before.gives.given.1 c.before.given_operator.result c.before.given_operator.ensures c.if1.true)
     (λ c. search rules)
-    (λ c. λ ns nd l at h end e. fail_given (record { numbered = nd; inside = h; stands = e }) c.before.before.before.before.before.before.before.before.before.before.read_as.ensures c.before.before.before.before.before.before.before.before.operator_class.ensures c.before.before.before.before.before.before.before.take-item.ensures _ _ c.before.before.before.gives.given.1 c.before.given_operator.result c.before.given_operator.ensures c.if1.false)
+    (λ c. λ ns nd l at h end e. fail_given (record { numbered = nd; inside = h; stands = e }) c.before.before.before.before.before.before.before.before.before.before.read_as.ensures c.before.before.before.before.before.before.before.before.operator_class.ensures c.before.before.before.before.before.before.before.take_next.ensures _ _ c.before.before.before.gives.given.1 c.before.given_operator.result c.before.given_operator.ensures c.if1.false)
     (λ c. search rules)
-    (λ c. λ ns nd l at h end e. fail_operator (record { numbered = nd; inside = h; stands = e }) c.before.before.before.before.before.before.before.read_as.ensures c.before.before.before.before.before.operator_class.ensures c.before.before.before.before.take-item.ensures c.enum_told.given.1))
+    (λ c. λ ns nd l at h end e. fail_operator (record { numbered = nd; inside = h; stands = e }) c.before.before.before.before.before.before.before.read_as.ensures c.before.before.before.before.before.operator_class.ensures c.before.before.before.before.take_next.ensures c.enum_told.given.1))

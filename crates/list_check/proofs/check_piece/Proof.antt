@@ -1,6 +1,6 @@
 use native.Mathlib.Omega.{arith}
 use Rattle.list_pieces.specs.NameLaws.{sound_numbered}
-use Rattle.list_check.specs.Checking.{fail_holds}
+use Rattle.list_check.proofs.Checking.{fail_holds}
 use borrow.Author.Rules.{rules}
 use Rattle.list_check.proofs.check_piece.Statement.{statement}
 use Rattle.list_check.proofs.check_piece.Tie as tie

@@ -1,5 +1,5 @@
 use native.Mathlib.Omega.{arith}
-use Rattle.list_check.specs.Checking.{raw_taken, end_refused, raw_refused}
+use Rattle.list_check.proofs.Checking.{raw_taken, end_refused, raw_refused}
 use borrow.Author.Rules.{rules}
 use Rattle.list_check.proofs.check_raw.Statement.{statement}
 use Rattle.list_check.proofs.check_raw.Tie as tie

@@ -14,7 +14,7 @@ use Rattle.list_pieces.specs.Pieces.{tokens_of_piece, size_of}
 use Rattle.list_pieces.specs.PieceLaws.{piece_some, target_told}
 use Rattle.list_pieces.specs.GivenLaws.{an_assigned_plain}
 use Rattle.list_pieces.specs.ClassLaws.{first_class}
-use Rattle.list_check.specs.Checking.{fail_short, fail_holds, pass_one, fail_one, not_T}
+use Rattle.list_check.proofs.Checking.{fail_short, fail_holds, pass_one, fail_one, not_T}
 use borrow.Author.Rules.{rules}
 use Rattle.list_check.proofs.check_target.Statement.{statement}
 use Rattle.list_check.proofs.check_target.Tie as tie

@@ -1,8 +1,8 @@
 use native.Mathlib.Omega.{arith}
-use Rattle.list_check.specs.Checking.{fail_short}
+use Rattle.list_check.proofs.Checking.{fail_short}
 use Rattle.list_pieces.specs.Pieces.{size_of}
 use Rattle.laws.specs.Classes.{statement_low}
-use Rattle.list_check.specs.Checking.{pass_text, fail_text}
+use Rattle.list_check.proofs.Checking.{pass_text, fail_text}
 use borrow.Author.Rules.{rules}
 use Rattle.list_check.proofs.check_text.Statement.{statement}
 use Rattle.list_check.proofs.check_text.Tie as tie

@@ -9,7 +9,7 @@ use Rattle.names_kinds.specs.Kinds.{kind_there, kind_class, kind_some}
 use Rattle.list_pieces.specs.Pieces.{tokens_of_piece, size_of}
 use Rattle.list_pieces.specs.PieceLaws.{piece_some, variable_told}
 use Rattle.list_pieces.specs.GivenLaws.{a_variable_plain}
-use Rattle.list_check.specs.Checking.{fail_short, fail_holds, pass_one, fail_one}
+use Rattle.list_check.proofs.Checking.{fail_short, fail_holds, pass_one, fail_one}
 use borrow.Author.Rules.{rules}
 use Rattle.list_check.proofs.check_variable.Statement.{statement}
 use Rattle.list_check.proofs.check_variable.Tie as tie
@@ -27,6 +27,6 @@ check-variable-spec =
     (λ c. search rules)
     (λ c. search rules)
     (λ c. search rules)
-    (λ c. let a = c.before.before.before.before.before.before.before.before.before.before.before.before.args in λ ns nd prem end e. pass_one (record { numbered = nd; inside = c.before.before.before.before.before.before.before.before.before.before.before.before.requires.0; stands = e }) (variable (get_or ns c.before.before.before.before.before.before.before.before.before.before.before.before.args.variable.number [])) (a_variable_plain _) refl refl (prem ∙ kind_class ns c.before.before.before.before.before.before.before.before.before.before.before.before.args.variable.number (kind_there ns c.before.before.before.before.before.before.before.before.before.before.before.before.args.variable.number (λ z. c.before.before.before.before.before.before.before.if2.false (prem ∙ ap (λ (k : ℕ). k % 8) z)))) c.before.before.before.before.before.take-item.ensures _ _ c.before.d.given.1 (variable_told _ a.at end (drop a.at a.line.now) a.variable e (omega (arith, get_or-drop a.at a.line.now 0 0, c.before.before.before.before.before.before.before.before.before.before.before.shared-slice-known.given (a.at + 0))) (kind_there ns c.before.before.before.before.before.before.before.before.before.before.before.before.args.variable.number (λ z. c.before.before.before.before.before.before.before.if2.false (prem ∙ ap (λ (k : ℕ). k % 8) z))) (omega (arith, c.before.before.before.before.before.before.before.before.if1.false, length-drop a.at a.line.now))) c.before.before.before.before.before.before.before.before.if1.false (piece_some a.at end (drop a.at a.line.now) _ e))
+    (λ c. let a = c.before.before.before.before.before.before.before.before.before.before.before.before.args in λ ns nd prem end e. pass_one (record { numbered = nd; inside = c.before.before.before.before.before.before.before.before.before.before.before.before.requires.0; stands = e }) (variable (get_or ns c.before.before.before.before.before.before.before.before.before.before.before.before.args.variable.number [])) (a_variable_plain _) refl refl (prem ∙ kind_class ns c.before.before.before.before.before.before.before.before.before.before.before.before.args.variable.number (kind_there ns c.before.before.before.before.before.before.before.before.before.before.before.before.args.variable.number (λ z. c.before.before.before.before.before.before.before.if2.false (prem ∙ ap (λ (k : ℕ). k % 8) z)))) c.before.before.before.before.before.take_next.ensures _ _ c.before.d.given.1 (variable_told _ a.at end (drop a.at a.line.now) a.variable e (omega (arith, get_or-drop a.at a.line.now 0 0, c.before.before.before.before.before.before.before.before.before.before.before.shared-slice-known.given (a.at + 0))) (kind_there ns c.before.before.before.before.before.before.before.before.before.before.before.before.args.variable.number (λ z. c.before.before.before.before.before.before.before.if2.false (prem ∙ ap (λ (k : ℕ). k % 8) z))) (omega (arith, c.before.before.before.before.before.before.before.before.if1.false, length-drop a.at a.line.now))) c.before.before.before.before.before.before.before.before.if1.false (piece_some a.at end (drop a.at a.line.now) _ e))
     (λ c. search rules)
-    (λ c. λ ns nd prem end e. fail_one (record { numbered = nd; inside = c.before.before.before.before.before.before.before.before.before.before.before.requires.0; stands = e }) (variable (get_or ns c.before.before.before.before.before.before.before.before.before.before.before.args.variable.number [])) (a_variable_plain _) refl refl (prem ∙ kind_class ns c.before.before.before.before.before.before.before.before.before.before.before.args.variable.number (kind_there ns c.before.before.before.before.before.before.before.before.before.before.before.args.variable.number (λ z. c.before.before.before.before.before.before.if2.false (prem ∙ ap (λ (k : ℕ). k % 8) z)))) c.before.before.before.before.take-item.ensures c.enum_told.given.1))
+    (λ c. λ ns nd prem end e. fail_one (record { numbered = nd; inside = c.before.before.before.before.before.before.before.before.before.before.before.requires.0; stands = e }) (variable (get_or ns c.before.before.before.before.before.before.before.before.before.before.before.args.variable.number [])) (a_variable_plain _) refl refl (prem ∙ kind_class ns c.before.before.before.before.before.before.before.before.before.before.before.args.variable.number (kind_there ns c.before.before.before.before.before.before.before.before.before.before.before.args.variable.number (λ z. c.before.before.before.before.before.before.if2.false (prem ∙ ap (λ (k : ℕ). k % 8) z)))) c.before.before.before.before.take_next.ensures c.enum_told.given.1))

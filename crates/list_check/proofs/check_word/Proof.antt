@@ -1,7 +1,7 @@
 use native.Mathlib.Omega.{arith}
 use mathlib.Core.Path.{refl}
 use lib.ListN.{length-drop}
-use Rattle.list_check.specs.Checking.{fail_short, pass_one, fail_one}
+use Rattle.list_check.proofs.Checking.{fail_short, pass_one, fail_one}
 use Rattle.list_pieces.specs.Pieces.{tokens_of_piece, size_of}
 use Rattle.paper.specs.Tokens.{statement as the_word, class, as_read}
 use Rattle.list_pieces.specs.GivenLaws.{a_statement_plain}

@@ -4,7 +4,7 @@ use lib.ListN.{take}
 use Rattle.paper.specs.Names.{names_in}
 use Rattle.names_kinds.specs.Kinds.{kind_class}
 use Rattle.list_pieces.specs.NameLaws.{there, not_there}
-use Rattle.list_check.proofs.Naming.{class_none}
+use Rattle.list_check.proofs.Walking.{class_none}
 use borrow.Author.Rules.{rules}
 use Rattle.list_check.proofs.class_at.Statement.{statement}
 use Rattle.list_check.proofs.class_at.Tie as tie

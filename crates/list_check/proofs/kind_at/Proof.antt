@@ -4,7 +4,7 @@ use mathlib.Core.Bool.{true, false}
 use lib.ListN.{take}
 use Rattle.paper.specs.Names.{names_in}
 use Rattle.names_kinds.specs.Kinds.{kind_class, kind_word}
-use Rattle.list_check.proofs.Naming.{kind_none, kind_known}
+use Rattle.list_check.proofs.Walking.{kind_none, kind_known}
 use borrow.Author.Rules.{rules}
 use Rattle.list_check.proofs.kind_at.Statement.{statement}
 use Rattle.list_check.proofs.kind_at.Tie as tie

@@ -14,7 +14,7 @@ use Rattle.paper.specs.Store.{whole_line?}
 use Rattle.names_kinds.specs.Kinds.{Kinds, kinds_of}
 use Rattle.store.specs.Rising.{past}
 use Rattle.list_pieces.specs.NameLaws.{sound_numbered}
-use Rattle.list_walk.specs.KindLaws.{sound_kinds}
+use Rattle.list_check.specs.KindLaws.{sound_kinds}
 use Rattle.editor_collect.specs.Lines.{Marking, marking_first, marking_line, marking_fails, marking_next, marking_done}
 use Rattle.editor_collect.proofs.mark.mark_lines.Statement.{statement}
 use Rattle.editor_collect.proofs.mark.mark_lines.Tie as tie
