@@ -3,7 +3,6 @@ use Rattle.std.specs.Prelude.{ℕ, ◌≡◌, refl, List, [], ◌∷◌, ◌++�
 use Prim.Native.String.{String}
 use Rattle.paper.specs.Bytes.{bytes}
 use Rattle.paper.specs.Hex.{hex}
-use Rattle.paper.specs.Calls.{State}
 use Rattle.paper.specs.Open.{everything}
 use Rattle.cases.specs.Answers.{Call, enters, lists, agreeing, same_state, meets, failing}
 use Rattle.limits.specs.Limits.{refuses_at, refuses, over, storing, roomy}

@@ -1,1 +1,2 @@
 // Computed cases only: see specs/.
+#![tactic(auto)]

@@ -1,5 +1,7 @@
 // Total helpers on numbers and byte slices: the lesser of two numbers, one byte read or written, bytes copied, tests of a byte, the end of a run
 // of bytes, and the number that digits write.
+#![tactic(auto)]
+
 ghost use Rattle.std.specs.Prelude.{◌≡◌, ◌+◌, ◌-◌, ◌≤◌, min, length, get_or, set, take, drop};
 ghost use Rattle.std.proofs.lemmas.List.Edits.{sets};
 ghost use Rattle.paper.specs.Bytes.{run, digit?, letter?, letter_or_digit?};
@@ -87,7 +89,7 @@ fn is_string_byte(b: u8) -> bool
 }
 
 // What a run of bytes is made of.
-#[derive(Drop)]
+#[derive(Clone, Copy)]
 pub enum Run {
     Blanks,
     Digits,

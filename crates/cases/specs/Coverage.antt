@@ -12,7 +12,7 @@ use Rattle.paper.specs.Calls.{Head, numbered, too_great, only_blanks, unnumbered
 use Rattle.paper.specs.Open.{everything}
 use Rattle.paper.specs.Cases.{Case, stores, refuses}
 use Rattle.cases.specs.Worked.{incomplete}
-use Rattle.cases.specs.Following.{Walk, along, walks, all_walks}
+use Rattle.cases.specs.Following.{Walk, walks, all_walks}
 
 -- ---- the texts of cases, as the classes of their items
 

@@ -1,4 +1,6 @@
 // Numerals: the text of a number as six bytes.
+#![tactic(auto)]
+
 ghost use Rattle.std.specs.Prelude.{◌≡◌};
 ghost use Rattle.constant_bytes.specs.Numerals.{Written, numeral_six};
 
@@ -9,7 +11,7 @@ const RANGE: usize = 98;
 
 // A number's text as it was found: `whole` digits at the front, then, if there is a point, the point and `fraction` digits; the
 // exponent's sign (`down`: a minus) and its value, 0 without one.
-#[derive(Drop)]
+#[derive(Clone, Copy)]
 pub struct Numeral {
     pub whole: usize,
     pub fraction: usize,
@@ -18,7 +20,7 @@ pub struct Numeral {
 }
 
 // The six bytes of a number; all 0 if it is out of range.
-#[derive(Drop)]
+#[derive(Clone, Copy)]
 pub struct Six {
     pub in_range: bool,
     pub bytes: [u8; 6],

@@ -1,4 +1,6 @@
 // Constants: six bytes that are right, and six bytes as text.
+#![tactic(auto)]
+
 ghost use Rattle.std.specs.Prelude.{◌≡◌, length, take, drop};
 ghost use Rattle.std.proofs.lemmas.List.Edits.{sets};
 ghost use Rattle.paper.specs.Constants.{right_constant?, constant_text};

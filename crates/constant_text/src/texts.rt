@@ -20,7 +20,7 @@ const UNIT: usize = 137;
 
 // How the ten digits of a constant are laid out: those from `from` to `point` stand before the point, a zero if there are none; those
 // from `point` to `end` after it, with no point if there are none; then the power of ten, which is `power - UNIT`, if `power` is not 0.
-#[derive(Drop)]
+#[derive(Clone, Copy)]
 pub struct Layout {
     pub from: usize,
     pub point: usize,

@@ -1,4 +1,6 @@
 // The calls over lent tables and a lent store: a text entered, a stored line listed, the line in a line buffer listed.
+#![tactic(auto)]
+
 mod readings;
 
 ghost use Rattle.std.specs.Prelude.{◌≡◌, T};

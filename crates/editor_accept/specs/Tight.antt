@@ -6,7 +6,8 @@ use Rattle.paper.specs.Direct.{accept_direct}
 use Rattle.editor_edit.specs.declared.Editor.{Editor}
 use Rattle.editor_edit.specs.declared.Entered.{Entered}
 use Rattle.editor_edit.specs.States.{state, entered}
-use Rattle.editor_edit.specs.Tight.{one_entered, one_typed}
+use Rattle.editor_edit.specs.Tight.{one_entered}
+use Rattle.editor_edit.proofs.Tight.{one_typed}
 use Rattle.editor_accept.specs.Lines.{Readable, Accepts, AcceptsDirect}
 
 -- of a line accepted that was read

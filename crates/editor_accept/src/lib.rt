@@ -1,4 +1,6 @@
 // The edits of a sound state that take a line with its new names: into the store, or into a line buffer.
+#![tactic(auto)]
+
 ghost use Rattle.std.specs.Prelude.{◌*◌, ◌≤◌, T, length, take};
 ghost use Rattle.paper.specs.Names.{names_in};
 ghost use Rattle.paper.specs.Line.{direct_number};

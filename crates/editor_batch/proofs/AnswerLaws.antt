@@ -12,7 +12,7 @@ use Rattle.paper.specs.Calls.{State, sound_state, refusal, enter_with}
 use Rattle.paper.specs.Batch.{Batched as Outcome, text_lines, no_lines, with_answer, batch}
 use Rattle.paper.specs.Open.{everything}
 use Rattle.requested.specs.RequestTerms.{all_unsound}
-use Rattle.requested.specs.Batches.{unsound_entered, batch_unsound}
+use Rattle.requested.proofs.Batches.{unsound_entered, batch_unsound}
 use Rattle.editor_edit.specs.declared.Editor.{Editor}
 use Rattle.editor_edit.specs.declared.Entered.{Entered}
 use Rattle.editor_edit.specs.States.{state, entered, refusing}

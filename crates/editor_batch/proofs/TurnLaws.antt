@@ -12,7 +12,7 @@ use Rattle.paper.specs.Bytes.{run}
 use Rattle.paper.specs.Items.{raw_byte?}
 use Rattle.paper.specs.Calls.{State, Entered, sound_state, enter_with}
 use Rattle.paper.specs.Batch.{text_lines, answers_to, none_refused, Batched, no_lines, with_answer, with_answers, batch}
-use Rattle.requested.specs.Batches.{first_line, answer_after, answer_counted, same_soundness}
+use Rattle.requested.proofs.Batches.{first_line, answer_after, answer_counted, same_soundness}
 use Rattle.buffers.specs.Runs.{run_within}
 use Rattle.editor_edit.specs.declared.Editor.{Editor}
 use Rattle.editor_edit.specs.States.{state}

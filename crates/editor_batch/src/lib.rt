@@ -1,4 +1,6 @@
 // A whole listing at once: a text of many lines parted by 9B, entered line by line over tables that are tested once.
+#![tactic(auto)]
+
 ghost use Rattle.std.specs.Prelude.{◌≡◌, List, ℕ, suc, ◌+◌, ◌<◌, min, length};
 ghost use Rattle.paper.specs.Calls.{sound_state, enter_with};
 ghost use Rattle.paper.specs.Batch.{text_lines, with_answer, batch as batch-call};
@@ -11,7 +13,7 @@ use editor_edit::{Editor, Entered, refused};
 
 // What entering many lines answers: how many were taken and refused; of the first refusal the number, the place in its line with the end, and the line
 // counted from 1, all 0 if no line was refused; and the record afterwards.
-#[derive(Drop)]
+#[derive(Clone, Copy)]
 pub struct Batched {
     pub taken: usize,
     pub refused: usize,

@@ -24,6 +24,7 @@ use Rattle.editor_collect.specs.Carries.{AllReady}
 
 or_first : (a b : Bool) → T a → T (a || b)
 or_first true b t = tt
+or_first false b t = elim t [ ]
 
 or_last : (a b : Bool) → T b → T (a || b)
 or_last true b t = tt

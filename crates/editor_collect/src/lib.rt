@@ -1,4 +1,6 @@
 // Unused names taken back (document 02, §12): the names that no line uses are removed with their values, and every line gets the new numbers. All in place.
+#![tactic(auto)]
+
 mod carry;
 mod mark;
 
@@ -13,7 +15,7 @@ use editor_edit::Editor;
 const MOST_NAMES: usize = 256;
 
 // What taking back unused names answers: the number, and the record afterwards.
-#[derive(Drop)]
+#[derive(Clone, Copy)]
 pub struct Collected {
     pub number: u8,
     pub editor: Editor,

@@ -3,8 +3,7 @@ use Rattle.std.specs.Prelude.{ℕ, ◌≡◌, List}
 use Rattle.std.proofs.Common.{sym, ap, ◌∙◌}
 use Rattle.paper.specs.Calls.{State}
 use Rattle.paper.specs.Calls.{Entered as Outcome}
-use Rattle.paper.specs.Direct.{Typed}
-use Rattle.editor_edit.specs.States.{entered, typed_outcome}
+use Rattle.editor_edit.specs.States.{entered}
 use Rattle.editor_edit.specs.declared.Editor.{Editor}
 use Rattle.editor_edit.specs.declared.Entered.{Entered}
 
@@ -20,10 +19,3 @@ answer_of o = record { number = o.number; place = o.place.start; end = o.place.e
 pub one_entered : (o : Outcome) (r r' : Entered) (n v s n' v' s' : List ℕ) → entered r n v s ≡ o → entered r' n' v' s' ≡ o → (r ≡ r') × (n ≡ n') × (v ≡ v') × (s ≡ s')
 one_entered o r r' n v s n' v' s' h k =
     let e = h ∙ sym k in (ap answer_of e, ap (λ (x : Outcome). x.after.names) e, ap (λ (x : Outcome). x.after.values) e, ap (λ (x : Outcome). x.after.store) e)
-
--- of a text entered where a line buffer is lent
-pub one_typed : (o : Typed) (r r' : Entered) (n v s l n' v' s' l' : List ℕ) → typed_outcome r n v s l ≡ o → typed_outcome r' n' v' s' l' ≡ o
-    → (r ≡ r') × (n ≡ n') × (v ≡ v') × (s ≡ s') × (l ≡ l')
-one_typed o r r' n v s l n' v' s' l' h k =
-    let one = one_entered o.entered r r' n v s n' v' s' (ap (λ (x : Typed). x.entered) h) (ap (λ (x : Typed). x.entered) k) in
-    (one.0, one.1, one.2, one.3, ap (λ (x : Typed). x.line) (h ∙ sym k))

@@ -1,4 +1,6 @@
 // The editor's record and what an edit answers, with the words that the calls share: an empty record, what it keeps of the store, a refusal.
+#![tactic(auto)]
+
 ghost use Rattle.std.specs.Prelude.{◌≡◌};
 ghost use Rattle.paper.specs.Items.{span, no_span};
 ghost use Rattle.editor_edit.specs.States.{empty_record, counts_in, counting, refusing};
@@ -7,7 +9,7 @@ use store::Counts;
 
 // The editor's record: the bytes of the store that are used, how many lines they are and the greatest number of these, 0 if there is none, how many
 // names there are, and how many bytes they have.
-#[derive(Drop)]
+#[derive(Clone, Copy)]
 pub struct Editor {
     pub used: usize,
     pub lines: usize,
@@ -17,7 +19,7 @@ pub struct Editor {
 }
 
 // What entering a text answers: document 01's number, the place and its end where they apply, how many names were added, and the record afterwards.
-#[derive(Drop)]
+#[derive(Clone, Copy)]
 pub struct Entered {
     pub number: u8,
     pub place: usize,

@@ -1,4 +1,4 @@
--- One outcome: two answers that satisfy the contract are equal.
+-- One outcome: what the definitions answer tells what the code does.
 use Rattle.std.specs.Prelude.{◌≡◌, refl}
 use Rattle.std.proofs.Common.{sym, ap, ◌∙◌}
 use Rattle.paper.specs.Examine.{yes, unsound_names, unsound_values, unsound_store, bad_line}
@@ -8,21 +8,17 @@ use Rattle.editor_examine.specs.declared.Verdict.TheVariants as Verdict'
 use Rattle.editor_examine.specs.Verdicts.{verdict}
 
 -- the definitions' answer tells the code's
-abbrev told : Answer → Verdict
+abbrev pub told : Answer → Verdict
 told yes = Verdict'.Yes
 told unsound_names = Verdict'.UnsoundNames
 told unsound_values = Verdict'.UnsoundValues
 told unsound_store = Verdict'.UnsoundStore
 told (bad_line n) = Verdict'.BadLine n
 
-told_back : (r : Verdict) → told (verdict r) ≡ r
+pub told_back : (r : Verdict) → told (verdict r) ≡ r
 unfolding verdict
 told_back Verdict'.Yes = refl
 told_back Verdict'.UnsoundNames = refl
 told_back Verdict'.UnsoundValues = refl
 told_back Verdict'.UnsoundStore = refl
 told_back (Verdict'.BadLine n) = refl
-
--- v is the answer that the contract gives
-pub one_verdict : (v : Answer) (r r' : Verdict) → verdict r ≡ v → verdict r' ≡ v → r ≡ r'
-one_verdict v r r' h k = sym (told_back r) ∙ ap told (h ∙ sym k) ∙ told_back r'

@@ -1,4 +1,6 @@
 // A program from another tokenizer: its tables and every line examined before a tag takes it. Nothing is written.
+#![tactic(auto)]
+
 ghost use Rattle.std.specs.Prelude.{◌≡◌, take};
 ghost use Rattle.paper.specs.Bytes.{pick};
 ghost use Rattle.paper.specs.Line.{line_number};
@@ -14,7 +16,7 @@ use names_kinds::{KINDS, list_kinds};
 use store::{GREATEST_NUMBER, heads};
 
 // What examining a program answers: yes; or the first that is unsound of names, values and store; or the number of the first line that is not well-formed.
-#[derive(Drop)]
+#[derive(Clone, Copy)]
 pub enum Verdict {
     Yes,
     UnsoundNames,

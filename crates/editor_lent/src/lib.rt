@@ -1,6 +1,8 @@
 // The calls with the editor's record lent: a text entered, where the record is updated, and a stored line listed.
+#![tactic(auto)]
+
 ghost use Rattle.std.specs.Prelude.{◌≡◌};
-ghost use Rattle.paper.specs.Calls.{list as list-call};
+ghost use Rattle.paper.specs.Calls.{list as list_call};
 ghost use Rattle.paper.specs.Direct.{typed};
 ghost use Rattle.editor_edit.specs.States.{state};
 ghost use Rattle.editor_list.specs.Answers.{listed};
@@ -11,7 +13,7 @@ use editor_edit::Editor;
 use editor_list::Listed;
 
 // What entering a text over a lent record answers: document 01's number, the place and its end where they apply, and how many names were added.
-#[derive(Drop)]
+#[derive(Clone, Copy)]
 pub struct Answer {
     pub number: u8,
     pub place: usize,
@@ -50,7 +52,7 @@ pub fn list_lent(
     e: &Editor,
     out: &mut [u8],
 ) -> Listed
-    ensures { listed result out.new ≡ list-call line (state names.now values.now store.now e.now) out.old }
+    ensures { listed result out.new ≡ list_call line (state names.now values.now store.now e.now) out.old }
 {
     list(line, names, values, store, *e, out)
 }

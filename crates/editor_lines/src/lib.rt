@@ -1,4 +1,6 @@
 // The edits of a sound state that leave its tables: a line taken out of the store, or the error line of a text put into it.
+#![tactic(auto)]
+
 ghost use Rattle.std.specs.Prelude.{◌≡◌, T, take};
 ghost use Rattle.paper.specs.Items.{span};
 ghost use Rattle.paper.specs.Line.{line_number};

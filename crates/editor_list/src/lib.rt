@@ -1,4 +1,6 @@
 // The listing of a stored line, and of the line in a line buffer.
+#![tactic(auto)]
+
 ghost use Rattle.std.specs.Prelude.{◌≡◌, T, take};
 ghost use Rattle.paper.specs.Names.{names_in};
 ghost use Rattle.paper.specs.Calls.{sound_state, list_sound};
@@ -12,7 +14,7 @@ use list_outcome::Outcome;
 use store::{Place, heads};
 
 // What listing a line answers: document 01's number, and how many bytes were written.
-#[derive(Drop)]
+#[derive(Clone, Copy)]
 pub struct Listed {
     pub number: u8,
     pub written: usize,

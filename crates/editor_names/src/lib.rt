@@ -1,4 +1,6 @@
 // A line that was read, wherever it is to stand: whether the names that are new in it have room and it is short enough, and these names added.
+#![tactic(auto)]
+
 ghost use Rattle.std.specs.Prelude.{◌≡◌, ◌++◌, ◌*◌, take};
 ghost use Rattle.paper.specs.Names.{names_in, name_bytes, value_entries};
 ghost use Rattle.paper.specs.Store.{overwritten};

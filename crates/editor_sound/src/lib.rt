@@ -1,4 +1,6 @@
 // The test that a call over the record begins with: whether all that is lent is sound.
+#![tactic(auto)]
+
 ghost use Rattle.std.specs.Prelude.{◌≡◌};
 ghost use Rattle.paper.specs.Calls.{sound_state};
 ghost use Rattle.editor_edit.specs.States.{state};

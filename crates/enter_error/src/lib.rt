@@ -1,4 +1,6 @@
 // The error line of a refused text: whether it is kept, and its bytes.
+#![tactic(auto)]
+
 ghost use Rattle.std.specs.Prelude.{◌≡◌, ◌≤◌, length, take, get_or};
 ghost use Rattle.paper.specs.Bytes.{blank};
 ghost use Rattle.paper.specs.Line.{direct_number};

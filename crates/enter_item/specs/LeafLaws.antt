@@ -18,7 +18,7 @@ use Rattle.constant_bytes.specs.Laws.{six_token}
 use Rattle.constant_bytes.specs.declared.Numeral.{Numeral}
 use Rattle.constant_bytes.specs.declared.Six.{Six}
 use Rattle.enter_scan.specs.Sees.{Sees, token_at}
-use Rattle.enter_scan.specs.ScanLaws.{rest_part}
+use Rattle.enter_scan.proofs.ScanLaws.{rest_part}
 use Rattle.enter_scan.specs.declared.Item.{Item as Found}
 use Rattle.names_numbered.specs.Answers.{spelled, Numbers}
 use Rattle.names_numbered.specs.declared.Numbered.{Numbered}

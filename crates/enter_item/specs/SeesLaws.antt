@@ -8,7 +8,7 @@ use Rattle.paper.specs.Classes.{line_end, remark}
 use Rattle.paper.specs.Tokens.{class}
 use Rattle.paper.specs.Items.{Item, item, opens, raw_at}
 use Rattle.enter_scan.specs.Sees.{Sees, token_at}
-use Rattle.enter_scan.specs.ScanLaws.{items_next, items_raw, items_end}
+use Rattle.enter_scan.proofs.ScanLaws.{items_next, items_raw, items_end}
 use Rattle.enter_scan.specs.declared.Item.{Item as Seen}
 use Rattle.enter_item.specs.Says.{env, items_at, item_of, Next}
 

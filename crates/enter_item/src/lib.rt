@@ -1,4 +1,6 @@
 // Readers of single items: each reads one item in a part of the text, writes its tokens to the line and adds its name.
+#![tactic(auto)]
+
 mod kinds;
 
 ghost use Rattle.std.specs.Prelude.{◌≡◌, Bool, false, List, ◌++◌, ℕ, ◌+◌, ◌≤◌, ◌<◌, length, take, set};
@@ -32,7 +34,7 @@ const FIRST_LONG: usize = 128;
 const LONG_FORM: u8 = 0;
 
 // Where a reader stands: its place in the part, how many bytes of the line are written, and how many bytes of new names.
-#[derive(Drop)]
+#[derive(Clone, Copy)]
 pub struct Spot {
     pub at: usize,
     pub written: usize,
@@ -40,14 +42,14 @@ pub struct Spot {
 }
 
 // What a reader answers: where it stands after what it read; or a refusal's number and its place in the whole text.
-#[derive(Drop)]
+#[derive(Clone, Copy)]
 pub enum Step {
     Done(Spot),
     Refused(u8, usize),
 }
 
 // The next item, its class, and the number of its own token if it is a word or a symbol.
-#[derive(Drop)]
+#[derive(Clone, Copy)]
 pub struct Seen {
     pub item: Item,
     pub class: u8,

@@ -8,8 +8,8 @@ use Rattle.paper.specs.Items.{Item, item, item_at, raw_byte?, raw_from, raw_at, 
 use Rattle.paper.specs.Machine.{Step, took, over, refused, Taken, Run, left, done, bad, and_taken, step, go_on, read}
 use Rattle.paper.specs.Grammar.{Gives, look_in_range, start}
 use Rattle.buffers.specs.Runs.{run_within}
-use Rattle.enter_scan.specs.Sound.{shape_sound}
-use Rattle.enter_scan.specs.Shapes.{item_shape}
+use Rattle.enter_scan.proofs.Sound.{shape_sound}
+use Rattle.enter_scan.proofs.Shapes.{item_shape}
 
 -- items that stand at most at a place
 abbrev Within : ℕ → List Item → Type 0

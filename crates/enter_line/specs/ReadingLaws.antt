@@ -23,7 +23,7 @@ use Rattle.buffers.specs.Runs.{run_within}
 use Rattle.buffers.specs.Sets.{front}
 use Rattle.enter_scan.specs.declared.Item.{Item}
 use Rattle.enter_scan.specs.Kinds.{shape_at, item_with}
-use Rattle.enter_scan.specs.Shapes.{item_shape}
+use Rattle.enter_scan.proofs.Shapes.{item_shape}
 use Rattle.enter_item.specs.Draft.{low, with_offsets, written_line}
 use Rattle.enter_item.specs.DraftLaws.{line_size, sets_set}
 use Rattle.enter_item.specs.Says.{env, Mem, mem, spot, known, items_at, Asks}

@@ -1,4 +1,6 @@
 // From text to token line, or its refusal: the number of the line, and then its statements.
+#![tactic(auto)]
+
 ghost use Rattle.std.specs.Prelude.{◌≡◌, ◌≤◌, length, take};
 ghost use Rattle.paper.specs.Names.{names_in};
 ghost use Rattle.paper.specs.Line.{direct_number};
@@ -14,7 +16,7 @@ use enter_statements::statements;
 use store::GREATEST_NUMBER;
 
 // A line that was read: its number, how many bytes it has, and how many bytes the names new in it have.
-#[derive(Drop)]
+#[derive(Clone, Copy)]
 pub struct Line {
     pub number: usize,
     pub size: usize,
@@ -23,7 +25,7 @@ pub struct Line {
 
 // What reading a text gives: a line, the number alone of a line to delete, a refusal's number, its place and that place's end; or the error line that is
 // kept of a text refused with 4, with the place and its end.
-#[derive(Drop)]
+#[derive(Clone, Copy)]
 pub enum Reading {
     Read(Line),
     Delete(usize),
@@ -32,7 +34,7 @@ pub enum Reading {
 }
 
 // How a text begins: its number and the place past its digits; digits worth too much for a line; no digit, in a text of blanks alone or in another.
-#[derive(Drop)]
+#[derive(Clone, Copy)]
 enum Head {
     Numbered(usize, usize),
     TooGreat,
@@ -60,7 +62,7 @@ fn head_of(text: &[u8]) -> Head
 }
 
 // What a text is to be read as: the line with a number, whose statements stand from a place on; a number alone; nothing.
-#[derive(Drop)]
+#[derive(Clone, Copy)]
 enum Start {
     Statements(usize, usize),
     NumberAlone(usize),

@@ -21,7 +21,7 @@ use Rattle.tokens.specs.Tables.{reserved_found, statement_found}
 use Rattle.enter_scan.specs.declared.Kind.{Kind}
 use Rattle.enter_scan.specs.declared.Kind.TheVariants.{Operator, Function, Statement}
 use Rattle.enter_scan.specs.Kinds.{name_size, variable_kind, statement_kind, reserved_kind, name_kind, name_shape, item_with}
-use Rattle.enter_scan.specs.Sound.{in_text}
+use Rattle.enter_scan.proofs.Sound.{in_text}
 
 -- ---- words
 

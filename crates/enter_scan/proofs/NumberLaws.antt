@@ -16,7 +16,7 @@ use Rattle.tokens.specs.Same.{no_bool}
 use Rattle.enter_scan.specs.declared.Exponent.{Exponent}
 use Rattle.enter_scan.specs.declared.Kind.TheVariants.{Number}
 use Rattle.enter_scan.specs.Kinds.{fraction_size, digits_size, no_power, power_at, number_with, number_shape, item_with}
-use Rattle.enter_scan.specs.Sound.{in_text, power_fits, digits_fit}
+use Rattle.enter_scan.proofs.Sound.{in_text, power_fits, digits_fit}
 
 pub begins_point : {b : ℕ} (next : ℕ) → digit? b ≡ false → b ≡ 46 → digit? next ≡ (digit? b || (eqb b 46 && digit? next))
 begins_point {b} next d e = sym (rw (d, eq-eqb b 46 e))

@@ -1,4 +1,6 @@
 // The item reader: what stands next in a part of a text, and where.
+#![tactic(auto)]
+
 mod names;
 mod numbers;
 mod symbols;
@@ -13,7 +15,7 @@ use tokens::{FunctionToken, OperatorToken, StatementToken, class};
 
 // What an item is: a name with its length (a number's variable, a string's, an array's), a number as it is written, a quoted string
 // with its length, a symbol or word with its token, the text's end, or a byte that starts no item.
-#[derive(Drop)]
+#[derive(Clone, Copy)]
 pub enum Kind {
     Numeric(usize),
     Text(usize),
@@ -28,7 +30,7 @@ pub enum Kind {
 }
 
 // An item: its kind, where it starts and where it ends.
-#[derive(Drop)]
+#[derive(Clone, Copy)]
 pub struct Item {
     pub kind: Kind,
     pub at: usize,
@@ -36,7 +38,7 @@ pub struct Item {
 }
 
 // An exponent: its length in the text, whether it is negative, and its value.
-#[derive(Drop)]
+#[derive(Clone, Copy)]
 pub(crate) struct Exponent {
     pub size: usize,
     pub down: bool,
@@ -44,7 +46,7 @@ pub(crate) struct Exponent {
 }
 
 // Raw text: where it starts and where it ends.
-#[derive(Drop)]
+#[derive(Clone, Copy)]
 pub struct RawText {
     pub from: usize,
     pub end: usize,

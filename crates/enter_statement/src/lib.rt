@@ -1,4 +1,6 @@
 // What follows the first item of a statement, up to its end: items are taken by the grammar's table, terms by their own reader.
+#![tactic(auto)]
+
 ghost use Rattle.std.specs.Prelude.{◌≡◌, true, false, List, [], ◌∷◌, ℕ, ◌+◌, ◌*◌, ◌≤◌, T, length};
 ghost use Rattle.paper.specs.Frames.{want_operand, want_after_then};
 ghost use Rattle.paper.specs.Machine.{took, step};
@@ -16,7 +18,7 @@ use grammar::{Step as Act, given_operator};
 use tokens::class;
 
 // What a reader of a statement's rest answers: where the next statement begins, where the line's bytes end, or a refusal's number and place.
-#[derive(Drop)]
+#[derive(Clone, Copy)]
 pub enum Ended {
     More(Spot),
     Last(Spot),
@@ -24,7 +26,7 @@ pub enum Ended {
 }
 
 // What a step comes to: it goes on from a place with so many frames; or the rest is read, as `Ended` says.
-#[derive(Drop)]
+#[derive(Clone, Copy)]
 pub enum Moved {
     On(Spot, usize),
     More(Spot),

@@ -17,7 +17,7 @@ use Rattle.paper.specs.WellFormed.{tokens_of}
 use Rattle.paper.specs.Open.{all_Bytes, all_Words, all_Tokens}
 use Rattle.enter_scan.specs.Sees.{Sees, token_at}
 use Rattle.enter_scan.specs.Kinds.{raw_seen}
-use Rattle.enter_scan.specs.ScanLaws.{items_of_raw, raw_within, raw_ending}
+use Rattle.enter_scan.proofs.ScanLaws.{items_of_raw, raw_within, raw_ending}
 use Rattle.enter_scan.specs.declared.Item.{Item as Found}
 use Rattle.enter_scan.specs.declared.RawText.{RawText}
 use Rattle.names_numbered.specs.Answers.{Numbers}

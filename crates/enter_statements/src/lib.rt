@@ -1,4 +1,6 @@
 // Statements, one after another: the first item of each, its rest, and its offset.
+#![tactic(auto)]
+
 ghost use Rattle.std.specs.Prelude.{◌≡◌, true, [], ◌∷◌, ◌+◌, ◌≤◌, ◌<◌, length, drop};
 ghost use Rattle.paper.specs.Classes.{remark};
 ghost use Rattle.paper.specs.Tokens.{class};

@@ -1,4 +1,6 @@
 // Readers of expressions, terms, strings and subscripts: each reads on in a part of the text, writes tokens to the line and adds names.
+#![tactic(auto)]
+
 ghost use Rattle.std.specs.Prelude.{◌≡◌, false, [], ◌∷◌};
 ghost use Rattle.paper.specs.Classes.{plus_minus, not_word};
 ghost use Rattle.paper.specs.Frames.{want_operand, want_more_terms, want_array_open, want_second, want_close, want_function_open, want_string, want_substring, want_string_comparison};
@@ -27,7 +29,7 @@ fn joins(class: u8) -> bool
 }
 
 // An expression: terms, each joined to the one before it.
-#[cycle(argument_compared_comparison_element_enclosed_expression_operand_second_string_string_argument_subscripts_substring_term)]
+#[cycle(terms)]
 fn expression(
     part: &[u8],
     offset: usize,
@@ -59,7 +61,7 @@ fn expression(
 }
 
 // An expression and the closing parenthesis.
-#[cycle(argument_compared_comparison_element_enclosed_expression_operand_second_string_string_argument_subscripts_substring_term)]
+#[cycle(terms)]
 fn enclosed(
     part: &[u8],
     offset: usize,
@@ -85,7 +87,7 @@ fn enclosed(
 }
 
 // One or two subscripts and the closing parenthesis.
-#[cycle(argument_compared_comparison_element_enclosed_expression_operand_second_string_string_argument_subscripts_substring_term)]
+#[cycle(terms)]
 fn subscripts(
     part: &[u8],
     offset: usize,
@@ -104,7 +106,7 @@ fn subscripts(
 }
 
 // After a subscript: a comma and a second one, or the closing parenthesis.
-#[cycle(argument_compared_comparison_element_enclosed_expression_operand_second_string_string_argument_subscripts_substring_term)]
+#[cycle(terms)]
 fn second(
     part: &[u8],
     offset: usize,
@@ -133,7 +135,7 @@ fn second(
 }
 
 // A function's argument.
-#[cycle(argument_compared_comparison_element_enclosed_expression_operand_second_string_string_argument_subscripts_substring_term)]
+#[cycle(terms)]
 fn argument(
     part: &[u8],
     offset: usize,
@@ -159,7 +161,7 @@ fn argument(
 }
 
 // The argument of a function of a string.
-#[cycle(argument_compared_comparison_element_enclosed_expression_operand_second_string_string_argument_subscripts_substring_term)]
+#[cycle(terms)]
 fn string_argument(
     part: &[u8],
     offset: usize,
@@ -195,7 +197,7 @@ fn string_argument(
 }
 
 // An array's subscripts.
-#[cycle(argument_compared_comparison_element_enclosed_expression_operand_second_string_string_argument_subscripts_substring_term)]
+#[cycle(terms)]
 fn element(
     part: &[u8],
     offset: usize,
@@ -221,7 +223,7 @@ fn element(
 }
 
 // A string's subscripts, or nothing.
-#[cycle(argument_compared_comparison_element_enclosed_expression_operand_second_string_string_argument_subscripts_substring_term)]
+#[cycle(terms)]
 fn substring(
     part: &[u8],
     offset: usize,
@@ -248,7 +250,7 @@ fn substring(
 }
 
 // A comparison with a string.
-#[cycle(argument_compared_comparison_element_enclosed_expression_operand_second_string_string_argument_subscripts_substring_term)]
+#[cycle(terms)]
 fn comparison(
     part: &[u8],
     offset: usize,
@@ -274,7 +276,7 @@ fn comparison(
 }
 
 // A string compared with a string.
-#[cycle(argument_compared_comparison_element_enclosed_expression_operand_second_string_string_argument_subscripts_substring_term)]
+#[cycle(terms)]
 fn compared(
     part: &[u8],
     offset: usize,
@@ -293,7 +295,7 @@ fn compared(
 }
 
 // A string: quoted, a variable or a part of one, or what a function gives.
-#[cycle(argument_compared_comparison_element_enclosed_expression_operand_second_string_string_argument_subscripts_substring_term)]
+#[cycle(terms)]
 fn string(
     part: &[u8],
     offset: usize,
@@ -326,7 +328,7 @@ fn string(
 }
 
 // What a term has after its prefixes, of which the first item was seen: an operand or two strings compared.
-#[cycle(argument_compared_comparison_element_enclosed_expression_operand_second_string_string_argument_subscripts_substring_term)]
+#[cycle(terms)]
 fn operand(
     part: &[u8],
     offset: usize,
@@ -370,7 +372,7 @@ fn operand(
 }
 
 // A term: its prefixes, and then an operand or two strings compared.
-#[cycle(argument_compared_comparison_element_enclosed_expression_operand_second_string_string_argument_subscripts_substring_term)]
+#[cycle(terms)]
 pub fn term(
     part: &[u8],
     offset: usize,

@@ -1,7 +1,7 @@
 -- One outcome: two answers that satisfy the contract are equal.
 use Rattle.std.specs.Prelude.{ℕ, ◌≡◌, refl}
 use Rattle.std.proofs.Common.{arith, sym, ap, ◌∙◌}
-use Rattle.editor_examine.specs.Tight.{one_verdict}
+use Rattle.editor_examine.proofs.Tight.{one_verdict}
 use Rattle.editor_examine.specs.Verdicts.{verdict}
 use Rattle.file_examine.specs.declared.Examined.{Examined}
 use Rattle.file_examine.specs.declared.Examined.TheVariants.{NotRead, Program}

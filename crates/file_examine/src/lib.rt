@@ -1,4 +1,6 @@
 // A saved program file examined before a tag takes its program: what is wrong with the file; or which of its tables is unsound; or which line is bad. No byte is copied.
+#![tactic(auto)]
+
 ghost use Rattle.std.specs.Prelude.{◌≡◌, ◌≤◌, length};
 ghost use Rattle.paper.specs.Files.{parts_of};
 ghost use Rattle.editor_examine.specs.Verdicts.{verdict};
@@ -11,7 +13,7 @@ use editor_examine::Verdict;
 use file_load::{HEAD, Opened, word};
 
 // What examining a file answers: the number of the refusal that it gets, 12 or 13; or what examining its program answers.
-#[derive(Drop)]
+#[derive(Clone, Copy)]
 pub enum Examined {
     NotRead(u8),
     Program(Verdict),

@@ -1,4 +1,6 @@
 // The reader of saved program files: what is wrong with a file, where its program lies in it, and the program copied to lent buffers.
+#![tactic(auto)]
+
 ghost use Rattle.std.specs.Prelude.{◌≡◌, true, ◌≤◌, length};
 ghost use Rattle.paper.specs.Files.{word_at, never_fall, right_words?, load as load-call};
 ghost use Rattle.editor_edit.specs.States.{state};
@@ -17,14 +19,14 @@ const LATER_WORDS: usize = 6;
 
 // What is found in a file: the number of the refusal that it gets, or the record of the program that it holds. The program's names lie after the words, its
 // values after them and a zero byte, and its lines after these.
-#[derive(Drop)]
+#[derive(Clone, Copy)]
 pub enum Opened {
     Refused(u8),
     Holds(Editor),
 }
 
 // What reading a file answers: the number, and the record afterwards.
-#[derive(Drop)]
+#[derive(Clone, Copy)]
 pub struct Loaded {
     pub number: u8,
     pub editor: Editor,

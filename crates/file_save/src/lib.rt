@@ -1,4 +1,6 @@
 // The writer of saved program files: seven words, and then the names with a zero byte, the values, the stored lines and the current line.
+#![tactic(auto)]
+
 ghost use Rattle.std.specs.Prelude.{◌≡◌, [], ◌+◌, ◌*◌, ◌≤◌, length};
 ghost use Rattle.std.proofs.lemmas.List.Edits.{sets};
 ghost use Rattle.paper.specs.Files.{word_bytes, words_bytes, saved_words, saved_block, save as save-call};
@@ -10,7 +12,7 @@ use editor_edit::Editor;
 use editor_sound::sound;
 
 // What writing a file answers: number and bytes written.
-#[derive(Drop)]
+#[derive(Clone, Copy)]
 pub struct Saved {
     pub number: u8,
     pub written: usize,

@@ -27,7 +27,7 @@ use Rattle.list_weigh.specs.declared.Weight.{Weight}
 use Rattle.list_weigh.specs.declared.Weighing.{Weighing}
 use Rattle.list_weigh.specs.declared.Weighing.TheVariants.{NotListable, Weighs}
 use Rattle.list_weigh.specs.Weights.{nothing, plus, Small}
-use Rattle.list_weigh.specs.Bounds.{small_more}
+use Rattle.list_weigh.proofs.Bounds.{small_more}
 use Rattle.file_weigh.specs.declared.Weighed.{Weighed}
 use Rattle.file_weigh.specs.Answers.{columns, weighed, refusal, lines_weight, lines_weighing, Sized}
 use Rattle.file_weigh.specs.Sizes.{none_sized}

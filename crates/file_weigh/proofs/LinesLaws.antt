@@ -18,8 +18,8 @@ use Rattle.store.specs.Rising.{first_go}
 use Rattle.list_weigh.specs.declared.Weight.{Weight}
 use Rattle.list_weigh.specs.declared.Weighing.TheVariants.{NotListable, Weighs}
 use Rattle.list_weigh.specs.Weights.{nothing, plus, line_weight, weighing, Small}
-use Rattle.list_weigh.specs.Sums.{plus_assoc, plus_nothing, nothing_plus}
-use Rattle.list_weigh.specs.Bounds.{small_plus, small_more}
+use Rattle.list_weigh.proofs.Sums.{plus_assoc, plus_nothing, nothing_plus}
+use Rattle.list_weigh.proofs.Bounds.{small_plus, small_more}
 use Rattle.file_weigh.specs.Answers.{columns, lines_weight, lines_weighing}
 
 -- ---- the first of whole lines

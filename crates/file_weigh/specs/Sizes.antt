@@ -3,7 +3,7 @@ use Rattle.std.specs.Prelude.{ℕ, ◌+◌, ◌≤◌, ◌≡◌}
 use Rattle.std.proofs.Common.{arith, ap}
 use Rattle.paper.specs.Weigh.{added_up}
 use Rattle.paper.specs.Weigh.{Columns as Sums}
-use Rattle.list_weigh.specs.Bounds.{small_more}
+use Rattle.list_weigh.proofs.Bounds.{small_more}
 use Rattle.file_weigh.specs.declared.Columns.{Columns}
 use Rattle.file_weigh.specs.Answers.{columns, none, Sized}
 

@@ -1,4 +1,6 @@
 // What saved program files weigh (document 02, §13): the columns of the program in a file, as it lies there, and columns added up.
+#![tactic(auto)]
+
 ghost use Rattle.std.specs.Prelude.{◌≡◌, ◌≤◌, ◌^◌, T, length, take};
 ghost use Rattle.paper.specs.Bytes.{every};
 ghost use Rattle.paper.specs.Names.{names_in};
@@ -21,7 +23,7 @@ use store::heads;
 const MOST: usize = 65535;
 
 // The columns of a program: its lines, its names, the bytes that its lines use, and what these weigh.
-#[derive(Drop)]
+#[derive(Clone, Copy)]
 pub struct Columns {
     pub lines: usize,
     pub names: usize,
@@ -30,7 +32,7 @@ pub struct Columns {
 }
 
 // What weighing a file answers: 0 and the columns, or the number of the refusal and columns of zeros.
-#[derive(Drop)]
+#[derive(Clone, Copy)]
 pub struct Weighed {
     pub number: u8,
     pub columns: Columns,

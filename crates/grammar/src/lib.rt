@@ -1,4 +1,6 @@
 // The grammar as a table, and the stack of frames that reads items by it.
+#![tactic(auto)]
+
 mod rows;
 
 ghost use Rattle.std.specs.Prelude.{◌≡◌, ◌+◌, ◌<◌, ◌≤◌, true, T, [], length, slice_set};
@@ -71,7 +73,7 @@ fn put_frames(frames: &mut [u8], at: usize, word: u64, ninth: u8)
 }
 
 // What a frame does with an item: takes it, with what it gives and the new depth of the stack; leaves it; refuses it.
-#[derive(Drop)]
+#[derive(Clone, Copy)]
 pub enum Act {
     Took(u8, usize),
     Left,
@@ -96,7 +98,7 @@ fn act_at(frames: &mut [u8], at: usize, class: u8) -> Act
 }
 
 // What a stack does with an item: takes it, with what is given for it and the new depth; or does not.
-#[derive(Drop)]
+#[derive(Clone, Copy)]
 pub enum Step {
     Took(u8, usize),
     Refused,

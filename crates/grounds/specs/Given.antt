@@ -1,5 +1,5 @@
 -- What a row gives determines the item: read again, the token given is the item's own, and it is written the same.
-use Rattle.std.specs.Prelude.{ℕ, ◌≡◌, refl, Bool, true, false, not, ◌&&◌, ◌||◌, List, [], ◌∷◌, map, T, eqb, ltb}
+use Rattle.std.specs.Prelude.{ℕ, ◌≡◌, refl, Bool, true, false, not, ◌&&◌, ◌||◌, List, [], ◌∷◌, map, T, eqb}
 use Rattle.std.proofs.Common.{subst, sym, ap, ◌∙◌, T_not, eqb→eq, eqb-true, eq-eqb}
 use Rattle.paper.specs.Bytes.{pick, same, every, among}
 use Rattle.paper.specs.Classes.{unfit, number, quoted, numeric_variable, string_variable, array, first_numeric, first_string, first_array, raw_text, line_end, raw_end, comparison, equals, plus_minus, open_sign, comma}

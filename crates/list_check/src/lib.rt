@@ -1,4 +1,6 @@
 // The check of one piece: whether it is right, and fits where it stands.
+#![tactic(auto)]
+
 ghost use Rattle.std.specs.Prelude.{◌≡◌, List, ℕ, ◌+◌, ◌%◌, ◌≤◌, ◌<◌, length, take, drop};
 ghost use Rattle.paper.specs.Names.{names_in};
 ghost use Rattle.laws.specs.Counts.{class_count};
@@ -14,7 +16,7 @@ use list_pieces::{Piece, VariableToken};
 use tokens::{StatementToken, class};
 
 // Whether a piece fits: with the depth of the stack after it, or not.
-#[derive(Drop)]
+#[derive(Clone, Copy)]
 pub enum Fit {
     Fits(usize),
     Fails,
@@ -251,7 +253,7 @@ pub fn check_piece(
 }
 
 // How a walk over a line goes on after a piece: so many bytes further, in a statement that ends there, over so many frames; or not.
-#[derive(Drop)]
+#[derive(Clone, Copy)]
 pub enum Walk {
     On(usize, usize, usize),
     Stops,

@@ -1,4 +1,6 @@
 // Error lines (document 02, §9): whether a line is one, and what its listing has after the number.
+#![tactic(auto)]
+
 ghost use Rattle.std.specs.Prelude.{◌≡◌, true, ◌++◌, ◌≤◌, ◌^◌};
 ghost use Rattle.paper.specs.Bytes.{bytes};
 ghost use Rattle.paper.specs.Errors.{error_line?, error_text};

@@ -1,4 +1,6 @@
 // The head of a line, which is not the same for a stored line and for a direct one: the number, and what stands before the listing's first statement.
+#![tactic(auto)]
+
 ghost use Rattle.std.specs.Prelude.{◌≡◌, ◌≤◌, length};
 ghost use Rattle.paper.specs.Line.{line_number};
 ghost use Rattle.list_text.specs.Texts.{Writes};

@@ -9,7 +9,7 @@ use list_alone::DEEPEST;
 use list_check::Fit;
 
 // What the first pass finds: the line is not well-formed; or the length of its listing, or the first that is longer than the room.
-#[derive(Drop)]
+#[derive(Clone, Copy)]
 pub enum Measure {
     NotWellFormed,
     Length(usize),

@@ -1,4 +1,6 @@
 // From token line to text: the listing of a well-formed line or of an error line, or why there is none.
+#![tactic(auto)]
+
 mod first;
 mod second;
 

@@ -1,4 +1,6 @@
 // The variables that a line uses, marked.
+#![tactic(auto)]
+
 ghost use Rattle.std.specs.Prelude.{◌≡◌};
 ghost use Rattle.list_mark.specs.Marks.{marked_piece, Readable, Marked};
 

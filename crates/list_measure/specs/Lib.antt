@@ -1,4 +1,1 @@
 pub mod Numbers
-pub mod SizeLaws
-pub mod PassingLaws
-pub mod MeasureLaws

@@ -1,4 +1,6 @@
 // How long pieces are with the new numbers of their variables, and where a statement then ends.
+#![tactic(auto)]
+
 ghost use Rattle.std.specs.Prelude.{◌≡◌, List, ℕ, ◌+◌, ◌≤◌, ◌<◌, ◌^◌, length, drop};
 ghost use Rattle.paper.specs.Line.{number_bytes, to_next};
 ghost use Rattle.list_pieces.specs.Pieces.{piece_at, size_of, end_after};

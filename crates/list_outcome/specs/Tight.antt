@@ -8,22 +8,17 @@ use Rattle.list_outcome.specs.declared.Outcome.{Outcome}
 use Rattle.list_outcome.specs.declared.Outcome.TheVariants as Outcome'
 
 -- the number tells the variant, and the bytes written what it holds
-abbrev outcome_of : Listed → Outcome
+abbrev pub outcome_of : Listed → Outcome
 outcome_of o = pick (eqb o.number 10) Outcome'.NotWellFormed (pick (eqb o.number 11) Outcome'.TooLong (Outcome'.Written o.written))
 
-answer_tells : (r : Outcome) (out : List ℕ) → outcome_of (answer r out) ≡ r
+pub answer_tells : (r : Outcome) (out : List ℕ) → outcome_of (answer r out) ≡ r
 unfolding answer
 answer_tells Outcome'.NotWellFormed out = refl
 answer_tells Outcome'.TooLong out = refl
 answer_tells (Outcome'.Written n) out = refl
 
-buffer_tells : (r : Outcome) (out : List ℕ) → (answer r out).output ≡ out
+pub buffer_tells : (r : Outcome) (out : List ℕ) → (answer r out).output ≡ out
 unfolding answer
 buffer_tells Outcome'.NotWellFormed out = refl
 buffer_tells Outcome'.TooLong out = refl
 buffer_tells (Outcome'.Written n) out = refl
-
--- o is the outcome that the contract gives
-pub one_listed : (o : Listed) (r r' : Outcome) (out out' : List ℕ) → answer r out ≡ o → answer r' out' ≡ o → (r ≡ r') × (out ≡ out')
-one_listed o r r' out out' h k =
-    let e = h ∙ sym k in (sym (answer_tells r out) ∙ ap outcome_of e ∙ answer_tells r' out', sym (buffer_tells r out) ∙ ap (λ (x : Listed). x.output) e ∙ buffer_tells r' out')

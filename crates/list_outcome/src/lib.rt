@@ -1,4 +1,6 @@
 // What comes of listing a line, and the listing of an error line (document 02, §9).
+#![tactic(auto)]
+
 ghost use Rattle.std.specs.Prelude.{◌≡◌, true};
 ghost use Rattle.paper.specs.Line.{line_number};
 ghost use Rattle.paper.specs.Errors.{error_line?};
@@ -8,7 +10,7 @@ ghost use Rattle.list_head.specs.Heads.{lawful_for};
 ghost use Rattle.list_outcome.specs.Outcomes.{error_listing, answer};
 
 // What comes of listing a line: it is neither well-formed nor an error line; its listing is longer than the buffer; it is written, so many bytes long.
-#[derive(Drop)]
+#[derive(Clone, Copy)]
 pub enum Outcome {
     NotWellFormed,
     TooLong,

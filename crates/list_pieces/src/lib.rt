@@ -1,4 +1,6 @@
 // What stands at a place of a token line, told by its first bytes.
+#![tactic(auto)]
+
 ghost use Rattle.std.specs.Prelude.{◌≡◌, ◌+◌, ◌<◌, ◌^◌, length, drop};
 ghost use Rattle.list_pieces.specs.Variables.{variable_at};
 ghost use Rattle.list_pieces.specs.Pieces.{piece_at, size_of, end_after};
@@ -6,7 +8,7 @@ ghost use Rattle.list_pieces.specs.Pieces.{piece_at, size_of, end_after};
 use tokens::{OperatorToken, StatementToken};
 
 // A variable's token: the variable's number, and how many bytes the token is; no bytes where no such token stands.
-#[derive(Drop)]
+#[derive(Clone, Copy)]
 pub struct VariableToken {
     pub number: u16,
     pub size: u8,
@@ -15,7 +17,7 @@ pub struct VariableToken {
 // A piece of a line. `Word`: offset and statement token; `Text`: offset, REM or DATA, so many bytes of text, 9B; `Target`: offset, 36 and
 // a variable's token; `NoTarget`: offset and 36, where no variable's token follows; `Variable`: a variable's token; `Constant`: 0E and six
 // bytes; `Quoted`: 0F, a length byte, so many bytes; `Operator`: any other byte.
-#[derive(Drop)]
+#[derive(Clone, Copy)]
 pub enum Piece {
     Word(u8),
     Text(u8, usize),

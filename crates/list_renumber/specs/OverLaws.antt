@@ -10,9 +10,9 @@ use Rattle.list_pieces.specs.Pieces.{piece_at, tokens_of_piece, size_of, Holds}
 use Rattle.list_pieces.specs.PieceLaws.{Is}
 use Rattle.list_measure.specs.Numbers.{moves?, new_size, piece_bytes, Passing}
 use Rattle.list_mark.specs.Walks.{tokens_at}
-use Rattle.list_measure.specs.SizeLaws.{bytes_long}
+use Rattle.list_measure.proofs.SizeLaws.{bytes_long}
 use Rattle.list_renumber.specs.PieceBytes.{bytes_of}
-use Rattle.list_measure.specs.PassingLaws.{at_front, after, parted, holds, named_so, is_so, there}
+use Rattle.list_measure.proofs.PassingLaws.{at_front, after, parted, holds, named_so, is_so, there}
 
 module _ {ns new : List (List ℕ)} {numbers : List ℕ} {at end : ℕ} (l : List ℕ) (k : Passing ns new numbers at end (drop at l)) (c : Piece) (h : at < length l) (e : piece_at at end (drop at l) ≡ c) where
   -- the tokens after the piece

@@ -18,7 +18,7 @@ use Rattle.list_pieces.specs.Pieces.{tokens_of_piece, size_of, Holds}
 use Rattle.list_pieces.specs.Rest.{Numbered}
 use Rattle.list_pieces.specs.PieceLaws.{Is, run_ends, not_raw}
 use Rattle.list_measure.specs.Numbers.{new_size, piece_bytes}
-use Rattle.list_measure.specs.SizeLaws.{within_bytes, within_next, target_moved, NamedSo, number_own, inner}
+use Rattle.list_measure.proofs.SizeLaws.{within_bytes, within_next, target_moved, NamedSo, number_own, inner}
 
 -- a token that begins a statement, and those after it
 begun_bytes : (new : List (List ℕ)) (t : Token) (w : List ℕ) → own_bytes new t ≡ w → (ts : List Token) (p : ℕ) → begins? t ≡ true → token_bytes new p (t ∷ ts) ≡ (suc p + length w + to_next new ts) ∷ (w ++ token_bytes new (suc p + length w) ts)

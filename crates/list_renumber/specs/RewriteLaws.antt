@@ -16,7 +16,7 @@ use Rattle.list_pieces.specs.declared.Piece.{Piece}
 use Rattle.list_pieces.specs.Pieces.{piece_at, size_of, end_after}
 use Rattle.list_measure.specs.Numbers.{new_size, piece_bytes, Passing}
 use Rattle.list_mark.specs.Walks.{tokens_at, none_past, stands_first}
-use Rattle.list_measure.specs.PassingLaws.{fits, passing_shorter, passing_step}
+use Rattle.list_measure.proofs.PassingLaws.{fits, passing_shorter, passing_step}
 use Rattle.list_renumber.specs.Lines.{Moving}
 use Rattle.list_renumber.specs.OverLaws.{passing_long, passing_bytes}
 

@@ -1,4 +1,6 @@
 // A line rewritten in place with the new numbers of its variables, or carried down as it is.
+#![tactic(auto)]
+
 ghost use Rattle.std.specs.Prelude.{◌+◌, ◌≤◌, ◌<◌, length, take, drop};
 ghost use Rattle.list_renumber.specs.Lines.{Movable, Rewritten, Portable, Carried};
 

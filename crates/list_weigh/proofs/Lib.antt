@@ -1,2 +1,4 @@
+pub mod Sums
+pub mod Bounds
 pub mod Walk
 pub mod LineLaws

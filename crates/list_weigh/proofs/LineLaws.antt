@@ -14,8 +14,8 @@ use Rattle.list_error.specs.ErrorLaws.{error_long, error_shown}
 use Rattle.list_weigh.specs.declared.Weight.{Weight}
 use Rattle.list_weigh.specs.declared.Weighing.TheVariants.{NotListable, Weighs}
 use Rattle.list_weigh.specs.Weights.{plus, head_weight, formed_weight, error_weight, line_weight, weighing, Small}
-use Rattle.list_weigh.specs.Sums.{same_weight, formed_columns, error_columns}
-use Rattle.list_weigh.specs.Bounds.{head_small}
+use Rattle.list_weigh.proofs.Sums.{same_weight, formed_columns, error_columns}
+use Rattle.list_weigh.proofs.Bounds.{head_small}
 
 -- the weight of an error line, as the code has it
 pub error_weighed : (l : List ℕ) (w : Weight) (k : ℕ) → error_line? l ≡ true → w ≡ head_weight l → k ≡ length (bytes "ERROR- " ++ error_text l)

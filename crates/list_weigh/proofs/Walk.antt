@@ -23,8 +23,8 @@ use Rattle.list_pieces.specs.WellFormed.{passes_whole}
 use Rattle.list_text.specs.Texts.{piece_text}
 use Rattle.list_weigh.specs.declared.Weight.{Weight}
 use Rattle.list_weigh.specs.Weights.{nothing, plus, tokens_weight, piece_weight, head_weight, formed_weight, Small}
-use Rattle.list_weigh.specs.Sums.{plus_assoc, plus_nothing, weight_append, piece_columns}
-use Rattle.list_weigh.specs.Bounds.{small_plus, piece_small, head_small}
+use Rattle.list_weigh.proofs.Sums.{plus_assoc, plus_nothing, weight_append, piece_columns}
+use Rattle.list_weigh.proofs.Bounds.{small_plus, piece_small, head_small}
 
 none_fails : (ns : List (List ℕ)) → Rest ns start 3 3 [] → ⊥
 unfolding tokens_from Takes start

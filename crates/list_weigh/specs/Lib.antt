@@ -1,3 +1,1 @@
 pub mod Weights
-pub mod Sums
-pub mod Bounds

@@ -1,4 +1,6 @@
 // What the bytes of a line are, and how long its listing is (document 02, §13): one walk over the pieces of a line that can be listed.
+#![tactic(auto)]
+
 ghost use Rattle.std.specs.Prelude.{◌≡◌, true, ◌≤◌, ◌^◌, length, take};
 ghost use Rattle.paper.specs.Line.{lawful_number?};
 ghost use Rattle.paper.specs.Names.{names_in};
@@ -13,7 +15,7 @@ use store::{GREATEST_NUMBER, heads};
 
 // What some bytes of a program weigh: how many bytes their listing has, and how many of them are in variable tokens, in numbers, in strings, in raw text and in
 // all else.
-#[derive(Drop)]
+#[derive(Clone, Copy)]
 pub struct Weight {
     pub listing: usize,
     pub variables: usize,
@@ -24,7 +26,7 @@ pub struct Weight {
 }
 
 // What weighing a line answers: that it cannot be listed, or its weight.
-#[derive(Drop)]
+#[derive(Clone, Copy)]
 pub enum Weighing {
     NotListable,
     Weighs(Weight),

@@ -1,4 +1,6 @@
 // Names as they lie in a table, and what a name may be.
+#![tactic(auto)]
+
 pub mod shape;
 pub mod table;
 

@@ -41,7 +41,7 @@ fn is_spelled(bytes: &[u8], front: &[u8], last: u8) -> bool
 }
 
 // A name among the names of a table: its number, or their count if it is none of them.
-#[derive(Drop)]
+#[derive(Clone, Copy)]
 pub struct Found {
     pub number: usize,
     pub known: bool,

@@ -1,4 +1,6 @@
 // The kinds of all names of a table, listed: the class of each as a variable, and whether it is a statement word.
+#![tactic(auto)]
+
 ghost use Rattle.std.specs.Prelude.{◌≡◌, [], ◌∷◌, ◌++◌, ◌≤◌};
 ghost use Rattle.std.proofs.lemmas.List.Edits.{sets};
 ghost use Rattle.paper.specs.Tokens.{class, variable};

@@ -1,4 +1,6 @@
 // The names that are marked stay, with their values: one walk over the name table and the values, in place.
+#![tactic(auto)]
+
 ghost use Rattle.std.specs.Prelude.{◌≡◌, ◌+◌, ◌-◌, ◌*◌, ◌≤◌, ◌<◌, length, drop};
 ghost use Rattle.std.proofs.lemmas.List.Edits.{sets};
 ghost use Rattle.paper.specs.Names.{most_names};
@@ -18,7 +20,7 @@ fn move_value(values: &mut [u8], to: usize, from: usize)
 }
 
 // How many bytes the names that stay have, and how many names they are.
-#[derive(Drop)]
+#[derive(Clone, Copy)]
 pub struct Left {
     pub name_bytes: usize,
     pub name_count: usize,

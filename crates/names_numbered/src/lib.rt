@@ -1,4 +1,6 @@
 // The name table and the value table: a name's number, new names, the rooms and the limit for them, and the name with a number.
+#![tactic(auto)]
+
 ghost use Rattle.std.specs.Prelude.{◌≡◌, true, [], ◌∷◌, ◌++◌, ◌+◌, ◌-◌, ◌*◌, ◌≤◌, ◌<◌, length, take, get_or};
 ghost use Rattle.std.proofs.lemmas.List.Edits.{sets};
 ghost use Rattle.paper.specs.Bytes.{pick, joined};
@@ -15,7 +17,7 @@ use tokens::class;
 // ---- the number of a name
 
 // A name's number, and how many bytes the names new in this line have with it.
-#[derive(Drop)]
+#[derive(Clone, Copy)]
 pub struct Numbered {
     pub number: usize,
     pub size: usize,
@@ -180,7 +182,7 @@ pub fn add(names: &mut [u8], size: usize, values: &mut [u8], count: usize, fresh
 // ---- the name with a number
 
 // Where a name begins in the table, where it ends less its `(`, and the class of the variable.
-#[derive(Drop)]
+#[derive(Clone, Copy)]
 pub struct Name {
     pub from: usize,
     pub end: usize,

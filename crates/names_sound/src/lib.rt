@@ -1,4 +1,6 @@
 // Whether a name table is sound, with room for its values: each name may stand in a table, and is there once.
+#![tactic(auto)]
+
 mod mark;
 
 ghost use Rattle.std.specs.Prelude.{◌≡◌, true, ◌&&◌, [], ◌∷◌, ◌++◌, ◌*◌, ◌<◌, leb, length};

@@ -1,5 +1,5 @@
 -- The store (document 01, "Tables"): lines end to end, in rising order of their numbers.
-use Rattle.std.specs.Prelude.{ℕ, zero, suc, pred, ◌+◌, ◌-◌, Bool, true, false, ◌&&◌, List, [], ◌∷◌, ◌++◌, leb, ltb, eqb, length, take, drop, get_or}
+use Rattle.std.specs.Prelude.{ℕ, zero, suc, pred, Bool, true, false, ◌&&◌, List, [], ◌∷◌, ◌++◌, leb, ltb, eqb, length, take, drop, get_or}
 use Rattle.paper.specs.Bytes.{pick, every}
 use Rattle.paper.specs.Line.{line_number, lawful_number?}
 

@@ -1,5 +1,5 @@
 -- Well-formed lines (document 01, "Items and grammar", its last paragraph).
-use Rattle.std.specs.Prelude.{ℕ, ◌≡◌, Bool, true, false, not, ◌&&◌, List, [], ◌∷◌, T, length}
+use Rattle.std.specs.Prelude.{ℕ, ◌≡◌, Bool, true, false, not, ◌&&◌, List, [], ◌∷◌, T}
 use Rattle.paper.specs.Bytes.{same, every}
 use Rattle.paper.specs.Words.{statement_word?}
 use Rattle.paper.specs.Tokens.{Token, statement, assigned, operator, variable, constant, string, raw, out_of_range, unreadable, as_read}

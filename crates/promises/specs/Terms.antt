@@ -1,5 +1,5 @@
 -- The terms in which the promises are stated.
-use Rattle.std.specs.Prelude.{ℕ, zero, ◌+◌, ◌*◌, ◌^◌, ◌≤◌, ◌<◌, ◌≡◌, Bool, false, not, ◌&&◌, ◌↔◌, ◌⊎◌, T, eqb, length, take, drop}
+use Rattle.std.specs.Prelude.{ℕ, ◌+◌, ◌*◌, ◌^◌, ◌≤◌, ◌<◌, ◌≡◌, Bool, false, not, ◌&&◌, ◌↔◌, ◌⊎◌, T, eqb, length, take, drop}
 use mathlib.Core.List.{List, [], ◌∷◌, ◌++◌, Memᴰ}
 use Rattle.paper.specs.Bytes.{pick, bytes, blank, every, joined, blank?, digit?, run}
 use Rattle.paper.specs.Tokens.{Token, out_of_range, out_of_range?}
@@ -8,7 +8,7 @@ use Rattle.paper.specs.Names.{most_names, sound_names, name_bytes, add_names, va
 use Rattle.paper.specs.Items.{Item, Span, span_of, no_span, size_at, items}
 use Rattle.paper.specs.Line.{line_bytes, line_number, lawful_number?, direct_number}
 use Rattle.paper.specs.WellFormed.{Lawful, Formed, WellFormed, WellFormedDirect}
-use Rattle.paper.specs.Listing.{decimal, listing}
+use Rattle.paper.specs.Listing.{decimal}
 use Rattle.paper.specs.Errors.{marked_at, error_line, keepable?, error_line?, line_listing}
 use Rattle.paper.specs.Store.{greatest_number, sound_lines, room, stored?, line_at, overwritten}
 use Rattle.paper.specs.Calls.{State, names_of, lines_of, sound_state, Entered, refusal, enter, Listed}

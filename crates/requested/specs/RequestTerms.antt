@@ -1,9 +1,8 @@
 -- The terms in which the promises about document 02 are stated, beside those of `promises`.
 use Rattle.std.specs.Prelude.{ℕ, zero, suc, ◌+◌, ◌-◌, ◌*◌, ◌≤◌, ◌<◌, ◌≡◌, Bool, not, ◌&&◌, ◌⊎◌, T, eqb, leb, length, take, drop, get_or}
 use mathlib.Core.List.{List, [], ◌∷◌, ◌++◌, map, Memᴰ}
-use Rattle.paper.specs.Bytes.{pick, bytes, every, joined}
+use Rattle.paper.specs.Bytes.{pick, every, joined}
 use Rattle.paper.specs.Tokens.{Token, assigned, variable}
-use Rattle.paper.specs.Constants.{value, five}
 use Rattle.paper.specs.Names.{names_in, sound_names, name_bytes, number_of}
 use Rattle.paper.specs.Items.{no_span, items, raw_byte?}
 use Rattle.paper.specs.Line.{line_number, direct_number, direct_number?, tokens_from, line_tokens}
@@ -11,7 +10,7 @@ use Rattle.paper.specs.WellFormed.{WellFormed}
 use Rattle.paper.specs.Listing.{listing}
 use Rattle.paper.specs.Errors.{error_line?, line_text, line_listing}
 use Rattle.paper.specs.Store.{sound_lines, room}
-use Rattle.paper.specs.Calls.{State, names_of, lines_of, sound_state, Entered, refusal, enter_with}
+use Rattle.paper.specs.Calls.{State, names_of, lines_of, sound_state, Entered, enter_with}
 use Rattle.paper.specs.Direct.{typed, line_in}
 use Rattle.paper.specs.Batch.{text_lines, answers_to, RefusedLine, none_refused, Batched, no_lines, batch}
 use Rattle.paper.specs.Examine.{Verdict, examine}

@@ -1,4 +1,6 @@
 // The store: lines end to end in a lent buffer, in rising order of their numbers.
+#![tactic(auto)]
+
 pub mod heads;
 
 ghost use Rattle.std.specs.Prelude.{◌≡◌, pred, T, take};
@@ -52,7 +54,7 @@ pub fn passing(rest: &[u8], least: usize, number: usize) -> usize
 }
 
 // How far a walk over lines has come: its offset, how many lines it has passed, and the least number that the next one may have.
-#[derive(Drop)]
+#[derive(Clone, Copy)]
 struct Walked {
     at: usize,
     lines: usize,
@@ -116,7 +118,7 @@ fn last_number(walk: Walked) -> usize
 }
 
 // What an editor's record keeps of a store: the bytes used, how many lines they are, and the greatest number of these, 0 if there is none.
-#[derive(Drop)]
+#[derive(Clone, Copy)]
 pub struct Counts {
     pub used: usize,
     pub lines: usize,
@@ -153,7 +155,7 @@ pub fn sound(store: &[u8], counts: Counts) -> bool
 }
 
 // Where the line with a number begins, or would begin; its size is 0 if it is not stored. And the number of the line before it, 0 if there is none.
-#[derive(Drop)]
+#[derive(Clone, Copy)]
 pub struct Place {
     pub number: usize,
     pub at: usize,
@@ -201,7 +203,7 @@ pub fn find_sound(store: &[u8], counts: Counts, number: usize) -> Place
 }
 
 // What a search of any store answers: that the store is unsound or the counts are not its own, or the place of the number.
-#[derive(Drop)]
+#[derive(Clone, Copy)]
 pub enum Found {
     Unsound,
     At(Place),
@@ -242,7 +244,7 @@ fn is_direct(line: &[u8]) -> bool
 }
 
 // What a walk over the lines of a saved program answers: that they are unsound, or what a record keeps of them.
-#[derive(Drop)]
+#[derive(Clone, Copy)]
 pub enum Program {
     Unsound,
     Sound(Counts),

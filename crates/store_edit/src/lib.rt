@@ -1,4 +1,6 @@
 // Lines put into a sound store, and taken out of one.
+#![tactic(auto)]
+
 ghost use Rattle.std.specs.Prelude.{◌≡◌, T, ltb, take};
 ghost use Rattle.paper.specs.Bytes.{pick};
 ghost use Rattle.paper.specs.Line.{line_number};
@@ -16,7 +18,7 @@ fn greater(a: usize, b: usize) -> usize
 }
 
 // What putting a line in answers: the counts afterwards, or that the store would pass its room.
-#[derive(Drop)]
+#[derive(Clone, Copy)]
 pub enum Stored {
     Done(Counts),
     NoRoom,
@@ -51,7 +53,7 @@ pub fn put_in(store: &mut [u8], counts: Counts, place: Place, line: &[u8]) -> St
 }
 
 // What taking a line out answers: the counts afterwards, or that there is no line with the number.
-#[derive(Drop)]
+#[derive(Clone, Copy)]
 pub enum Removed {
     Done(Counts),
     NotThere,

@@ -1,4 +1,6 @@
 // The calls for programs in C, over numbers and lent slices, as include/virgontey.h declares them.
+#![tactic(auto)]
+
 ghost use Rattle.paper.specs.Direct.{show};
 ghost use Rattle.paper.specs.Examine.{examine};
 ghost use Rattle.tag_terms.specs.Lent.{enter_by_counts, list_by_counts, batch_by_counts, save_by_counts, load_by_counts, collect_by_counts, Leaves, LeavesAll, Lists, Examines, Saves, Loads, Collects};

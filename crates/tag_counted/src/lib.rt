@@ -1,4 +1,6 @@
 // The calls over the counts of a lent record: each refuses a record that lacks one.
+#![tactic(auto)]
+
 ghost use Rattle.std.specs.Prelude.{◌≡◌};
 ghost use Rattle.editor_edit.specs.States.{typed_outcome};
 ghost use Rattle.editor_list.specs.Answers.{listed};

@@ -1,4 +1,6 @@
 // Numbers read from the slices that C lends, and written there.
+#![tactic(auto)]
+
 ghost use Rattle.std.specs.Prelude.{◌≡◌, [], ◌∷◌, get_or, set};
 ghost use Rattle.std.proofs.lemmas.List.Edits.{sets};
 ghost use Rattle.editor_examine.specs.Verdicts.{verdict};

@@ -1,5 +1,7 @@
 // Tokens: their numbers as named constants of three types, the class and the spelling of each, and the words and symbols that they
 // are read from.
+#![tactic(auto)]
+
 pub mod class;
 mod number;
 mod tables;
@@ -15,15 +17,15 @@ use buffers::lesser;
 use number::{function, operator, statement};
 
 // A token that begins a statement.
-#[derive(Drop)]
+#[derive(Clone, Copy)]
 pub struct StatementToken(pub u8);
 
 // A token of an operator, or one that says what bytes follow or that a line ends.
-#[derive(Drop)]
+#[derive(Clone, Copy)]
 pub struct OperatorToken(pub u8);
 
 // A token of a function.
-#[derive(Drop)]
+#[derive(Clone, Copy)]
 pub struct FunctionToken(pub u8);
 
 impl StatementToken {
@@ -295,21 +297,21 @@ pub const WORDS: [u8; 355] =
     CLOGSQRSGNABSINTPADDLESTICKPTRIGSTRIG";
 
 // What a search of a table gives: a token, or nothing.
-#[derive(Drop)]
+#[derive(Clone, Copy)]
 pub(crate) enum Found {
     Token(u8),
     Nothing,
 }
 
 // What a name is as a statement's word.
-#[derive(Drop)]
+#[derive(Clone, Copy)]
 pub enum Statement {
     Word(StatementToken),
     Nothing,
 }
 
 // What a name is as a word operator or function.
-#[derive(Drop)]
+#[derive(Clone, Copy)]
 pub enum Reserved {
     Operator(OperatorToken),
     Function(FunctionToken),
@@ -317,7 +319,7 @@ pub enum Reserved {
 }
 
 // A symbol at two bytes: of both, of the first, or none.
-#[derive(Drop)]
+#[derive(Clone, Copy)]
 pub enum Symbol {
     Two(OperatorToken),
     One(OperatorToken),
@@ -325,14 +327,14 @@ pub enum Symbol {
 }
 
 // Where a spelling stands: among the fixed words or in the name table.
-#[derive(Drop)]
+#[derive(Clone, Copy)]
 pub enum Source {
     Fixed,
     Names,
 }
 
 // A part of one of two slices.
-#[derive(Drop)]
+#[derive(Clone, Copy)]
 pub struct Part {
     pub source: Source,
     pub from: usize,

@@ -1,0 +1,15 @@
+-- `plain` meets its contract: no digits before the point, and some.
+use native.Mathlib.Omega.{arith}
+use Prim.Native.Nat.{◌*◌, ◌-◌}
+use mathlib.Core.Path.{refl}
+use lib.ListN.{get_or}
+use Rattle.constant_text.specs.Texts.{digits_here}
+use Rattle.constant_text.proofs.TextDigits.{ten_here}
+use Rattle.constant_text.proofs.TextShapes.{shaped_plain, plain_none, plain_some, zeros_most}
+use Rattle.constant_text.proofs.texts.plain.Goals as goal
+
+pub returns-then-point-eq0 : goal.returns-then-point-eq0
+returns-then-point-eq0 c = let a = c.args in shaped_plain a.s.now a.at a.first _ 0 _ c.requires.2 c.requires.0 c.requires.1 refl (omega arith) (plain_none (digits_here a.s.now a.at) _ c.if-point-eq0.true) c.last-end.ensures
+
+pub returns : goal.returns
+returns c = let a = c.args in shaped_plain a.s.now a.at a.first _ c.skipped.result _ c.requires.2 c.requires.0 c.requires.1 refl (omega (arith, zeros_most (get_or (digits_here a.s.now a.at) 0 48) c.skipped.result c.skipped.ensures)) (plain_some (digits_here a.s.now a.at) (2 * (a.first - 63)) c.skipped.result (ten_here a.s.now a.at) (omega arith) (omega arith) c.skipped.ensures) c.last-end.ensures

@@ -1,0 +1,13 @@
+-- One verdict: two that satisfy the same contract are equal.
+use Rattle.std.specs.Prelude.{◌≡◌, refl}
+use Rattle.std.proofs.Common.{sym, ap, ◌∙◌}
+use Rattle.paper.specs.Examine.{yes, unsound_names, unsound_values, unsound_store, bad_line}
+use Rattle.paper.specs.Examine.{Verdict as Answer}
+use Rattle.editor_examine.specs.declared.Verdict.{Verdict}
+use Rattle.editor_examine.specs.declared.Verdict.TheVariants as Verdict'
+use Rattle.editor_examine.specs.Verdicts.{verdict}
+use Rattle.editor_examine.specs.Tight.{told, told_back}
+
+-- v is the answer that the contract gives
+pub one_verdict : (v : Answer) (r r' : Verdict) → verdict r ≡ v → verdict r' ≡ v → r ≡ r'
+one_verdict v r r' h k = sym (told_back r) ∙ ap told (h ∙ sym k) ∙ told_back r'

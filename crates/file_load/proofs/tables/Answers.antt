@@ -1,0 +1,34 @@
+use mathlib.Core.Path.{ap₂}
+use Prim.Native.Nat.{ℕ, ◌-◌}
+use Rattle.file_load.specs.TableLaws.{within, refused_uneven, refused_names, refused_lines, held}
+use native.Mathlib.Omega.{arith}
+use Rattle.file_load.specs.TableLaws.{within, refused_uneven}
+use Rattle.file_load.specs.WordLaws.{right}
+use Rattle.file_load.proofs.tables.Goals as goal
+
+pub overflow_sub-name_bytes : goal.overflow_sub-name_bytes
+overflow_sub-name_bytes c = omega (arith, (right c.args.file.now c.requires.1).rise.names, c.word.ensures.0, c.word-2.ensures.0)
+
+pub overflow_sub-value_bytes : goal.overflow_sub-value_bytes
+overflow_sub-value_bytes c = omega (arith, (right c.args.file.now c.requires.1).rise.values, c.word-3.ensures.0, c.word-4.ensures.0)
+
+pub returns-then-value_bytes-name_count : goal.returns-then-value_bytes-name_count
+returns-then-value_bytes-name_count c = refused_uneven c.args.file.now (right c.args.file.now c.requires.1) (c.word.result - c.word-2.result) (c.word-3.result - c.word-4.result) (ap₂ (λ (x y : ℕ). x - y) c.word.ensures.0 c.word-2.ensures.0) (ap₂ (λ (x y : ℕ). x - y) c.word-3.ensures.0 c.word-4.ensures.0) c.if-value_bytes-name_count.true
+
+pub slice_bounds-sound-end : goal.slice_bounds-sound-end
+slice_bounds-sound-end c = omega (arith, within c.args.file.now (right c.args.file.now c.requires.1) c.requires.0, c.word.ensures.0, c.word-2.ensures.0)
+
+pub returns-then-not-sound : goal.returns-then-not-sound
+returns-then-not-sound c = refused_names c.args.file.now (right c.args.file.now c.requires.1) (c.word.result - c.word-2.result) (c.word-3.result - c.word-4.result) (ap₂ (λ (x y : ℕ). x - y) c.word.ensures.0 c.word-2.ensures.0) (ap₂ (λ (x y : ℕ). x - y) c.word-3.ensures.0 c.word-4.ensures.0) c.if-value_bytes-name_count.false _ c.sound.ensures (c.if-not-sound.true)
+
+pub slice_bounds-program_counts-count : goal.slice_bounds-program_counts-count
+slice_bounds-program_counts-count c = omega (arith, within c.args.file.now (right c.args.file.now c.requires.1) c.requires.0, c.word.ensures.0, c.word-2.ensures.0, c.word-3.ensures.0, c.word-4.ensures.0)
+
+pub slice_bounds-program_counts-start : goal.slice_bounds-program_counts-start
+slice_bounds-program_counts-start c = omega (arith, within c.args.file.now (right c.args.file.now c.requires.1) c.requires.0, c.word.ensures.0, c.word-2.ensures.0, c.word-3.ensures.0, c.word-4.ensures.0)
+
+pub returns-in-Unsound : goal.returns-in-Unsound
+returns-in-Unsound c = refused_lines c.args.file.now (right c.args.file.now c.requires.1) (c.word.result - c.word-2.result) (c.word-3.result - c.word-4.result) (ap₂ (λ (x y : ℕ). x - y) c.word.ensures.0 c.word-2.ensures.0) (ap₂ (λ (x y : ℕ). x - y) c.word-3.ensures.0 c.word-4.ensures.0) c.if-value_bytes-name_count.false _ c.sound.ensures _ c.program_counts.ensures c.in-Unsound.is
+
+pub returns-in-Sound : goal.returns-in-Sound
+returns-in-Sound c = held c.args.file.now (right c.args.file.now c.requires.1) (c.word.result - c.word-2.result) (c.word-3.result - c.word-4.result) (ap₂ (λ (x y : ℕ). x - y) c.word.ensures.0 c.word-2.ensures.0) (ap₂ (λ (x y : ℕ). x - y) c.word-3.ensures.0 c.word-4.ensures.0) c.if-value_bytes-name_count.false _ c.sound.ensures _ c.program_counts.ensures (c.if-not-sound.false) c.in-Sound.counts c.in-Sound.is

@@ -1,0 +1,9 @@
+pub mod ViableGrammar
+pub mod PlaceGrammar
+pub mod Closed
+pub mod WordReads
+pub mod NameReads
+pub mod Reading
+pub mod Shaped
+pub mod RoundTrip
+pub mod WellFormedTest
