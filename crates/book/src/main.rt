@@ -8,9 +8,12 @@
 // L       after each B: the listing of that line
 // N       the used bytes of the name table, where a program ends
 // bad     a row without a tab, or one longer than any example
+#![tactic(auto)]
+
 use buffers::{Run, copy, front, run_end};
 use console::{field_end, next_line, number_in, print, print_bytes, print_number, whole};
 use editor_edit::{Editor, store_counts};
+use std::io::Stdin;
 use store::Found;
 
 // The longest row that is kept.
@@ -148,6 +151,7 @@ fn take_row(
 // Takes every row of the input, and returns the last program. A proved loop has to end, and nothing says that the input does: so it counts its
 // turns down from a number that no run uses up.
 fn take_all(
+    stdin: Stdin,
     buffer: &mut [u8],
     row: &mut [u8],
     source: &mut [u8],
@@ -159,7 +163,7 @@ fn take_all(
     let mut input = console::start();
     let mut turns = u64::MAX;
     while turns > 0 {
-        let next = next_line(input, buffer, row);
+        let next = next_line(input, stdin, buffer, row);
         if !next.there {
             return program;
         }
@@ -179,6 +183,7 @@ fn take_all(
 
 // Takes every row of the input and ends the last program.
 fn run(
+    stdin: Stdin,
     buffer: &mut [u8],
     row: &mut [u8],
     source: &mut [u8],
@@ -186,11 +191,11 @@ fn run(
     values: &mut [u8],
     store: &mut [u8],
 ) {
-    let last = take_all(buffer, row, source, names, values, store);
+    let last = take_all(stdin, buffer, row, source, names, values, store);
     end(last, names);
 }
 
-fn main() {
+fn main(rt: HostRuntime) {
     let mut buffer = io::buffer();
     let mut row = [0u8; LONGEST];
     let mut source = [0u8; LONGEST];
@@ -198,6 +203,7 @@ fn main() {
     let mut values = [0u8; 2048];
     let mut store = [0u8; 32768];
     run(
+        rt.stdin(),
         &mut buffer,
         &mut row,
         &mut source,

@@ -1,4 +1,6 @@
 // The program of calls: reads calls from standard input, one a line, and answers each on a line of standard output before it needs the next.
+#![tactic(auto)]
+
 mod fields;
 
 ghost use Rattle.io.specs.Counts.{IsPrefixLen};
@@ -7,6 +9,7 @@ use buffers::{front, lesser};
 use console::{next_line, print, whole};
 use editor_edit::Editor;
 use fields::{bytes_field, ends, number_field, switch_field};
+use std::io::Stdin;
 
 // The longest line that is kept: more than any call has, unless its numbers begin with thousands of zeros.
 const LONGEST: usize = 310000;
@@ -594,6 +597,7 @@ fn answer(
 // Answers every line of the input. A proved loop has to end, and nothing says that the input does: so it counts its turns down from a number
 // that no run uses up.
 fn answer_all(
+    stdin: Stdin,
     buffer: &mut [u8],
     line: &mut [u8],
     text: &mut [u8],
@@ -606,7 +610,7 @@ fn answer_all(
     let mut input = console::start();
     let mut turns = u64::MAX;
     while turns > 0 {
-        let next = next_line(input, buffer, line);
+        let next = next_line(input, stdin, buffer, line);
         if !next.there {
             return;
         }
@@ -624,7 +628,7 @@ fn answer_all(
     }
 }
 
-fn main() {
+fn main(rt: HostRuntime) {
     let mut buffer = io::large_buffer();
     let mut line = [0u8; LONGEST];
     let mut text = [0u8; 70000];
@@ -634,6 +638,7 @@ fn main() {
     let mut direct = [0u8; 4096];
     let mut out = [0u8; 65536];
     answer_all(
+        rt.stdin(),
         &mut buffer,
         &mut line,
         &mut text,

@@ -1,5 +1,7 @@
 // The collector: reads a saved program file on standard input, takes back the names that no line uses, and writes the file of the program that is left to standard output. On
 // standard error the last line says how it went.
+#![tactic(auto)]
+
 use buffers::front;
 use console::{KEPT_FILE, print, tell, tell_field};
 use editor_edit::{Editor, empty};

@@ -5,7 +5,7 @@ ghost use Rattle.console.specs.Numbers.{number_of};
 ghost use Rattle.console.specs.Fields.{unmarked, all_or_none};
 
 use buffers::{Run, TOO_GREAT, byte_at, decimal, front, put, run_end};
-use libc::STDIN_FILENO;
+use std::io::{Read, Stdin};
 
 // The longest text of a line that is kept to be entered: one byte more than may be entered, so that any longer line is refused as such.
 pub const KEPT: usize = 121;
@@ -13,20 +13,23 @@ pub const KEPT: usize = 121;
 // The longest file that is kept: longer than any that is not refused, so that any longer one is refused as such.
 pub const KEPT_FILE: usize = 65550;
 
+// The file descriptor of standard input.
+const STANDARD_INPUT: i32 = 0;
+
 // Reads a file on standard input to the front of a buffer, as much as that has room for, and says how many bytes it has there.
 pub fn read_file(file: &mut [u8]) -> usize {
-    io::read_full(STDIN_FILENO, file)
+    io::read_full(STANDARD_INPUT, file)
 }
 
 // Standard input between two lines: the bytes of a buffer from `at` to `end` are read and not yet taken.
-#[derive(Drop)]
+#[derive(Clone, Copy)]
 pub struct Input {
     pub at: usize,
     pub end: usize,
 }
 
 // A line of input: whether there is one, how many bytes it has without its 0A, and the input after it.
-#[derive(Drop)]
+#[derive(Clone, Copy)]
 pub struct Line {
     pub there: bool,
     pub length: usize,
@@ -40,14 +43,23 @@ pub fn start() -> Input
     Input { at: 0, end: 0 }
 }
 
+// Reads standard input once into a buffer, and says how many bytes came: none where it is at its end, and where the read failed.
+fn read_some(mut stdin: Stdin, buffer: &mut [u8]) -> usize {
+    match stdin.read(buffer) {
+        Ok(count) => count,
+        Err(_) => 0,
+    }
+}
+
 // The input with a byte to take, which is read if there is none; at the input's end, with none.
-fn filled(input: Input, buffer: &mut [u8]) -> Input {
+fn filled(input: Input, stdin: Stdin, buffer: &mut [u8]) -> Input {
     if input.at < input.end {
         return input;
     }
-    let got = libc::read(STDIN_FILENO, buffer);
-    let end = io::count(got, buffer);
-    Input { at: 0, end }
+    Input {
+        at: 0,
+        end: read_some(stdin, buffer),
+    }
 }
 
 // The length of a line with one byte more, which is kept if the line's buffer has room for it.
@@ -61,7 +73,7 @@ fn longer(length: usize, b: u8, line: &mut [u8]) -> usize {
 }
 
 // What was taken of a line: whether 0A closed it, how many bytes it has so far, and the place after them in the buffer.
-#[derive(Drop)]
+#[derive(Clone, Copy)]
 struct Taken {
     closed: bool,
     length: usize,
@@ -95,12 +107,12 @@ fn take_bytes(input: Input, buffer: &[u8], start: usize, line: &mut [u8]) -> Tak
 // The next line of the input. Its first bytes are kept in `line`, as many as that has room for. 0A closes a line, and so does the input's end
 // after at least one byte. A proved loop has to end, and nothing says that the input does: so it counts its turns down from a number that no
 // run uses up.
-pub fn next_line(from: Input, buffer: &mut [u8], line: &mut [u8]) -> Line {
+pub fn next_line(from: Input, stdin: Stdin, buffer: &mut [u8], line: &mut [u8]) -> Line {
     let mut input = from;
     let mut length: usize = 0;
     let mut turns = u64::MAX;
     while turns > 0 {
-        let full = filled(input, buffer);
+        let full = filled(input, stdin, buffer);
         let end = full.end;
         if end == 0 {
             return Line {

@@ -1,4 +1,6 @@
 // What the programs share: a file, or lines parted into fields, taken from standard input, numbers read from digits, and numbers and bytes printed on standard output.
+#![tactic(auto)]
+
 mod input;
 mod output;
 

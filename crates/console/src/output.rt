@@ -2,16 +2,20 @@
 ghost use Rattle.std.specs.Prelude.{◌≤◌, length};
 
 use buffers::{front, lesser, put};
-use libc::{STDERR_FILENO, STDOUT_FILENO};
+
+// The file descriptors of standard output and standard error.
+const STANDARD_OUTPUT: i32 = 1;
+
+const STANDARD_ERROR: i32 = 2;
 
 // Prints bytes as they are.
 pub fn print(text: &[u8]) {
-    io::write_all(STDOUT_FILENO, text);
+    io::write_all(STANDARD_OUTPUT, text);
 }
 
 // Prints a number in decimal.
 pub fn print_number(n: usize) {
-    io::print_decimal(STDOUT_FILENO, n as u64);
+    io::print_decimal(STANDARD_OUTPUT, n as u64);
 }
 
 // Prints a tab and a number in decimal.
@@ -22,13 +26,13 @@ pub fn print_field(n: usize) {
 
 // Writes bytes as they are to standard error.
 pub fn tell(text: &[u8]) {
-    io::write_all(STDERR_FILENO, text);
+    io::write_all(STANDARD_ERROR, text);
 }
 
 // Writes a tab and a number in decimal to standard error.
 pub fn tell_field(n: usize) {
     tell(b"\t");
-    io::print_decimal(STDERR_FILENO, n as u64);
+    io::print_decimal(STANDARD_ERROR, n as u64);
 }
 
 // The last hexadecimal digit of a number.

@@ -1,14 +1,17 @@
 // The desk program: enters each line of standard input and prints what each call answered, and then the listing of every stored line.
+#![tactic(auto)]
+
 ghost use Rattle.std.specs.Prelude.{◌≤◌, ◌<◌, ◌≡◌, true, length};
 
 use buffers::{front, lesser};
 use console::{Input, KEPT, next_line, print, print_field};
 use editor_edit::{Editor, empty};
 use editor_lent::{Answer, enter_lent, list_lent};
+use std::io::Stdin;
 use store::heads;
 
 // A line of input to enter: whether there is one, its number among the lines, how many of its bytes are kept, and the input after it.
-#[derive(Drop)]
+#[derive(Clone, Copy)]
 struct Turn {
     there: bool,
     count: usize,
@@ -27,10 +30,10 @@ fn first() -> Turn {
 }
 
 // The next line of input, its kept bytes at the front of a buffer.
-fn next(turn: Turn, buffer: &mut [u8], text: &mut [u8]) -> Turn
+fn next(turn: Turn, stdin: Stdin, buffer: &mut [u8], text: &mut [u8]) -> Turn
     ensures { (result.length ≤ length text.old) × (result.there ≡ true → turn.count < result.count) }
 {
-    let line = next_line(turn.input, buffer, text);
+    let line = next_line(turn.input, stdin, buffer, text);
     let count = turn.count;
     let length = lesser(line.length, text.len());
     let input = line.input;
@@ -67,6 +70,7 @@ fn print_entered(turn: Turn, answer: Answer, record: Editor) {
 // Enters every line of the input over empty tables and an empty store, with a line buffer for lines without a number. The desk's one record is made here and lent to each call, and is
 // returned at the end.
 fn enter_all(
+    stdin: Stdin,
     buffer: &mut [u8],
     text: &mut [u8],
     names: &mut [u8],
@@ -77,7 +81,7 @@ fn enter_all(
     let mut record = empty();
     let mut turn = first();
     loop {
-        turn = next(turn, buffer, text);
+        turn = next(turn, stdin, buffer, text);
         if turn.there {
             let answer = enter_lent(
                 &text[..turn.length],
@@ -96,7 +100,7 @@ fn enter_all(
 }
 
 // A stored line to list: whether there is one, its number, and the place after it.
-#[derive(Drop)]
+#[derive(Clone, Copy)]
 struct Stored {
     there: bool,
     number: usize,
@@ -157,6 +161,7 @@ fn list_all(names: &[u8], values: &[u8], store: &[u8], out: &mut [u8], record: E
 
 // Enters all input and lists what is stored then.
 fn run(
+    stdin: Stdin,
     buffer: &mut [u8],
     text: &mut [u8],
     names: &mut [u8],
@@ -165,11 +170,11 @@ fn run(
     line: &mut [u8],
     out: &mut [u8],
 ) {
-    let record = enter_all(buffer, text, names, values, store, line);
+    let record = enter_all(stdin, buffer, text, names, values, store, line);
     list_all(names, values, store, out, record);
 }
 
-fn main() {
+fn main(rt: HostRuntime) {
     let mut buffer = io::buffer();
     let mut text = [0u8; KEPT];
     let mut names = [0u8; 2048];
@@ -178,6 +183,7 @@ fn main() {
     let mut line = [0u8; 255];
     let mut out = [0u8; 1024];
     run(
+        rt.stdin(),
         &mut buffer,
         &mut text,
         &mut names,

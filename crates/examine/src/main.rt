@@ -1,5 +1,7 @@
 // The examiner: reads a saved program file on standard input, and prints on standard output whether a tag can take it: `yes`; or what is wrong first: `refused` and
 // the number 12 or 13; `names`, `values` or `store`, whichever is unsound; `line` and its number.
+#![tactic(auto)]
+
 use buffers::front;
 use console::{KEPT_FILE, print, print_field};
 use editor_examine::Verdict;

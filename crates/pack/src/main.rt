@@ -1,9 +1,12 @@
 // The packer: enters the lines of a listing on standard input over an empty program, and writes the program's file to standard output. On standard error a line
 // for each refused line says which it is, the number, and the place with its end; the last line says how it went.
+#![tactic(auto)]
+
 use buffers::front;
 use console::{KEPT, next_line, print, tell, tell_field};
 use editor_edit::{Editor, empty};
 use file_save::Saved;
+use std::io::Stdin;
 
 // Enters a line, which is the one with this number in the input, and tells of a refusal. No line buffer is lent, so that a line without a number is refused.
 fn enter_line(
@@ -29,6 +32,7 @@ fn enter_line(
 
 // Enters every line of the input over empty tables and an empty store; the record afterwards.
 fn enter_all(
+    stdin: Stdin,
     buffer: &mut [u8],
     text: &mut [u8],
     names: &mut [u8],
@@ -39,7 +43,7 @@ fn enter_all(
     let mut input = console::start();
     let mut count: usize = 0;
     while count < usize::MAX {
-        let line = next_line(input, buffer, text);
+        let line = next_line(input, stdin, buffer, text);
         if !line.there {
             return record;
         }
@@ -69,6 +73,7 @@ fn tell_saved(r: Saved, record: Editor) {
 
 // Enters all input, and writes the file of what is stored then.
 fn run(
+    stdin: Stdin,
     buffer: &mut [u8],
     text: &mut [u8],
     names: &mut [u8],
@@ -76,13 +81,13 @@ fn run(
     store: &mut [u8],
     file: &mut [u8],
 ) {
-    let record = enter_all(buffer, text, names, values, store);
+    let record = enter_all(stdin, buffer, text, names, values, store);
     let r = file_save::save(names, values, store, record, file);
     print(front(file, r.written));
     tell_saved(r, record);
 }
 
-fn main() {
+fn main(rt: HostRuntime) {
     let mut buffer = io::buffer();
     let mut text = [0u8; KEPT];
     let mut names = [0u8; 32768];
@@ -90,6 +95,7 @@ fn main() {
     let mut store = [0u8; 65535];
     let mut file = [0u8; 65549];
     run(
+        rt.stdin(),
         &mut buffer,
         &mut text,
         &mut names,

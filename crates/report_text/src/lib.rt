@@ -1,4 +1,6 @@
 // The lines of the report (document 02, §13) as bytes: numbers after tabs, a program's line and the last one.
+#![tactic(auto)]
+
 ghost use Rattle.std.specs.Prelude.{◌≡◌, ◌≤◌, ◌+◌, ◌^◌, length, drop};
 ghost use Rattle.paper.specs.Listing.{decimal};
 ghost use Rattle.paper.specs.Weigh.{field, columns_text, report_line, total_line};

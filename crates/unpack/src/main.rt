@@ -1,5 +1,7 @@
 // The unpacker: reads a saved program file on standard input, and prints the listing of its program on standard output. On standard error a line for each stored
 // line that cannot be listed says its number and the refusal; the last line says how it went.
+#![tactic(auto)]
+
 use buffers::{front, lesser};
 use console::{KEPT_FILE, print, tell, tell_field};
 use editor_edit::{Editor, empty};
