@@ -15,14 +15,14 @@ def text(name):
 
 def numbers(text):
     """The named numbers of a file's text: name -> number."""
-    return {m[1]: int(m[2], 0) for m in re.finditer(r"^([\w-]+) = (\d\w*)$", text, re.M)}
+    return {m[1]: int(m[2], 0) for m in re.finditer(r"^(\w+) = (\d\w*)$", text, re.M)}
 
 
 class Definitions:
     """The definitions of a file, to be read as lists."""
 
     def __init__(self, name):
-        found = re.findall(r"^(?:unfoldable )?pub ([\w-]+) : [^\n]*\n\1([^\n]*?) =(.*?)(?:\n\n|\Z)", text(name), re.M | re.S)
+        found = re.findall(r"^(?:unfoldable )?pub (\w+) : [^\n]*\n\1([^\n]*?) =(.*?)(?:\n\n|\Z)", text(name), re.M | re.S)
         self.of = {head: (parameters.split(), body) for head, parameters, body in found}
 
     def value(self, head, *arguments):
@@ -63,7 +63,7 @@ class Definitions:
 
 
 CLASSES, FRAMES = numbers(text("Classes")), numbers(text("Frames"))
-EMPTY = Definitions("Grammar").value("may-be-empty")
+EMPTY = Definitions("Grammar").value("may_be_empty")
 ROWS = Definitions("Grammar").value("grammar")
 # what each frame takes: class -> the row's wants, and what it gives
 TAKES = {f: {r.class_: (tuple(r.wants), r.gives) for r in ROWS if r.frame == f} for f in FRAMES}
@@ -108,7 +108,7 @@ def heads():
     def under(frames, lasts):
         return next(({word[f][0]} for f in frames if word[f]), lasts)
 
-    found = grown({f: {"none"} if f == "want-statement" else set() for f in FRAMES}, under)
+    found = grown({f: {"none"} if f == "want_statement" else set() for f in FRAMES}, under)
     for f in EMPTY:
         assert not found[f] & {"none", *TAKES[f]}, ("a frame that may be empty takes what comes after it", f)
     return found

@@ -16,7 +16,7 @@ EACH_ANSWER = 9
 EACH_DIRECT = 3  # of texts without a number, and of `show`
 DISAGREEING = 4
 
-STATEMENTS, OPERATORS = ({w.spelling: w.class_ for w in table} for table in (grammar.words("statements"), grammar.words("functions") + grammar.words("read-operators")))
+STATEMENTS, OPERATORS = ({w.spelling: w.class_ for w in table} for table in (grammar.words("statements"), grammar.words("functions") + grammar.words("read_operators")))
 
 
 def classes(text):
@@ -25,7 +25,7 @@ def classes(text):
     while True:
         rest = rest.lstrip(" ")
         if not rest:
-            return out + ["line-end"]
+            return out + ["line_end"]
         name = re.match(r"[A-Z][A-Z0-9]*\$?", rest)
         number = re.match(r"(\d+\.?\d*|\.\d+)(E[+-]?\d\d?)?", rest)
         string = re.match('"[^"\x9b]*"', rest)
@@ -38,25 +38,25 @@ def classes(text):
                 of = OPERATORS[word]
             else:
                 kind = "string" if word[-1] == "$" else "array" if rest[:1] == "(" else "numeric"
-                of = "first-" + kind if first else kind if kind == "array" else kind + "-variable"
+                of = "first_" + kind if first else kind if kind == "array" else kind + "_variable"
             if of == "remark":
-                return out + [of, "raw-text", "raw-end"]
+                return out + [of, "raw_text", "raw_end"]
         elif number:
             rest, of = rest[number.end() :], "number"
         elif string:
             rest, of = rest[string.end() :], "quoted"
         elif first and rest[0] == "?":
-            rest, of = rest[1:], "print-word"
+            rest, of = rest[1:], "print_word"
         else:
             symbol = rest[:2] if rest[:2] in OPERATORS else rest[:1]
             rest, of = rest[len(symbol) :], OPERATORS.get(symbol, "unfit")
         out.append(of)
-        first = of in ("colon", "then-word")
+        first = of in ("colon", "then_word")
 
 
 def rows_used(text):
     """The rows of the grammar that the reading of an accepted text uses."""
-    stack, used = ["want-statement"], set()
+    stack, used = ["want_statement"], set()
     for of in classes(text):
         while (stack[0], of) not in TABLE:
             assert stack[0] in grammar.EMPTY, (text, stack, of)
@@ -172,18 +172,16 @@ def row(call):
 FILE = "crates/recorded/specs/Recorded.antt"
 GROUP = 20
 HEAD = """-- Recorded calls, on which two implementations by different hands agree, as a table that `typed`, `list` and `show` meet. (Made by scripts/recorded.py.)
-use Prim.Native.Nat.{ℕ}
+use Rattle.std.specs.Prelude.{ℕ, ◌≡◌, refl, List, [], ◌∷◌}
 use Prim.Native.String.{String}
-use mathlib.Core.Path.{_≡_, refl}
-use mathlib.Core.List.{List, [], _∷_}
-use Rattle·paper.specs.Hex.{hex}
-use Rattle·paper.specs.Calls.{State}
-use Rattle·paper.specs.Open.{everything}
-use Rattle·cases.specs.Answers.{Call, types, lists, shows, same-state, meets, failing}
+use Rattle.paper.specs.Hex.{hex}
+use Rattle.paper.specs.Calls.{State}
+use Rattle.paper.specs.Open.{everything}
+use Rattle.cases.specs.Answers.{Call, types, lists, shows, same_state, meets, failing}
 
 -- names, their bytes and count, values, store, the bytes used, the count of lines and the greatest number; all bytes in hexadecimal
 unfoldable pub state : String → ℕ → ℕ → String → String → ℕ → ℕ → ℕ → State
-state ns nb nc vs st u l g = record { names = hex ns; name-size = nb; name-count = nc; values = hex vs; store = hex st; used = u; line-count = l; greatest = g }
+state ns nb nc vs st u l g = record { names = hex ns; name_size = nb; name_count = nc; values = hex vs; store = hex st; used = u; line_count = l; greatest = g }
 """
 
 
@@ -192,8 +190,8 @@ def main():
     out = HEAD
     for i in range(0, len(table), GROUP):
         n = i // GROUP
-        out += f"\nunfoldable pub calls-{n} : List Call\ncalls-{n} =\n    " + "\n    ∷ ".join(table[i : i + GROUP]) + "\n    ∷ []\n"
-        out += f"\npub agree-{n} : failing {i} calls-{n} ≡ []\nunfolding everything state same-state meets failing calls-{n}\nagree-{n} = refl\n"
+        out += f"\nunfoldable pub calls_{n} : List Call\ncalls_{n} =\n    " + "\n    ∷ ".join(table[i : i + GROUP]) + "\n    ∷ []\n"
+        out += f"\npub agree_{n} : failing {i} calls_{n} ≡ []\nunfolding everything state same_state meets failing calls_{n}\nagree_{n} = refl\n"
     open(FILE, "w").write(out)
     print(len(table), "calls")
 

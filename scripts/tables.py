@@ -15,12 +15,12 @@ MADE_BY = "Made by scripts/tables.py."
 
 def plain(name):
     """The name of a frame or class in words."""
-    return name.removeprefix("want-").replace("-", " ")
+    return name.removeprefix("want_").replace("_", " ")
 
 
 def constant(name):
     """The name of a frame or class as a constant's."""
-    return name.removeprefix("want-").replace("-", "_").upper()
+    return name.removeprefix("want_").upper()
 
 
 def consed(items):
@@ -40,11 +40,11 @@ def opened():
     files = "Bytes Words Tokens Constants Names Items Machine Grammar Line WellFormed Listing Errors Store Calls Direct Batch Examine Files Collect Weigh Hex".split()
     out = f"-- Bundles: to unfold one is to unfold all that its line names. For proofs that compute. ({MADE_BY})\n"
     for f in files:
-        out += f"use Rattle·paper·specs.specs.{f} as {f}′\n"
+        out += f"use Rattle.paper.specs.{f} as {f}'\n"
     for f in files:
         names = re.findall(r"^ *unfoldable pub (\S+)", text(f), re.M)
-        out += f"\nunfoldable pub all-{f} : Unit {{0}}\nunfolding " + " ".join(f"{f}′.{n}" for n in names) + f"\nall-{f} = tt\n"
-    return out + "\nunfoldable pub everything : Unit {0}\nunfolding " + " ".join("all-" + f for f in files) + "\neverything = tt\n"
+        out += f"\nunfoldable pub all_{f} : Unit {{0}}\nunfolding " + " ".join(f"{f}'.{n}" for n in names) + f"\nall_{f} = tt\n"
+    return out + "\nunfoldable pub everything : Unit {0}\nunfolding " + " ".join("all_" + f for f in files) + "\neverything = tt\n"
 
 
 # ---- laws: Counts
@@ -52,19 +52,19 @@ def opened():
 
 def counts():
     return f"""-- How many there are. ({MADE_BY})
-use Prim.Native.Nat.{{ℕ}}
+use Rattle.std.specs.Prelude.{{ℕ}}
 
 -- classes of items
-abbrev pub class-count : ℕ
-class-count = {len(CLASSES)}
+abbrev pub class_count : ℕ
+class_count = {len(CLASSES)}
 
 -- frames
-abbrev pub frame-count : ℕ
-frame-count = {len(FRAMES)}
+abbrev pub frame_count : ℕ
+frame_count = {len(FRAMES)}
 """
 
 
-# ---- grounds: FrameTables, WordReads
+# ---- grounds: FrameTables, and the proofs WordReads
 
 
 def frame_tables():
@@ -75,11 +75,9 @@ def frame_tables():
 
     used = {c for f in FRAMES for c in [*TAKES[f], *after[f], *completion[f], *head[f]]} - {"none"}
     return f"""-- For each frame, in the order of their numbers, what the tests over the grammar need. ({MADE_BY})
-use Prim.Native.Nat.{{ℕ}}
-use mathlib.Core.List.{{List, [], _∷_}}
-use lib.ListN.{{getD}}
-use Rattle·paper.specs.Classes.{{{", ".join(c for c in CLASSES if c in used)}}}
-use Rattle·grounds·specs.specs.Viable.{{Info, none}}
+use Rattle.std.specs.Prelude.{{ℕ, List, [], ◌∷◌, get_or}}
+use Rattle.paper.specs.Classes.{{{", ".join(c for c in CLASSES if c in used)}}}
+use Rattle.grounds.specs.Viable.{{Info, none}}
 
 -- an entry of the table
 unfoldable pub info : List ℕ → List ℕ → Info
@@ -91,22 +89,22 @@ infos =
     {stacked(f"info ({consed(completion[f])}) ({in_order(head[f])})" for f in FRAMES)}
 
 -- the classes that it takes
-unfoldable pub firsts-table : List (List ℕ)
-firsts-table =
+unfoldable pub firsts_table : List (List ℕ)
+firsts_table =
     {stacked(f"({in_order(TAKES[f])})" for f in FRAMES)}
 
 -- the classes that may come once it is gone
-unfoldable pub follow-table : List (List ℕ)
-follow-table =
+unfoldable pub follow_table : List (List ℕ)
+follow_table =
     {stacked(f"({in_order(after[f])})" for f in FRAMES)}
 
 -- the classes that a frame takes
 unfoldable pub firsts : ℕ → List ℕ
-firsts f = getD firsts-table f []
+firsts f = get_or firsts_table f []
 
 -- the classes that may follow a frame
 unfoldable pub follow : ℕ → List ℕ
-follow f = getD follow-table f []
+follow f = get_or follow_table f []
 """
 
 
@@ -117,8 +115,8 @@ def word_reads():
         if word.class_ == "unfit":
             return "(λ u. absurd u)"
         if word.spelling in ("<", ">"):
-            return f"(λ u ys a p. {'less' if word.spelling == '<' else 'greater'}-reads ys a p)"
-        if word.class_ in ("function-of-string", "function-of-number", "string-function"):
+            return f"(λ u ys a p. {'less' if word.spelling == '<' else 'greater'}_reads ys a p)"
+        if word.class_ in ("function_of_string", "function_of_number", "string_function"):
             return f"(λ u ys a p. opened _ _ _ _ ys a (λ s. {read}))"
         return f"(λ u ys a p. {read})"
 
@@ -126,25 +124,25 @@ def word_reads():
         return "(λ u. absurd u)" if word.class_ == "unfit" else f"(λ u ys p. {read})"
 
     def each(one, table):
-        return "\n    ▸ ".join([*map(one, words(table)), "no-more"])
+        return "\n    ▸ ".join([*map(one, words(table)), "no_more"])
 
     return f"""-- Each word and symbol of the tables, as it is listed, is read as itself: by computing, with any text after it. ({MADE_BY})
-use mathlib.Core.Path.{{refl}}
-use Rattle·paper.specs.Bytes.{{among}}
-use Rattle·paper.specs.Words.{{operators, statements}}
-use Rattle·paper.specs.Open.{{all-Bytes, all-Words, all-Tokens, all-Items, all-Listing}}
-use Rattle·grounds·specs.specs.WordReading.{{read-tokens, after, Each, no-more, _▸_, OperatorReads, opened, less-reads, greater-reads, after-statement, StatementReads}}
+use Rattle.std.specs.Prelude.{{refl}}
+use Rattle.paper.specs.Bytes.{{among}}
+use Rattle.paper.specs.Words.{{operators, statements}}
+use Rattle.paper.specs.Open.{{all_Bytes, all_Words, all_Tokens, all_Items, all_Listing}}
+use Rattle.grounds.specs.WordReading.{{read_tokens, after, Each, no_more, ◌▸◌, OperatorReads, opened, less_reads, greater_reads, after_statement, StatementReads}}
 
 -- operators and functions
-pub operators-read : Each OperatorReads operators
-unfolding OperatorReads after among all-Bytes all-Words all-Tokens all-Items all-Listing read-tokens
-operators-read =
+pub operators_read : Each OperatorReads operators
+unfolding OperatorReads after among all_Bytes all_Words all_Tokens all_Items all_Listing read_tokens
+operators_read =
     {each(operator, "operators")}
 
 -- statement words
-pub statements-read : Each StatementReads statements
-unfolding StatementReads after-statement all-Bytes all-Words all-Tokens all-Items all-Listing read-tokens
-statements-read =
+pub statements_read : Each StatementReads statements
+unfolding StatementReads after_statement all_Bytes all_Words all_Tokens all_Items all_Listing read_tokens
+statements_read =
     {each(statement, "statements")}
 """
 
@@ -153,7 +151,7 @@ statements-read =
 
 
 def class_constants():
-    remarks = {m[2]: m[1] for m in re.finditer(r"^-- (.*)\nabbrev pub ([\w-]+) :", text("Classes"), re.M)}
+    remarks = {m[2]: m[1] for m in re.finditer(r"^-- (.*)\nabbrev pub (\w+) :", text("Classes"), re.M)}
     out = f"// The classes of items, numbered as the definitions number them: all that the grammar tells apart. ({MADE_BY})\n"
     for name, number in CLASSES.items():
         said = remarks.get(name)
@@ -176,7 +174,7 @@ OPERATORS = token_names("Operator")
 
 def token_numbers():
     fit = [w.token for w in words("operators") if w.class_ != "unfit"]
-    placed = [w.token for w in words("placed-operators")]
+    placed = [w.token for w in words("placed_operators")]
     kinds = {"Statement": [w.token for w in words("statements")], "Operator": [0x16, 0x9B, *fit, *placed], "Function": fit}
     out = f"// The numbers of tokens for patterns, where a field of a constant cannot stand. ({MADE_BY})\n"
     for kind, tokens in kinds.items():
@@ -197,49 +195,55 @@ FIT = {
 
 
 def fit_tokens():
-    out = f"-- The tokens of other classes than unfit, the last first. ({MADE_BY})\nuse Prim.Native.Nat.{{ℕ}}\nuse mathlib.Core.List.{{List, [], _∷_}}\n"
+    out = f"-- The tokens of other classes than unfit, the last first. ({MADE_BY})\nuse Prim.Native.Nat.{{ℕ}}\nuse mathlib.Core.List.{{List, [], ◌∷◌}}\n"
     for kind, tokens in FIT.items():
         listed = [f"0x{t:02x}" for t in reversed(tokens)]
         lines = "\n    ∷ ".join(" ∷ ".join(listed[i : i + 16]) for i in range(0, len(listed), 16))
-        out += f"\n-- {kind}s\nabbrev pub fit-{kind}s : List ℕ\nfit-{kind}s =\n    {lines} ∷ []\n"
+        out += f"\n-- {kind}s\nabbrev pub fit_{kind}s : List ℕ\nfit_{kind}s =\n    {lines} ∷ []\n"
     return out
 
 
-def class_proof(kind, of, argument, definitions, unfolded):
-    """The proof of the class of a kind of words: an arm for each fit token, in their order, and the rest."""
-    arms = "".join(f"    (λ c. at-key {of} 0x{t:02x} (c .match .keys{i + 1}))\n" for i, t in enumerate(FIT[kind]))
+def goal(name, unfolded, value):
+    """The proof of a goal of a function."""
+    return f"\npub {name} : goal.{name}\nunfolding {unfolded}\n{name} c = {value}\n"
+
+
+def class_proof(kind, of, definitions, unfolded, before, otherwise):
+    """The proof of the class of a kind of words: of what stands before the match, of an arm for each fit token below, and of the rest."""
+    tokens = [t for t in FIT[kind] if t < 0x80]
+    goals = [*before, *((f"in-{t}", f"at_key {of} 0x{t:02x} c.in-{t}.is") for t in tokens), ("in_default", otherwise)]
+    laws = ", ".join(dict.fromkeys(value.split()[0] for _, value in goals if value.startswith(kind + "_")))
     return f"""-- Each arm of `{kind}_class` says the class of its token's word. ({MADE_BY})
 {definitions}
-use Rattle·tokens·proofs.proofs.Keys.{{at-key}}
-use Rattle·tokens·proofs.proofs.Classes.{{{kind}-else}}
-use Rattle·tokens·proofs.proofs.{kind}_class.Statement.{{statement}}
-use Rattle·tokens·proofs.proofs.{kind}_class.Tie as tie
-
-pub {kind}-class-spec : {{M : Type 1}} → statement M
-unfolding {unfolded}
-{kind}-class-spec =
-    tie.close
-    (tie.spec
-{arms}    (λ c. {kind}-else (c .before .args .token{argument}) (c .match .rest)))
-"""
+use Rattle.tokens.proofs.Keys.{{at_key}}
+use Rattle.tokens.proofs.Classes.{{{laws}}}
+use Rattle.tokens.proofs.{kind}_class.Goals as goal
+""" + "".join(goal("returns-" + name, unfolded, value) for name, value in goals)
 
 
 def class_proofs():
-    words_file = "use Rattle·paper.specs.Words."
+    words_file = "use Rattle.paper.specs.Words."
+    rest = "c.in_default.in_default-own.rest"
     return {
         "statement": class_proof(
             "statement",
-            "(λ (t : ℕ). (word-of statements t) .class)",
-            " .0",
-            f"use Prim.Native.Nat.{{ℕ}}\n{words_file}{{word, statements, word-of}}",
-            "word-of statements word",
+            "(λ (t : ℕ). (word_of statements t).class)",
+            f"use Prim.Native.Nat.{{ℕ}}\n{words_file}{{word, statements, word_of}}",
+            "word_of statements word",
+            [],
+            f"statement_else c.args.token.0 {rest}",
         ),
         "operator": class_proof(
             "operator",
-            "operator-class",
-            "",
-            f"use Rattle·paper.specs.Tokens.{{operator-class}}\n{words_file}{{word, read-operators, functions, placed-operators, operators, word-of}}",
-            "operator-class word-of operators read-operators functions placed-operators word",
+            "operator_class",
+            "use native.Mathlib.Omega.{arith}\nuse Rattle.paper.specs.Tokens.{operator_class}\n"
+            f"{words_file}{{word, read_operators, functions, placed_operators, operators, word_of}}",
+            "operator_class word_of operators read_operators functions placed_operators word",
+            [
+                ("then-token-eq-RAW_END", "at_key operator_class 0x9b c.if-token-eq-RAW_END.true"),
+                ("then-token", "operator_past c.args.token c.if-token.true c.if-token-eq-RAW_END.false"),
+            ],
+            f"operator_else c.args.token ({rest}, λ e. omega arith)",
         ),
     }
 
@@ -247,8 +251,8 @@ def class_proofs():
 # ---- grammar: the rows laid over one another, and what the acts say
 
 LAYOUT = numbers(open("crates/grammar/specs/Tables.antt").read())
-FIRST_ACT, PAST_ROWS, NO_ENTRY = LAYOUT["first-act"], LAYOUT["past-rows"], LAYOUT["no-entry"]
-GIVEN = {"itself": 0, "for-strings": 1, "as-prefix": 2}
+FIRST_ACT, PAST_ROWS, NO_ENTRY = LAYOUT["first_act"], LAYOUT["past_rows"], LAYOUT["no_entry"]
+GIVEN = {"itself": 0, "for_strings": 1, "as_prefix": 2}
 
 
 def lay(refusing):
@@ -298,7 +302,7 @@ def entry(place):
 
 def with_n(frames):
     """Names of frames with N in the place of a term and more terms, as the grammar writes them."""
-    return " ".join(frames).replace("want-operand want-more-terms", "N").split()
+    return " ".join(frames).replace("want_operand want_more_terms", "N").split()
 
 
 def wanted(names):
@@ -322,14 +326,13 @@ def row_tables():
     classes = "".join(written(48 + CLASSES[entry(p)[0]]) if p in ENTRIES else "~" for p in PLACES)
     acts = "".join(written(BYTES[entry(p)[1]]) if p in ENTRIES else "." for p in PLACES)
     acts_as_terms = [act_term(act) for act in ACTS]
-    named = {name for term in acts_as_terms for name in re.findall(r"[\w-]+", term)}
+    named = {name for term in acts_as_terms for name in re.findall(r"\w+", term)}
     return f"""-- The rows of the grammar's frames, laid over one another, and the words of their acts. ({MADE_BY})
-use Prim.Native.Nat.{{ℕ}}
-use mathlib.Core.List.{{List, [], _∷_, map}}
-use Rattle·paper.specs.Bytes.{{bytes}}
-use Rattle·paper.specs.Frames.{{{", ".join(f for f in FRAMES if f in named)}}}
-use Rattle·paper.specs.Grammar.{{itself, for-strings, as-prefix, put, N}}
-use Rattle·grammar·specs.specs.Tables.{{laid, Wanting, act, word, rest}}
+use Rattle.std.specs.Prelude.{{ℕ, List, [], ◌∷◌, map}}
+use Rattle.paper.specs.Bytes.{{bytes}}
+use Rattle.paper.specs.Frames.{{{", ".join(f for f in FRAMES if f in named)}}}
+use Rattle.paper.specs.Grammar.{{itself, for_strings, as_prefix, put, N}}
+use Rattle.grammar.specs.Tables.{{laid, Wanting, act, word, rest}}
 
 -- the rows of the frames that leave what they do not take begin before this place, those of the others here or later
 abbrev pub refusing : ℕ
@@ -408,19 +411,18 @@ def code():
     word_arms = "".join(f"        b'{written(BYTES[act])}' => {word_arm(act)}\n" for act in ACTS if has_word(act))
     rest_arms = "".join(f"        b'{written(BYTES[act])}' => {rest_arm(act)}\n" for act in ACTS if act != ((), "itself"))
     return f"""// The rows of the grammar's frames, laid over one another, and the words of their acts. ({MADE_BY})
+ghost use Rattle.std.specs.Prelude.{{◌≡◌, ◌-◌, ◌≤◌, slice_index, slice_index_or}};
+ghost use Rattle.grammar.specs.Tables.{{no_entry, past_rows, first_act}};
+ghost use Rattle.grammar.specs.Rows.{{firsts, entries, words, rests}};
+
 use tokens::OperatorToken;
-ghost use mathlib.Core.Path.{{_≡_}};
-ghost use Prim.Native.Nat.{{_-_, _≤_}};
-ghost use lib.ListN.{{getD}};
-ghost use Rattle·grammar·specs.specs.Tables.{{no-entry, past-rows, first-act}};
-ghost use Rattle·grammar·specs.specs.Rows.{{firsts, entries, words, rests}};
 
 // The rows of the frames that leave what they do not take begin before this place, those of the others here or later.
 pub(crate) const REFUSING: u8 = {REFUSING};
 
 // Where the row of a frame begins among the entries. The entry for a class is as many places further.
 pub(crate) fn first_of(frame: u8) -> u8
-    ensures {{ λ r. ⌜ r ≡ getD firsts frame past-rows ⌝ }}
+    ensures {{ result ≡ slice_index_or firsts frame past_rows }}
 {{
     match frame {{
 {firsts}        _ => {PAST_ROWS},
@@ -430,7 +432,7 @@ pub(crate) fn first_of(frame: u8) -> u8
 // The entry at a place: a class, and what the frame whose row this is does with its items. The rows of the frames lie over one another, so that an
 // entry of one stands where others have none. It is a `match`, since a table that is borrowed is laid down anew in each call.
 pub(crate) fn entry_at(place: u8) -> u16
-    ensures {{ λ r. ⌜ r ≡ getD entries place no-entry ⌝ }}
+    ensures {{ result ≡ slice_index_or entries place no_entry }}
 {{
     match place {{
 {entries}        _ => 0x{NO_ENTRY >> 8:02x}_{NO_ENTRY & 0xFF:02x},
@@ -439,8 +441,8 @@ pub(crate) fn entry_at(place: u8) -> u16
 
 // The word of an act: two hexadecimal digits for each frame that it wants, from the top of the stack down, but for a ninth.
 pub(crate) fn word_of(act: u8) -> u64
-    requires {{ ⌜ first-act ≤ act ⌝ }}
-    ensures {{ λ r. ⌜ r ≡ getD words (act - first-act) 0 ⌝ }}
+    requires {{ first_act ≤ act }}
+    ensures {{ result ≡ slice_index words (act - first_act) }}
 {{
     match act {{
 {word_arms}        _ => 0,
@@ -452,8 +454,8 @@ pub(crate) fn word_of(act: u8) -> u64
 // The rest of what an act says, in octal: two digits for the ninth frame, two for how many there are, and two for what it gives: 0 for the item's own
 // token, 1 for the one for strings, 2 for the prefix one, any other number for that token.
 pub(crate) fn rest_of(act: u8) -> u32
-    requires {{ ⌜ first-act ≤ act ⌝ }}
-    ensures {{ λ r. ⌜ r ≡ getD rests (act - first-act) 0 ⌝ }}
+    requires {{ first_act ≤ act }}
+    ensures {{ result ≡ slice_index rests (act - first_act) }}
 {{
     match act {{
 {rest_arms}        _ => 0,
@@ -462,65 +464,55 @@ pub(crate) fn rest_of(act: u8) -> u32
 """
 
 
-def proof(function, value, count, otherwise, definitions, unfolded=""):
+def proof(function, value, keys, otherwise, definitions, unfolded):
     """The proof of a `match` that is a table: the value at each arm's key, and at any other number."""
-    name = function.replace("_", "-")
-    arms = "".join(f"    (λ c. here (c .match .keys{i + 1}))\n" for i in range(count))
+    minus = ", ◌-◌" if " - " in value("n") else ""
+    arms = "".join(goal(f"returns-in-{key}", f"{unfolded} places", f"here c.in-{key}.is") for key in keys)
     return f"""-- Each arm of `{function}` says what the table says at its key. ({MADE_BY})
-use Prim.Native.Nat.{{ℕ{", _-_" if " - " in value("n") else ""}}}
-use mathlib.Core.Path.{{_≡_, sym, ap}}
-use lib.ListN.{{getD}}
+use Rattle.std.proofs.Common.{{◌≡◌, ℕ{minus}, get_or, sym, ap}}
 {definitions}
-use Rattle·grammar·proofs.proofs.Places.{{places, {otherwise.split()[0]}}}
-use Rattle·grammar·proofs.proofs.rows.{function}.Statement.{{statement}}
-use Rattle·grammar·proofs.proofs.rows.{function}.Tie as tie
+use Rattle.grammar.proofs.Places.{{places, {otherwise.split()[0]}}}
+use Rattle.grammar.proofs.rows.{function}.Goals as goal
 
 here : {{x k : ℕ}} → x ≡ k → {value("k")} ≡ {value("x")}
 here e = sym (ap (λ n. {value("n")}) e)
-
-pub {name}-spec : {{M : Type 1}} → statement M
-unfolding {unfolded} places
-{name}-spec =
-    tie.close
-    (tie.spec
-{arms}    (λ c. {otherwise} (c .match .rest)))
-"""
+{arms}""" + goal("returns-in_default", f"{unfolded} places", f"{otherwise} c.in_default.in_default-own.rest")
 
 
 def proofs():
-    tables = "use Rattle·grammar·specs.specs.Tables."
-    rows = "use Rattle·grammar·specs.specs.Rows."
+    tables = "use Rattle.grammar.specs.Tables."
+    rows = "use Rattle.grammar.specs.Rows."
     return {
         "first_of": proof(
             "first_of",
-            lambda n: f"getD firsts {n} past-rows",
-            len(FRAMES),
-            "at-none past-rows firsts (c .before .args .frame)",
-            f"{tables}{{past-rows}}\n{rows}{{firsts}}",
+            lambda n: f"get_or firsts {n} past_rows",
+            FRAMES.values(),
+            "at_none past_rows firsts c.args.frame",
+            f"{tables}{{past_rows}}\n{rows}{{firsts}}",
             "firsts",
         ),
         "entry_at": proof(
             "entry_at",
-            lambda n: f"getD entries {n} no-entry",
-            len(ENTRIES),
-            "at-none no-entry entries (c .before .args .place)",
-            f"use Rattle·paper.specs.Open.{{all-Bytes}}\n{tables}{{no-entry, laid}}\n{rows}{{entries}}",
-            "all-Bytes laid entries",
+            lambda n: f"get_or entries {n} no_entry",
+            sorted(ENTRIES),
+            "at_none no_entry entries c.args.place",
+            f"use Rattle.paper.specs.Open.{{all_Bytes}}\n{tables}{{no_entry, laid}}\n{rows}{{entries}}",
+            "all_Bytes laid entries",
         ),
         "word_of": proof(
             "word_of",
-            lambda n: f"getD words ({n} - first-act) 0",
-            sum(map(has_word, ACTS)),
-            "at-none-from first-act 0 words (c .before .args .act) (c .before .pre)",
-            f"use Rattle·paper.specs.Grammar.{{N}}\n{tables}{{first-act, act, packed, word}}\n{rows}{{acts, words}}",
+            lambda n: f"get_or words ({n} - first_act) 0",
+            [BYTES[act] for act in ACTS if has_word(act)],
+            "at_none_from first_act 0 words c.args.act c.requires",
+            f"use Rattle.paper.specs.Grammar.{{N}}\n{tables}{{first_act, act, packed, word}}\n{rows}{{acts, words}}",
             "N act packed word acts words",
         ),
         "rest_of": proof(
             "rest_of",
-            lambda n: f"getD rests ({n} - first-act) 0",
-            sum(act != ((), "itself") for act in ACTS),
-            "at-none-from first-act 0 rests (c .before .args .act) (c .before .pre)",
-            f"use Rattle·paper.specs.Grammar.{{N}}\n{tables}{{first-act, act, code, packed, rest}}\n{rows}{{acts, rests}}",
+            lambda n: f"get_or rests ({n} - first_act) 0",
+            [BYTES[act] for act in ACTS if act != ((), "itself")],
+            "at_none_from first_act 0 rests c.args.act c.requires",
+            f"use Rattle.paper.specs.Grammar.{{N}}\n{tables}{{first_act, act, code, packed, rest}}\n{rows}{{acts, rests}}",
             "N act code packed rest acts rests",
         ),
     }
@@ -531,14 +523,14 @@ def main():
         "crates/paper/specs/Open.antt": opened(),
         "crates/laws/specs/Counts.antt": counts(),
         "crates/grounds/specs/FrameTables.antt": frame_tables(),
-        "crates/grounds/specs/WordReads.antt": word_reads(),
+        "crates/grounds/proofs/WordReads.antt": word_reads(),
         "crates/tokens/src/class.rt": class_constants(),
         "crates/tokens/src/number.rt": token_numbers(),
         "crates/tokens/proofs/FitTokens.antt": fit_tokens(),
-        **{f"crates/tokens/proofs/{kind}_class/Proof.antt": text for kind, text in class_proofs().items()},
+        **{f"crates/tokens/proofs/{kind}_class/Answers.antt": text for kind, text in class_proofs().items()},
         "crates/grammar/specs/Rows.antt": row_tables(),
         "crates/grammar/src/rows.rt": code(),
-        **{f"crates/grammar/proofs/rows/{function}/Proof.antt": text for function, text in proofs().items()},
+        **{f"crates/grammar/proofs/rows/{function}/Answers.antt": text for function, text in proofs().items()},
     }
     other = [path for path, made_text in made.items() if not os.path.exists(path) or open(path).read() != made_text]
     if sys.argv[1:] == ["--check"]:

@@ -10,12 +10,12 @@ fn main() {
     }
     let library = match env::var_os("VIRGONTEY_LIBRARY") {
         Some(path) => PathBuf::from(path),
-        None => Path::new(env!("CARGO_MANIFEST_DIR")).join("../../target/staticlib/libtag.a"),
+        None => Path::new(env!("CARGO_MANIFEST_DIR")).join("../../crates/tag/out/libtag.a"),
     };
     println!("cargo:rerun-if-changed={}", library.display());
     let Ok(library) = library.canonicalize() else {
         panic!(
-            "{} is not there: build it with `rt staticlib tag` at the repository's root",
+            "{} is not there: build it with `rt lib` in crates/tag",
             library.display()
         );
     };
