@@ -1,10 +1,8 @@
 -- One verdict: two that satisfy the same contract are equal.
-use Rattle.std.specs.Prelude.{◌≡◌, refl}
+use Rattle.std.specs.Prelude.{◌≡◌}
 use Rattle.std.proofs.Common.{sym, ap, ◌∙◌}
-use Rattle.paper.specs.Examine.{yes, unsound_names, unsound_values, unsound_store, bad_line}
 use Rattle.paper.specs.Examine.{Verdict as Answer}
 use Rattle.editor_examine.specs.declared.Verdict.{Verdict}
-use Rattle.editor_examine.specs.declared.Verdict.TheVariants as Verdict'
 use Rattle.editor_examine.specs.Verdicts.{verdict}
 use Rattle.editor_examine.specs.Tight.{told, told_back}
 

@@ -1,6 +1,5 @@
 -- One outcome: what the definitions answer tells what the code does.
 use Rattle.std.specs.Prelude.{◌≡◌, refl}
-use Rattle.std.proofs.Common.{sym, ap, ◌∙◌}
 use Rattle.paper.specs.Examine.{yes, unsound_names, unsound_values, unsound_store, bad_line}
 use Rattle.paper.specs.Examine.{Verdict as Answer}
 use Rattle.editor_examine.specs.declared.Verdict.{Verdict}

@@ -1,25 +1,18 @@
 -- A line of the store, listed and entered again: it leaves the state as it is.
-use Rattle.std.specs.Prelude.{ℕ, ◌+◌, ◌-◌, ◌*◌, ◌≤◌, ◌≡◌, refl, Bool, false, List, [], ◌∷◌, ◌++◌, T, length, take, drop}
-use Rattle.std.proofs.Common.{add-zero, arith, subst, sym, ap, ◌∙◌, append-nil, eqb→eq, length-append, take-append-drop, length-take-le, le-ltb, eq-eqb}
-use Rattle.std.proofs.Math.Seq.{drop-length}
-use Rattle.paper.specs.Bytes.{pick, joined}
-use Rattle.paper.specs.Tokens.{Token}
-use Rattle.paper.specs.Names.{name_bytes, add_names, value_entries}
-use Rattle.paper.specs.Line.{line_bytes, line_number}
+use Rattle.std.specs.Prelude.{ℕ, ◌≤◌, ◌≡◌, refl, Bool, false, List, [], ◌∷◌, ◌++◌, T, length, take, drop}
+use Rattle.std.proofs.Common.{arith, subst, sym, ap, ◌∙◌, eqb→eq, eq-eqb}
+use Rattle.paper.specs.Bytes.{pick}
+use Rattle.paper.specs.Line.{line_number}
 use Rattle.paper.specs.Errors.{error_line?}
 use Rattle.paper.specs.Listing.{listing}
-use Rattle.paper.specs.WellFormed.{WellFormed}
-use Rattle.paper.specs.Store.{room, lines_below, lines_not_below, lines_above, first_is?, first_line, stored?, line_at, put_line, overwritten}
-use Rattle.paper.specs.Calls.{State, names_of, lines_of, sound_state, with_names, stored, lacks_room, unless_short, accept, enter, list}
+use Rattle.paper.specs.Store.{lines_below, lines_not_below, lines_above, first_is?, first_line, stored?, line_at, put_line}
+use Rattle.paper.specs.Calls.{State, names_of, lines_of, enter, list}
 use Rattle.laws.specs.Tests.{is_true}
-use Rattle.laws.specs.Lines.{joined_append, both_sides, old_line, three_parts, room_lent}
-use Rattle.promises.specs.Terms.{SoundState, old_size, with_lines, accepted_with}
-use Rattle.grounds.proofs.RoundTrip.{no_new_names}
+use Rattle.laws.specs.Lines.{both_sides}
+use Rattle.promises.specs.Terms.{old_size, with_lines, accepted_with}
 use Rattle.promises.proofs.States.{state_says}
 use Rattle.promises.proofs.Listings.{ListAnswer, ListedLine, list_answer, writes, written_so}
 use Rattle.promises.proofs.ErrorLines.{formed_else, listing_else}
-use Rattle.promises.proofs.Entering.{enter_listing}
-use Rattle.promises.proofs.Editing.{used_bytes}
 use Rattle.promises.proofs.ReEntry.{entered_again, store_same}
 
 -- a stored line put in again

@@ -1,23 +1,19 @@
 -- The listing of a well-formed line, entered: the line itself is put in, and nothing else changes.
-use Rattle.std.specs.Prelude.{ℕ, ◌+◌, ◌-◌, ◌*◌, ◌≤◌, ◌≡◌, refl, Bool, false, List, [], ◌∷◌, ◌++◌, T, length, take, drop}
-use Rattle.std.proofs.Common.{add-zero, arith, subst, sym, ap, ◌∙◌, append-nil, eqb→eq, length-append, take-append-drop, length-take-le, le-ltb, eq-eqb}
+use Rattle.std.specs.Prelude.{ℕ, ◌+◌, ◌-◌, ◌*◌, ◌≤◌, ◌≡◌, false, List, [], ◌∷◌, ◌++◌, T, length, take, drop}
+use Rattle.std.proofs.Common.{add-zero, arith, sym, ap, ◌∙◌, append-nil, length-append, take-append-drop, length-take-le, le-ltb}
 use Rattle.std.proofs.Math.Seq.{drop-length}
-use Rattle.paper.specs.Bytes.{pick, joined}
+use Rattle.paper.specs.Bytes.{joined}
 use Rattle.paper.specs.Tokens.{Token}
 use Rattle.paper.specs.Names.{name_bytes, add_names, value_entries}
 use Rattle.paper.specs.Line.{line_bytes, line_number}
-use Rattle.paper.specs.Errors.{error_line?}
 use Rattle.paper.specs.Listing.{listing}
 use Rattle.paper.specs.WellFormed.{WellFormed}
-use Rattle.paper.specs.Store.{room, lines_below, lines_not_below, lines_above, first_is?, first_line, stored?, line_at, put_line, overwritten}
-use Rattle.paper.specs.Calls.{State, names_of, lines_of, sound_state, with_names, stored, lacks_room, unless_short, accept, enter, list}
-use Rattle.laws.specs.Tests.{is_true}
-use Rattle.laws.specs.Lines.{joined_append, both_sides, old_line, three_parts, room_lent}
+use Rattle.paper.specs.Store.{room, lines_below, lines_above, put_line, overwritten}
+use Rattle.paper.specs.Calls.{State, names_of, lines_of, sound_state, with_names, stored, lacks_room, unless_short, accept, enter}
+use Rattle.laws.specs.Lines.{joined_append, old_line, three_parts, room_lent}
 use Rattle.promises.specs.Terms.{SoundState, old_size, with_lines, accepted_with}
 use Rattle.grounds.proofs.RoundTrip.{no_new_names}
 use Rattle.promises.proofs.States.{state_says}
-use Rattle.promises.proofs.Listings.{ListAnswer, ListedLine, list_answer, writes, written_so}
-use Rattle.promises.proofs.ErrorLines.{formed_else, listing_else}
 use Rattle.promises.proofs.Entering.{enter_listing}
 use Rattle.promises.proofs.Editing.{used_bytes}
 

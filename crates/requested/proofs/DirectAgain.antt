@@ -1,21 +1,18 @@
 -- The listing of a line without a number (document 02, §1), typed: the line itself stands in the line buffer, and nothing else changes.
-use Rattle.std.specs.Prelude.{ℕ, zero, suc, ◌-◌, ◌≤◌, ◌≡◌, refl, Bool, false, List, [], ◌∷◌, ◌++◌, T, length, take, drop, get_or}
-use Rattle.std.proofs.Common.{arith, subst, sym, ap, ◌∙◌, eqb→eq, le-ltb}
+use Rattle.std.specs.Prelude.{ℕ, ◌-◌, ◌≤◌, ◌≡◌, Bool, List, T, length}
+use Rattle.std.proofs.Common.{arith, sym, ap, ◌∙◌, eqb→eq, le-ltb}
 use Rattle.paper.specs.Tokens.{Token}
 use Rattle.paper.specs.Names.{sound_names, add_names}
 use Rattle.paper.specs.Line.{line_bytes, direct_number, direct_number?}
 use Rattle.paper.specs.Listing.{body_text, direct_listing}
 use Rattle.paper.specs.WellFormed.{WellFormedDirect}
-use Rattle.paper.specs.Errors.{error_line?, line_text}
 use Rattle.paper.specs.Store.{overwritten}
-use Rattle.paper.specs.Calls.{State, names_of, lines_of, sound_state, tokens, translate, with_names, unless_short, Listed}
-use Rattle.paper.specs.Direct.{accept_direct, answered_direct, typed, line_in, show}
+use Rattle.paper.specs.Calls.{State, names_of, lines_of, sound_state, tokens, translate, with_names, unless_short}
+use Rattle.paper.specs.Direct.{accept_direct, answered_direct, typed}
 use Rattle.laws.specs.Tests.{is_true}
 use Rattle.promises.specs.Terms.{accepted_with}
 use Rattle.grounds.proofs.RoundTrip.{translated_again, no_new_names, decoded, tokens_apart}
 use Rattle.promises.proofs.States.{state_says}
-use Rattle.promises.proofs.ErrorLines.{formed_else, text_else}
-use Rattle.promises.proofs.Listings.{ListAnswer, ShownLine, show_answer, writes, written_so}
 use Rattle.promises.proofs.Beginning.{translated_direct}
 use Rattle.promises.proofs.ReEntry.{tables_stay, no_lack, store_same}
 use Rattle.promises.proofs.DirectLines.{direct_typed, named_stored}

@@ -43,7 +43,7 @@ pub loop-from-smaller : goal.loop-from-smaller
 loop-from-smaller c = omega (arith, (carrying_line (c.loop-from.invariant.4 _ _ c.requires.2.ready) c.loop-from.invariant.1 c.loop-from-test.true c.requires.0 c.loop-from.invariant.3).long, (carrying_line (c.loop-from.invariant.4 _ _ c.requires.2.ready) c.loop-from.invariant.1 c.loop-from-test.true c.requires.0 c.loop-from.invariant.3).fits, (carrying_size (c.loop-from.invariant.4 _ _ c.requires.2.ready) c.loop-from.invariant.1 c.loop-from-test.true c.requires.0 c.loop-from.invariant.3), length-drop c.loop-from.from (take c.args.used c.args.store.now), length-take c.args.used c.args.store.now, c.loop-from-test.true)
 
 pub loop-from-preserved : goal.loop-from-preserved
-loop-from-preserved c = (c.store-1.given.1 ∙ c.loop-from.invariant.0, omega (arith, c.loop-from.invariant.1, c.carry_line-to.ensures.0), omega (arith, c.loop-from.invariant.2, (carrying_line (c.loop-from.invariant.4 _ _ c.requires.2.ready) c.loop-from.invariant.1 c.loop-from-test.true c.requires.0 c.loop-from.invariant.3).long, (carrying_line (c.loop-from.invariant.4 _ _ c.requires.2.ready) c.loop-from.invariant.1 c.loop-from-test.true c.requires.0 c.loop-from.invariant.3).fits, (carrying_size (c.loop-from.invariant.4 _ _ c.requires.2.ready) c.loop-from.invariant.1 c.loop-from-test.true c.requires.0 c.loop-from.invariant.3), length-drop c.loop-from.from (take c.args.used c.args.store.now), length-take c.args.used c.args.store.now), carrying_whole (c.loop-from.invariant.4 _ _ c.requires.2.ready) c.loop-from.invariant.1 c.loop-from-test.true c.requires.0 c.loop-from.invariant.3 (get_or c.loop-from.store (c.loop-from.from + 2) 0) (carrying_size (c.loop-from.invariant.4 _ _ c.requires.2.ready) c.loop-from.invariant.1 c.loop-from-test.true c.requires.0 c.loop-from.invariant.3), λ ns new r. carrying_next (c.loop-from.invariant.4 ns new r) c.loop-from.invariant.1 c.loop-from-test.true c.requires.0 c.loop-from.invariant.3 (get_or c.loop-from.store (c.loop-from.from + 2) 0) (carrying_size (c.loop-from.invariant.4 _ _ c.requires.2.ready) c.loop-from.invariant.1 c.loop-from-test.true c.requires.0 c.loop-from.invariant.3) (last_part c.loop-from.store c.loop-from.to) c.carry_line-to.ensures.1 (put_back c.loop-from.store _ c.loop-from.to))
+loop-from-preserved c = (omega (arith, c.loop-from.invariant.0), omega (arith, c.loop-from.invariant.1, c.carry_line-to.ensures.0), omega (arith, c.loop-from.invariant.2, (carrying_line (c.loop-from.invariant.4 _ _ c.requires.2.ready) c.loop-from.invariant.1 c.loop-from-test.true c.requires.0 c.loop-from.invariant.3).long, (carrying_line (c.loop-from.invariant.4 _ _ c.requires.2.ready) c.loop-from.invariant.1 c.loop-from-test.true c.requires.0 c.loop-from.invariant.3).fits, (carrying_size (c.loop-from.invariant.4 _ _ c.requires.2.ready) c.loop-from.invariant.1 c.loop-from-test.true c.requires.0 c.loop-from.invariant.3), length-drop c.loop-from.from (take c.args.used c.args.store.now), length-take c.args.used c.args.store.now), carrying_whole (c.loop-from.invariant.4 _ _ c.requires.2.ready) c.loop-from.invariant.1 c.loop-from-test.true c.requires.0 c.loop-from.invariant.3 (get_or c.loop-from.store (c.loop-from.from + 2) 0) (carrying_size (c.loop-from.invariant.4 _ _ c.requires.2.ready) c.loop-from.invariant.1 c.loop-from-test.true c.requires.0 c.loop-from.invariant.3), λ ns new r. carrying_next (c.loop-from.invariant.4 ns new r) c.loop-from.invariant.1 c.loop-from-test.true c.requires.0 c.loop-from.invariant.3 (get_or c.loop-from.store (c.loop-from.from + 2) 0) (carrying_size (c.loop-from.invariant.4 _ _ c.requires.2.ready) c.loop-from.invariant.1 c.loop-from-test.true c.requires.0 c.loop-from.invariant.3) (last_part c.loop-from.store c.loop-from.to) c.carry_line-to.ensures.1 (put_back c.loop-from.store _ c.loop-from.to))
 
 pub shape_of-store : goal.shape_of-store
 shape_of-store c = c.loop-from.invariant.0
