@@ -46,3 +46,18 @@ impl Refusal {
         }
     }
 }
+
+// A refusal of what stands at a place of a text.
+#[derive(Clone, Copy)]
+pub struct RefusedAt {
+    pub refusal: Refusal,
+    pub place: usize,
+}
+
+// A refusal of an item of a text, from its place to its end; of a whole text, both 0.
+#[derive(Clone, Copy)]
+pub struct RefusedItem {
+    pub refusal: Refusal,
+    pub place: usize,
+    pub end: usize,
+}
