@@ -1,40 +1,40 @@
 -- The outcomes of `six_bytes`, each from what the code has found on its way there.
 use Prim.Native.Nat.{ℕ, suc, ◌+◌, ◌-◌, ◌≤◌, ◌<◌}
 use native.Mathlib.Omega.{arith}
-use mathlib.Core.Path.{◌≡◌, sym, ◌∙◌}
-use mathlib.Core.Bool.{true, false}
+use mathlib.Core.Path.{◌≡◌, sym, ap, ◌∙◌}
 use mathlib.Core.List.{List}
 use lib.ListN.{length}
 use Rattle.paper.specs.Bytes.{run}
 use Rattle.constant_bytes.specs.declared.Numeral.{Numeral}
-use Rattle.constant_bytes.specs.declared.Six.{Six}
-use Rattle.constant_bytes.specs.Numerals.{Written, digits_in, nought?, up, down, zeros_if, six_from, numeral_six}
+use Rattle.std.specs.Prelude.{Some, None}
+use Rattle.paper.specs.Constants.{zero_bytes}
+use Rattle.constant_bytes.specs.Numerals.{Written, digits_in, nought?, up, down, six_from, numeral_six}
 use Rattle.constant_bytes.proofs.Places.{all_digits, count}
 use Rattle.constant_bytes.proofs.TenDigits.{six_zero, six_low, six_high, six_within}
 
 module _ (s : List ℕ) (n : Numeral) (w : Written s n) {z : ℕ} (e : z ≡ run nought? (digits_in s n)) where
   -- only zeros
-  pub numeral_zero : {r : Six} → n.whole + n.fraction ≤ z → r ≡ zeros_if true → r ≡ numeral_six s n
+  pub numeral_zero : n.whole + n.fraction ≤ z → Some zero_bytes ≡ numeral_six s n
   unfolding numeral_six
-  numeral_zero h q = q ∙ sym (six_zero (digits_in s n) (up n) (down n) (omega (arith, count s n w)))
+  numeral_zero h = sym (six_zero (digits_in s n) (up n) (down n) (omega (arith, count s n w)))
 
   module _ (inside : z < n.whole + n.fraction) {u d : ℕ} (eu : u ≡ up n) (ed : d ≡ down n) where
     after : length (digits_in s n) ≡ z + suc (n.whole + n.fraction - 1 - z)
     after = omega (arith, count s n w)
 
     -- below the range
-    pub numeral_low : {r : Six} → n.whole + n.fraction - 1 - z + u + 98 < d → r ≡ zeros_if false → r ≡ numeral_six s n
+    pub numeral_low : n.whole + n.fraction - 1 - z + u + 98 < d → None ≡ numeral_six s n
     unfolding numeral_six
-    numeral_low h q = q ∙ sym (six_low (digits_in s n) z (n.whole + n.fraction - 1 - z) (up n) (down n) (all_digits s n w) e after (omega arith))
+    numeral_low h = sym (six_low (digits_in s n) z (n.whole + n.fraction - 1 - z) (up n) (down n) (all_digits s n w) e after (omega arith))
 
     -- above it
-    pub numeral_high : {r : Six} → 98 + d ≤ n.whole + n.fraction - 1 - z + u → r ≡ zeros_if false → r ≡ numeral_six s n
+    pub numeral_high : 98 + d ≤ n.whole + n.fraction - 1 - z + u → None ≡ numeral_six s n
     unfolding numeral_six
-    numeral_high h q = q ∙ sym (six_high (digits_in s n) z (n.whole + n.fraction - 1 - z) (up n) (down n) (all_digits s n w) e after (omega arith))
+    numeral_high h = sym (six_high (digits_in s n) z (n.whole + n.fraction - 1 - z) (up n) (down n) (all_digits s n w) e after (omega arith))
 
     -- within it
-    pub numeral_within : {r : Six} → d ≤ n.whole + n.fraction - 1 - z + u + 98 → n.whole + n.fraction - 1 - z + u < 98 + d
-        → r ≡ six_from (digits_in s n) z (n.whole + n.fraction - 1 - z + u + 98 - d) → r ≡ numeral_six s n
+    pub numeral_within : {r : List ℕ} → d ≤ n.whole + n.fraction - 1 - z + u + 98 → n.whole + n.fraction - 1 - z + u < 98 + d
+        → r ≡ six_from (digits_in s n) z (n.whole + n.fraction - 1 - z + u + 98 - d) → Some r ≡ numeral_six s n
     unfolding numeral_six
     numeral_within h g q =
-        q ∙ sym (six_within (digits_in s n) z (n.whole + n.fraction - 1 - z) (up n) (down n) (all_digits s n w) e after (n.whole + n.fraction - 1 - z + u + 98 - d) (omega arith) (omega arith) (omega arith))
+        ap Some q ∙ sym (six_within (digits_in s n) z (n.whole + n.fraction - 1 - z) (up n) (down n) (all_digits s n w) e after (n.whole + n.fraction - 1 - z + u + 98 - d) (omega arith) (omega arith) (omega arith))

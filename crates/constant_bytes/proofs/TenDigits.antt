@@ -12,10 +12,10 @@ use lib.Seq.{drop-cons, drop-drop, get_or-drop}
 use borrow.Author.Tests.{lt-leb, le-leb, lt-ltb, le-ltb, ne_eqb, eqb-true, eqb-false}
 use Rattle.laws.specs.Runs.{All, all_drop}
 use Rattle.paper.specs.Bytes.{pick, run, digit?}
-use Rattle.paper.specs.Constants.{value, in_range, six, five, decimal_byte}
+use Rattle.paper.specs.Constants.{value, in_range, zero_bytes, six, five, decimal_byte}
 use Rattle.laws.specs.Constants.{pow_add, ten_pos, six_is, pairs_apart}
-use Rattle.constant_bytes.specs.declared.Six.{Six}
-use Rattle.constant_bytes.specs.Numerals.{digit_at, pair_at, nought?, bytes_with, six_from, zeros_if, six_if, six_of}
+use Rattle.std.specs.Prelude.{Some, None}
+use Rattle.constant_bytes.specs.Numerals.{digit_at, pair_at, nought?, bytes_with, six_from, six_if, six_of}
 use Rattle.constant_bytes.proofs.Quotients.{quotient_is}
 use Rattle.constant_bytes.proofs.Values.{digit_most, value_below, value_least, value_skip, skipped, cut, cut_is}
 
@@ -144,18 +144,14 @@ six_cut w u d m t k a l h hk e lo hi =
     (subst (λ (n : ℕ). 100000000 ≤ n) q ((le-div_iff_mul-le (ten_pos (suc m))).1 low))
     (subst (λ (n : ℕ). n < 10000000000) q ((div-lt_iff_lt-mul (ten_pos (suc m))).1 high))
 
--- bytes made a constant in range
-pub made : {x y : List ℕ} → x ≡ y → ◌≡◌ {A = Six} (record { in_range = true; bytes = x }) (record { in_range = true; bytes = y })
-made e = ap (λ (b : List ℕ). record { in_range = true; bytes = b }) e
-
 nothing : (y b : ℕ) → 0 * b + y ≡ y
 nothing y b = omega arith
 
 -- ---- the four outcomes, for digits with their first that is not zero at z, m digits after it
 
 -- only zeros
-pub six_zero : (ds : List ℕ) (u d : ℕ) → length ds ≤ run nought? ds → six_of (value 0 ds) u d ≡ zeros_if true
-unfolding six_of six_if zeros_if in_range six value
+pub six_zero : (ds : List ℕ) (u d : ℕ) → length ds ≤ run nought? ds → six_of (value 0 ds) u d ≡ Some zero_bytes
+unfolding six_of six_if in_range six value
 six_zero ds u d l = rw (value_skip ds, drop_of_length-le ds l)
 
 module _ (ds : List ℕ) (z m u d : ℕ) (a : All digit? ds) (e : z ≡ run nought? ds) (l : length ds ≡ z + suc m) where
@@ -165,11 +161,11 @@ module _ (ds : List ℕ) (z m u d : ℕ) (a : All digit? ds) (e : z ≡ run noug
   first : Leads m (value 0 (drop z ds))
   first = leads ds z m a e l
 
-  pub six_low : m + u + 98 < d → six_of (value 0 ds) u d ≡ zeros_if false
+  pub six_low : m + u + 98 < d → six_of (value 0 ds) u d ≡ None
   unfolding six_of six_if
   six_low h = rw (skip, too_low (value 0 (drop z ds)) u d m first h)
 
-  pub six_high : 98 + d ≤ m + u → six_of (value 0 ds) u d ≡ zeros_if false
+  pub six_high : 98 + d ≤ m + u → six_of (value 0 ds) u d ≡ None
   unfolding six_of six_if
   six_high h = rw (skip, too_high (value 0 (drop z ds)) u d m first h)
 
@@ -177,7 +173,7 @@ module _ (ds : List ℕ) (z m u d : ℕ) (a : All digit? ds) (e : z ≡ run noug
     size : length (drop z ds) ≡ suc m
     size = length-drop z ds ∙ omega arith
 
-    even : x % 2 ≡ 0 → six_of (value 0 ds) u d ≡ record { in_range = true; bytes = bytes_with (x / 2 + 15) (digit_at ds z) ds (z + 1) }
+    even : x % 2 ≡ 0 → six_of (value 0 ds) u d ≡ Some (bytes_with (x / 2 + 15) (digit_at ds z) ds (z + 1))
     unfolding six_of six_if
     even r =
         rw (
@@ -188,7 +184,7 @@ module _ (ds : List ℕ) (z m u d : ℕ) (a : All digit? ds) (e : z ≡ run noug
           one_byte (digit_at ds z) (digit_at_most ds z a),
         )
 
-    odd : x % 2 ≡ 1 → six_of (value 0 ds) u d ≡ record { in_range = true; bytes = bytes_with (x / 2 + 15) (pair_at ds z) ds (z + 2) }
+    odd : x % 2 ≡ 1 → six_of (value 0 ds) u d ≡ Some (bytes_with (x / 2 + 15) (pair_at ds z) ds (z + 2))
     unfolding six_of six_if
     odd r =
         rw (
@@ -200,10 +196,10 @@ module _ (ds : List ℕ) (z m u d : ℕ) (a : All digit? ds) (e : z ≡ run noug
         )
 
     -- x is the power of ten of the first digit, and 98
-    pub six_within : six_of (value 0 ds) u d ≡ six_from ds z x
+    pub six_within : six_of (value 0 ds) u d ≡ Some (six_from ds z x)
     unfolding six_from
     six_within = go (eqb (x % 2) 0) refl
       where
-        go : (b : Bool) → eqb (x % 2) 0 ≡ b → six_of (value 0 ds) u d ≡ record { in_range = true; bytes = pick b (bytes_with (x / 2 + 15) (digit_at ds z) ds (z + 1)) (bytes_with (x / 2 + 15) (pair_at ds z) ds (z + 2)) }
+        go : (b : Bool) → eqb (x % 2) 0 ≡ b → six_of (value 0 ds) u d ≡ Some (pick b (bytes_with (x / 2 + 15) (digit_at ds z) ds (z + 1)) (bytes_with (x / 2 + 15) (pair_at ds z) ds (z + 2)))
         go true r = even (eqb-true (x % 2) 0 r)
         go false r = let n : x % 2 ≡ 0 → ⊥ = eqb-false (x % 2) 0 r in odd (omega arith)

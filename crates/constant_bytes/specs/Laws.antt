@@ -5,10 +5,10 @@ use Rattle.paper.specs.Bytes.{pick}
 use Rattle.paper.specs.Tokens.{constant, out_of_range}
 use Rattle.paper.specs.Constants.{value, in_range, six, constant_of}
 use Rattle.constant_bytes.specs.declared.Numeral.{Numeral}
-use Rattle.constant_bytes.specs.Numerals.{digits_in, up, down, six_if, zeros_if, six_of, numeral_six, token_of_six, numeral_token}
+use Rattle.constant_bytes.specs.Numerals.{digits_in, up, down, six_if, six_of, numeral_six, token_of_six, numeral_token}
 
 token_if : (b : Bool) (l : List ℕ) → token_of_six (six_if b l) ≡ pick b (constant l) out_of_range
-unfolding token_of_six six_if zeros_if
+unfolding token_of_six six_if
 token_if true l = refl
 token_if false l = refl
 

@@ -1,10 +1,9 @@
 -- A number's text as it was found, and the six bytes that it is.
-use Rattle.std.specs.Prelude.{ℕ, suc, ◌+◌, ◌-◌, ◌*◌, ◌/◌, ◌%◌, ◌≤◌, ◌≡◌, Bool, true, false, List, [], ◌∷◌, ◌++◌, eqb, length, take, drop, get_or}
+use Rattle.std.specs.Prelude.{ℕ, suc, ◌+◌, ◌-◌, ◌*◌, ◌/◌, ◌%◌, ◌≤◌, ◌≡◌, Bool, true, false, Option, Some, None, List, [], ◌∷◌, ◌++◌, eqb, length, take, drop, get_or}
 use Rattle.paper.specs.Bytes.{pick, digit?, every}
 use Rattle.paper.specs.Tokens.{Token, constant, out_of_range}
-use Rattle.paper.specs.Constants.{value, in_range, zero_bytes, six, constant_of}
+use Rattle.paper.specs.Constants.{value, in_range, six, constant_of}
 use Rattle.constant_bytes.specs.declared.Numeral.{Numeral}
-use Rattle.constant_bytes.specs.declared.Six.{Six}
 
 -- the digits before the point, and those after it
 unfoldable pub digits_in : List ℕ → Numeral → List ℕ
@@ -24,26 +23,23 @@ pub record Written (s : List ℕ) (n : Numeral) : Type 0 where
   pub fraction_there : n.fraction ≤ length s - suc n.whole
   pub all_digits : every digit? (digits_in s n) ≡ true
 
--- zero bytes, in range or not
-unfoldable pub zeros_if : Bool → Six
-zeros_if b = record { in_range = b; bytes = zero_bytes }
-
--- these bytes if they are in range, else zeros
-unfoldable pub six_if : Bool → List ℕ → Six
-six_if true b = record { in_range = true; bytes = b }
-six_if false b = zeros_if false
+-- these bytes if they are in range
+unfoldable pub six_if : Bool → List ℕ → Option (List ℕ)
+six_if true b = Some b
+six_if false b = None
 
 -- the six bytes of a value, v * 10 ^ u / 10 ^ d
-unfoldable pub six_of : ℕ → ℕ → ℕ → Six
+unfoldable pub six_of : ℕ → ℕ → ℕ → Option (List ℕ)
 six_of v u d = six_if (in_range v u d) (six v u d)
 
 -- the six bytes of a numeral in a text
-unfoldable pub numeral_six : List ℕ → Numeral → Six
+unfoldable pub numeral_six : List ℕ → Numeral → Option (List ℕ)
 numeral_six s n = six_of (value 0 (digits_in s n)) (up n) (down n)
 
 -- six bytes as a token
-unfoldable pub token_of_six : Six → Token
-token_of_six x = pick x.in_range (constant x.bytes) out_of_range
+unfoldable pub token_of_six : Option (List ℕ) → Token
+token_of_six (Some b) = constant b
+token_of_six None = out_of_range
 
 -- the token of a numeral in a text
 unfoldable pub numeral_token : List ℕ → Numeral → Token
@@ -71,6 +67,5 @@ bytes_with p t ds i = p ∷ t ∷ pair_at ds i ∷ pair_at ds (i + 2) ∷ pair_a
 
 -- The bytes of a constant by its digits: the first that is not zero stands at place z, and x is its power of ten and 98. An even power is the
 -- lower digit of the first pair.
-unfoldable pub six_from : List ℕ → ℕ → ℕ → Six
-six_from ds z x =
-    record { in_range = true; bytes = pick (eqb (x % 2) 0) (bytes_with (x / 2 + 15) (digit_at ds z) ds (z + 1)) (bytes_with (x / 2 + 15) (pair_at ds z) ds (z + 2)) }
+unfoldable pub six_from : List ℕ → ℕ → ℕ → List ℕ
+six_from ds z x = pick (eqb (x % 2) 0) (bytes_with (x / 2 + 15) (digit_at ds z) ds (z + 1)) (bytes_with (x / 2 + 15) (pair_at ds z) ds (z + 2))

@@ -1,9 +1,9 @@
 // The digits of a number's text, one after the other whether or not a point stands between them, and the bytes that they make.
 ghost use Rattle.std.specs.Prelude.{◌≡◌, ◌+◌, ◌^◌, ◌≤◌, ◌<◌, length};
 ghost use Rattle.paper.specs.Bytes.{run};
-ghost use Rattle.constant_bytes.specs.Numerals.{Written, digits_in, digit_at, pair_at, nought?, up, down, bytes_with, six_from, zeros_if};
+ghost use Rattle.constant_bytes.specs.Numerals.{Written, digits_in, digit_at, pair_at, nought?, up, down, bytes_with, six_from};
 
-use super::{Numeral, Six};
+use super::Numeral;
 
 // The digit at a place among the digits, 0 past the last.
 pub fn digit(text: &[u8], n: Numeral, i: usize) -> u8
@@ -64,14 +64,6 @@ pub fn down(n: Numeral) -> usize
     }
 }
 
-// Six zero bytes: the number is zero, or out of range.
-pub fn zeros(in_range: bool) -> Six
-    ensures { result ≡ zeros_if in_range }
-{
-    let bytes = [0u8; 6];
-    Six { in_range, bytes }
-}
-
 // A power byte, a first pair, and eight digits from a place on.
 pub fn bytes_with(text: &[u8], n: Numeral, power: u8, top: u8, at: usize) -> [u8; 6]
     requires { (at ≤ length text.now + 2) × Written text.now n }
@@ -88,16 +80,14 @@ pub fn bytes_with(text: &[u8], n: Numeral, power: u8, top: u8, at: usize) -> [u8
 }
 
 // The six bytes by the digits from the first that is not zero on; `place` is its power of ten and 98.
-pub fn six_from(text: &[u8], n: Numeral, first: usize, place: usize) -> Six
+pub fn six_from(text: &[u8], n: Numeral, first: usize, place: usize) -> [u8; 6]
     requires { (first < length text.now) × (place < 196) × Written text.now n }
     ensures { result ≡ six_from (digits_in text.now n) first place }
 {
-    let in_range = true;
     let power = (place / 2 + 15) as u8;
     if place % 2 == 0 {
-        let bytes = bytes_with(text, n, power, digit(text, n, first), first + 1);
-        return Six { in_range, bytes };
+        bytes_with(text, n, power, digit(text, n, first), first + 1)
+    } else {
+        bytes_with(text, n, power, pair(text, n, first), first + 2)
     }
-    let bytes = bytes_with(text, n, power, pair(text, n, first), first + 2);
-    Six { in_range, bytes }
 }

@@ -19,32 +19,25 @@ pub struct Numeral {
     pub power: u8,
 }
 
-// The six bytes of a number; all 0 if it is out of range.
-#[derive(Clone, Copy)]
-pub struct Six {
-    pub in_range: bool,
-    pub bytes: [u8; 6],
-}
-
-// The six bytes of the number at the front of a text, where its digits were found. The range is tested on the value as it is written;
-// digits after the tenth are cut.
-pub fn six_bytes(text: &[u8], n: Numeral) -> Six
+// The six bytes of the number at the front of a text, where its digits were found; none if it is out of range. The range is tested on the value as
+// it is written; digits after the tenth are cut.
+pub fn six_bytes(text: &[u8], n: Numeral) -> Option<[u8; 6]>
     requires { Written text.now n }
     ensures { result ≡ numeral_six text.now n }
 {
     let count = n.whole + n.fraction;
     let first = digits::leading(text, n);
     if count <= first {
-        return digits::zeros(true);
+        return Some([0; 6]);
     }
     // The value is at least 10 to the power of `up - down`, and below ten times that.
     let up = count - 1 - first + digits::up(n);
     let down = digits::down(n);
     if up + RANGE < down {
-        return digits::zeros(false);
+        return None;
     }
     if RANGE + down <= up {
-        return digits::zeros(false);
+        return None;
     }
-    digits::six_from(text, n, first, up + RANGE - down)
+    Some(digits::six_from(text, n, first, up + RANGE - down))
 }

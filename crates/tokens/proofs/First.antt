@@ -11,12 +11,10 @@ use borrow.Author.Tests.{eq-eqb, eqb-true, leb-true}
 use Rattle.paper.specs.Bytes.{pick, same, among, every}
 use Rattle.paper.specs.Classes.{unfit}
 use Rattle.paper.specs.Words.{Word, word, Found, found, nowhere, find_word, statements, operators, read_operators, functions}
-use Rattle.paper.specs.Tokens.{found_or}
+use Rattle.std.specs.Prelude.{Option, Some, None}
 use Rattle.laws.specs.Names.{same_ne}
 use Rattle.laws.specs.Tests.{and_left, and_right, is_true}
-use Rattle.tokens.specs.declared.Statement.TheVariants.{Nothing as NoStatement}
-use Rattle.tokens.specs.declared.Reserved.TheVariants.{Nothing as NotReserved}
-use Rattle.tokens.specs.Tables.{tabulated, total, read_words, fixed_words, statement_lengths, operator_lengths, words_of, begins, first_word, statement_found, reserved_found}
+use Rattle.tokens.specs.Tables.{tabulated, total, read_words, fixed_words, statement_lengths, operator_lengths, words_of, begins, first_word, token_found, statement_found, reserved_found}
 use Rattle.tokens.specs.Same.{no_bool}
 use Rattle.tokens.specs.Words.{find_read, token_within}
 use Rattle.tokens.proofs.Keys.{Rest, no_keys}
@@ -25,9 +23,9 @@ use Rattle.tokens.proofs.Search.{find_statement, find_operator, first_statement,
 
 -- ---- the arms of the two matches
 
--- the token of the first word with a first byte and a length, or that of none
-abbrev pub token_at : List Word → ℕ → ℕ → ℕ
-token_at ws b n = found_or (first_word ws b n) 0xff
+-- the token of the first word with a first byte and a length
+abbrev pub token_at : List Word → ℕ → ℕ → Option ℕ
+token_at ws b n = token_found (first_word ws b n)
 
 -- an arm's token
 pub first_at : (ws : List Word) (n k : ℕ) {b m : ℕ} → m ≡ n → b ≡ k → token_at ws k n ≡ token_at ws b m
@@ -38,9 +36,9 @@ abbrev tested : (ℕ → ℕ → Bool) → Word → Bool
 tested p w = p (get_or w.spelling 0 0) (length w.spelling)
 
 -- a first byte and a length that fail a test, where each word passes it, are no word's
-no_first : (ws : List Word) (p : ℕ → ℕ → Bool) (b n : ℕ) → T (every (λ w. tested p w) ws) → p b n ≡ false → 0xff ≡ token_at ws b n
-unfolding found_or every first_word begins
-no_first ws p b n a h = sym (ap (λ (f : Found). found_or f 0xff) (go ws a))
+no_first : (ws : List Word) (p : ℕ → ℕ → Bool) (b n : ℕ) → T (every (λ w. tested p w) ws) → p b n ≡ false → None ≡ token_at ws b n
+unfolding token_found every first_word begins
+no_first ws p b n a h = sym (ap token_found (go ws a))
   where
     one : (w : Word) (f : Found) → T (tested p w) → f ≡ nowhere → (x y : Bool) → eqb (get_or w.spelling 0 0) b ≡ x → eqb (length w.spelling) n ≡ y → pick (x && y) (found w.token) f ≡ nowhere
     one w f t i true true d e =
@@ -56,11 +54,11 @@ no_first ws p b n a h = sym (ap (λ (f : Found). found_or f 0xff) (go ws a))
         (eqb (get_or w.spelling 0 0) b) (eqb (length w.spelling) n) refl refl
 
 -- a last arm within a length: all words of n bytes begin with one of some bytes, and this is none of them
-pub no_byte : (ws : List Word) (n : ℕ) (ks : List ℕ) → T (every (λ w. among (get_or w.spelling 0 0) ks || not (eqb (length w.spelling) n)) ws) → (b : ℕ) {m : ℕ} → m ≡ n → Rest ks b → 0xff ≡ token_at ws b m
+pub no_byte : (ws : List Word) (n : ℕ) (ks : List ℕ) → T (every (λ w. among (get_or w.spelling 0 0) ks || not (eqb (length w.spelling) n)) ws) → (b : ℕ) {m : ℕ} → m ≡ n → Rest ks b → None ≡ token_at ws b m
 no_byte ws n ks a b {m} e r = no_first ws (λ x y. among x ks || not (eqb y n)) b m a (rw (no_keys b ks r, eq-eqb m n e))
 
 -- the last arm: all words have one of some lengths, and this is none of them
-pub no_length : (ws : List Word) (ks : List ℕ) → T (every (λ w. among (length w.spelling) ks) ws) → (b n : ℕ) → Rest ks n → 0xff ≡ token_at ws b n
+pub no_length : (ws : List Word) (ks : List ℕ) → T (every (λ w. among (length w.spelling) ks) ws) → (b n : ℕ) → Rest ks n → None ≡ token_at ws b n
 no_length ws ks a b n r = no_first ws (λ x y. among y ks) b n a (no_keys n ks r)
 
 -- ---- the search from there on
@@ -144,22 +142,22 @@ first_bounds low high ws b n a t h =
     let w = first_token ws b n (token_within low high) a t h in
     (leb-true low t (is_true (leb low t) (and_left (leb low t) (leb t high) w)), leb-true t high (is_true (leb t high) (and_right (leb low t) (leb t high) w)))
 
--- a token that is not that of none is the first one's
-pub first_found : {r b : ℕ} (ws : List Word) (s : List ℕ) → b ≡ get_or s 0 0 → r ≡ token_at ws b (length s) → (r ≡ 0xff → ⊥) → first_like s ws ≡ found r
-unfolding found_or
-first_found {r} {b} ws s e p n = go (first_like s ws) refl (p ∙ ap (λ (x : ℕ). token_at ws x (length s)) e)
+-- a token that is found is the first one's
+pub first_found : {r b : ℕ} (ws : List Word) (s : List ℕ) → b ≡ get_or s 0 0 → Some r ≡ token_at ws b (length s) → first_like s ws ≡ found r
+unfolding token_found
+first_found {r} {b} ws s e p = go (first_like s ws) refl (p ∙ ap (λ (x : ℕ). token_at ws x (length s)) e)
   where
-    go : (f : Found) → first_like s ws ≡ f → r ≡ found_or f 0xff → first_like s ws ≡ found r
-    go (found t) h q = h ∙ ap found (sym q)
-    go nowhere h q = absurd (n q)
+    go : (f : Found) → first_like s ws ≡ f → Some r ≡ token_found f → first_like s ws ≡ found r
+    go (found t) h q = let i : t ≡ r = cc in h ∙ ap found i
+    go nowhere h q = let z : ◌≡◌ {A = ℕ} 0 1 = cc in absurd (omega arith)
 
--- where it is that of none, the name is no word
-none_found : {r b : ℕ} (ws : List Word) (s : List ℕ) → T (every (λ w. token_within 0 0x54 w.token) ws) → b ≡ get_or s 0 0 → r ≡ token_at ws b (length s) → r ≡ 0xff → find_word ws s ≡ nowhere
-unfolding found_or
-none_found {r} {b} ws s a e p n = no_word ws s (go (first_like s ws) refl (sym n ∙ p ∙ ap (λ (x : ℕ). token_at ws x (length s)) e))
+-- where none is found, the name is no word
+none_found : {b : ℕ} (ws : List Word) (s : List ℕ) → b ≡ get_or s 0 0 → None ≡ token_at ws b (length s) → find_word ws s ≡ nowhere
+unfolding token_found
+none_found {b} ws s e p = no_word ws s (go (first_like s ws) refl (p ∙ ap (λ (x : ℕ). token_at ws x (length s)) e))
   where
-    go : (f : Found) → first_like s ws ≡ f → 0xff ≡ found_or f 0xff → first_like s ws ≡ nowhere
-    go (found t) h q = absurd (omega (arith, q, (first_bounds 0 0x54 ws (get_or s 0 0) (length s) a t h).1))
+    go : (f : Found) → first_like s ws ≡ f → None ≡ token_found f → first_like s ws ≡ nowhere
+    go (found t) h q = let z : ◌≡◌ {A = ℕ} 0 1 = cc in absurd (omega arith)
     go nowhere h q = h
 
 -- ---- the two searches
@@ -181,9 +179,9 @@ fits n ls i e h = rw (rest_all n ls i e) (omega (arith, total_parts i ls), omega
 
 -- ---- statements
 
-pub statement_nowhere : {r b : ℕ} (s : List ℕ) → b ≡ get_or s 0 0 → r ≡ token_at statements b (length s) → r ≡ 0xff → NoStatement ≡ statement_found (find_word statements s)
-unfolding statement_found every token_within statements word
-statement_nowhere s e p n = sym (ap statement_found (none_found statements s tt e p n))
+pub statement_nowhere : {b : ℕ} (s : List ℕ) → b ≡ get_or s 0 0 → None ≡ token_at statements b (length s) → None ≡ statement_found (find_word statements s)
+unfolding statement_found
+statement_nowhere s e p = sym (ap statement_found (none_found statements s e p))
 
 module _ {t : ℕ} (s : List ℕ) (f : first_like s statements ≡ found t) where
   pub statement_bound : t ≤ 0x35
@@ -209,9 +207,9 @@ module _ {t : ℕ} (s : List ℕ) (f : first_like s statements ≡ found t) wher
 
 -- ---- operators and functions
 
-pub reserved_nowhere : {r b : ℕ} (s : List ℕ) → b ≡ get_or s 0 0 → r ≡ token_at read_words b (length s) → r ≡ 0xff → NotReserved ≡ reserved_found (find_word operators s)
-unfolding reserved_found every token_within read_words read_operators functions word
-reserved_nowhere s e p n = sym (ap reserved_found (find_read s ∙ none_found read_words s tt e p n))
+pub reserved_nowhere : {b : ℕ} (s : List ℕ) → b ≡ get_or s 0 0 → None ≡ token_at read_words b (length s) → None ≡ reserved_found (find_word operators s)
+unfolding reserved_found
+reserved_nowhere s e p = sym (ap reserved_found (find_read s ∙ none_found read_words s e p))
 
 module _ {t : ℕ} (s : List ℕ) (f : first_like s read_words ≡ found t) where
   pub reserved_bounds : (0x12 ≤ t) × (t ≤ 0x54)

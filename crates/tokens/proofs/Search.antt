@@ -13,10 +13,9 @@ use Rattle.paper.specs.Bytes.{pick, bytes, same}
 use Rattle.paper.specs.Classes.{unfit}
 use Rattle.paper.specs.Words.{Word, word, Found, found, nowhere, find_word, word_of, statements, operators, read_operators, functions}
 use Rattle.laws.specs.Names.{same_ne}
-use Rattle.tokens.specs.declared.Found.{Found as Answer}
-use Rattle.tokens.specs.declared.Found.TheVariants.{Token, Nothing}
-use Rattle.tokens.specs.declared.Statement.TheVariants.{Word as AWord, Nothing as NoStatement}
-use Rattle.tokens.specs.declared.Reserved.TheVariants.{Operator, Function, Nothing as NotReserved}
+use Rattle.std.specs.Prelude.{Option, Some, None}
+use Rattle.tokens.specs.declared.StatementToken.{StatementToken}
+use Rattle.tokens.specs.declared.Reserved.TheVariants.{Operator, Function}
 use Rattle.tokens.specs.Tables.{tabulated, total, end_to_end, read_words, fixed_words, word_size, statement_lengths, operator_lengths, words_of, begins, first_word, token_found, statement_found, reserved_found}
 use Rattle.tokens.specs.Same.{same_as}
 use Rattle.tokens.specs.Words.{find_read}
@@ -76,7 +75,7 @@ module _ (ls bs s : List ℕ) (i from token : ℕ) (h : i < length ls) where
       rw (drop-cons ls i 0 h, drop-drop (get_or ls i 0) from bs, add-one i, add-one token)
       (step_go (get_or ls i 0) (words_of (suc token) (drop (suc i) ls) (drop (from + get_or ls i 0) bs)) (eqb (get_or ls i 0) 0) refl)
 
-  pub hit : {all : Found} → all ≡ find_word (words_of token (drop i ls) (drop from bs)) s → stands bs from (get_or ls i 0) s ≡ true → Token token ≡ token_found all
+  pub hit : {all : Found} → all ≡ find_word (words_of token (drop i ls) (drop from bs)) s → stands bs from (get_or ls i 0) s ≡ true → Some token ≡ token_found all
   unfolding token_found
   hit {all} e t = sym (ap token_found (e ∙ step ∙ ap (λ (b : Bool). pick b (found token) (find_word (words_of (token + 1) (drop (i + 1) ls) (drop (from + get_or ls i 0) bs)) s)) t))
 
@@ -84,7 +83,7 @@ module _ (ls bs s : List ℕ) (i from token : ℕ) (h : i < length ls) where
       → all ≡ find_word (words_of (token + 1) (drop (i + 1) ls) (drop (from + get_or ls i 0) bs)) s
   miss {all} e t = e ∙ step ∙ ap (λ (b : Bool). pick b (found token) (find_word (words_of (token + 1) (drop (i + 1) ls) (drop (from + get_or ls i 0) bs)) s)) t
 
-pub done : {all : Found} (ls bs s : List ℕ) (i token : ℕ) → length ls ≤ i → all ≡ find_word (words_of token (drop i ls) bs) s → Nothing ≡ token_found all
+pub done : {all : Found} (ls bs s : List ℕ) (i token : ℕ) → length ls ≤ i → all ≡ find_word (words_of token (drop i ls) bs) s → None ≡ token_found all
 unfolding words_of find_word token_found
 done ls bs s i token h e = sym (ap token_found (e ∙ ap (λ (l : List ℕ). find_word (words_of token l bs) s) (drop_of_length-le ls h)))
 
@@ -127,36 +126,31 @@ first_operator b n = ap (λ (ws : List Word). first_word ws b n) operator_table 
 
 -- ---- answers of other types
 
-pub statement_answer : {a : Answer} {t : ℕ} (f g : Found) → a ≡ token_found f → f ≡ g → a ≡ Token t → AWord (record { 0 = t }) ≡ statement_found g
+-- a token as a statement's
+abbrev pub a_statement : ℕ → Option StatementToken
+a_statement t = Some (record { 0 = t })
+
+pub statement_answer : {t : ℕ} (f g : Found) → Some t ≡ token_found f → f ≡ g → a_statement t ≡ statement_found g
 unfolding token_found statement_found
-statement_answer {a} {t} (found u) g p q r =
-    let e : Token u ≡ Token t = sym p ∙ r in
-    let i : t ≡ u = cc in
-    ap (λ (x : ℕ). AWord (record { 0 = x })) i ∙ ap statement_found q
-statement_answer nowhere g p q r = let z : ◌≡◌ {A = ℕ} 0 1 = cc in absurd (omega arith)
+statement_answer {t} (found u) g p q = let i : t ≡ u = cc in ap a_statement i ∙ ap statement_found q
+statement_answer nowhere g p q = let z : ◌≡◌ {A = ℕ} 0 1 = cc in absurd (omega arith)
 
-pub statement_none : {a : Answer} (f g : Found) → a ≡ token_found f → f ≡ g → a ≡ Nothing → NoStatement ≡ statement_found g
+pub statement_none : (f g : Found) → None ≡ token_found f → f ≡ g → None ≡ statement_found g
 unfolding token_found statement_found
-statement_none (found u) g p q r = let z : ◌≡◌ {A = ℕ} 0 1 = cc in absurd (omega arith)
-statement_none nowhere g p q r = ap statement_found q
+statement_none (found u) g p q = let z : ◌≡◌ {A = ℕ} 0 1 = cc in absurd (omega arith)
+statement_none nowhere g p q = ap statement_found q
 
-pub operator_answer : {a : Answer} {t : ℕ} (f g : Found) → a ≡ token_found f → f ≡ g → a ≡ Token t → t < 0x3d → Operator (record { 0 = t }) ≡ reserved_found g
+pub operator_answer : {t : ℕ} (f g : Found) → Some t ≡ token_found f → f ≡ g → t < 0x3d → Some (Operator (record { 0 = t })) ≡ reserved_found g
 unfolding token_found reserved_found
-operator_answer {a} {t} (found u) g p q r h =
-    let e : Token u ≡ Token t = sym p ∙ r in
-    let i : u ≡ t = cc in
-    sym (ap reserved_found (sym q ∙ ap found i) ∙ rw (lt-ltb t 0x3d h))
-operator_answer nowhere g p q r h = let z : ◌≡◌ {A = ℕ} 0 1 = cc in absurd (omega arith)
+operator_answer {t} (found u) g p q h = let i : u ≡ t = cc in sym (ap reserved_found (sym q ∙ ap found i) ∙ rw (lt-ltb t 0x3d h))
+operator_answer nowhere g p q h = let z : ◌≡◌ {A = ℕ} 0 1 = cc in absurd (omega arith)
 
-pub function_answer : {a : Answer} {t : ℕ} (f g : Found) → a ≡ token_found f → f ≡ g → a ≡ Token t → 0x3d ≤ t → Function (record { 0 = t }) ≡ reserved_found g
+pub function_answer : {t : ℕ} (f g : Found) → Some t ≡ token_found f → f ≡ g → 0x3d ≤ t → Some (Function (record { 0 = t })) ≡ reserved_found g
 unfolding token_found reserved_found
-function_answer {a} {t} (found u) g p q r h =
-    let e : Token u ≡ Token t = sym p ∙ r in
-    let i : u ≡ t = cc in
-    sym (ap reserved_found (sym q ∙ ap found i) ∙ rw (le-ltb t 0x3d h))
-function_answer nowhere g p q r h = let z : ◌≡◌ {A = ℕ} 0 1 = cc in absurd (omega arith)
+function_answer {t} (found u) g p q h = let i : u ≡ t = cc in sym (ap reserved_found (sym q ∙ ap found i) ∙ rw (le-ltb t 0x3d h))
+function_answer nowhere g p q h = let z : ◌≡◌ {A = ℕ} 0 1 = cc in absurd (omega arith)
 
-pub reserved_none : {a : Answer} (f g : Found) → a ≡ token_found f → f ≡ g → a ≡ Nothing → NotReserved ≡ reserved_found g
+pub reserved_none : (f g : Found) → None ≡ token_found f → f ≡ g → None ≡ reserved_found g
 unfolding token_found reserved_found
-reserved_none (found u) g p q r = let z : ◌≡◌ {A = ℕ} 0 1 = cc in absurd (omega arith)
-reserved_none nowhere g p q r = ap reserved_found q
+reserved_none (found u) g p q = let z : ◌≡◌ {A = ℕ} 0 1 = cc in absurd (omega arith)
+reserved_none nowhere g p q = ap reserved_found q

@@ -9,18 +9,17 @@ use borrow.Author.Tests.{ne_eqb}
 use Rattle.paper.specs.Bytes.{pick, bytes, same, letter?}
 use Rattle.paper.specs.Classes.{to_word, comparison, or_and, comma, colon, semicolon, channel_sign, equals, factor_sign, plus_minus, open_sign, close_sign}
 use Rattle.paper.specs.Words.{Word, word, Found, found, nowhere, find_word, operators, read_operators, functions}
-use Rattle.tokens.specs.declared.Found.{Found as Answer}
-use Rattle.tokens.specs.declared.Found.TheVariants.{Token, Nothing}
-use Rattle.tokens.specs.declared.Symbol.TheVariants.{Two, One, Nothing as NoSymbol}
+use Rattle.std.specs.Prelude.{Option, Some, None}
+use Rattle.tokens.specs.declared.Symbol.TheVariants.{Two, One}
 use Rattle.tokens.specs.Tables.{read_words, token_found, pair_found, symbol_found}
 use Rattle.tokens.specs.Same.{no_bool}
 use Rattle.tokens.specs.Words.{find_read, find_of_length, of_length}
 
 -- what a pair of bytes is, and a byte
-abbrev pub pair_answer : ℕ → ℕ → Answer
+abbrev pub pair_answer : ℕ → ℕ → Option ℕ
 pair_answer b c = token_found (pair_found b (find_word operators (b ∷ c ∷ [])))
 
-abbrev pub sign_answer : ℕ → Answer
+abbrev pub sign_answer : ℕ → Option ℕ
 sign_answer b = token_found (find_word operators (b ∷ []))
 
 other : {b : ℕ} (k : ℕ) → (b ≡ k → ⊥) → eqb k b ≡ false
@@ -41,11 +40,11 @@ pairs_all = refl
 no_pair_of : (b c : ℕ) → find_word pairs (b ∷ c ∷ []) ≡ nowhere → find_word operators (b ∷ c ∷ []) ≡ nowhere
 no_pair_of b c h = find_read (b ∷ c ∷ []) ∙ find_of_length read_words (b ∷ c ∷ []) ∙ ap (λ (ws : List Word). find_word ws (b ∷ c ∷ [])) pairs_all ∙ h
 
-nothing_pair : (b c : ℕ) → find_word operators (b ∷ c ∷ []) ≡ nowhere → Nothing ≡ pair_answer b c
+nothing_pair : (b c : ℕ) → find_word operators (b ∷ c ∷ []) ≡ nowhere → None ≡ pair_answer b c
 unfolding token_found pair_found
 nothing_pair b c h = go (letter? b)
   where
-    go : (x : Bool) → Nothing ≡ token_found (pick x nowhere (find_word operators (b ∷ c ∷ [])))
+    go : (x : Bool) → None ≡ token_found (pick x nowhere (find_word operators (b ∷ c ∷ [])))
     go true = refl
     go false = sym (ap token_found h)
 
@@ -53,14 +52,14 @@ less_none : (c : ℕ) → eqb 61 c ≡ false → eqb 62 c ≡ false → find_wor
 unfolding find_word pairs word bytes same
 less_none c m n = rw (m, n)
 
-pub less_alone : {b c : ℕ} → b ≡ 60 → (c ≡ 61 → ⊥) → (c ≡ 62 → ⊥) → Nothing ≡ pair_answer b c
+pub less_alone : {b c : ℕ} → b ≡ 60 → (c ≡ 61 → ⊥) → (c ≡ 62 → ⊥) → None ≡ pair_answer b c
 less_alone {b} {c} e m n = nothing_pair 60 c (no_pair_of 60 c (less_none c (other 61 m) (other 62 n))) ∙ pair_at 60 c e refl
 
 greater_none : (c : ℕ) → eqb 61 c ≡ false → find_word pairs (62 ∷ c ∷ []) ≡ nowhere
 unfolding find_word pairs word bytes same
 greater_none c m = rw m
 
-pub greater_alone : {b c : ℕ} → b ≡ 62 → (c ≡ 61 → ⊥) → Nothing ≡ pair_answer b c
+pub greater_alone : {b c : ℕ} → b ≡ 62 → (c ≡ 61 → ⊥) → None ≡ pair_answer b c
 greater_alone {b} {c} e m = nothing_pair 62 c (no_pair_of 62 c (greater_none c (other 61 m))) ∙ pair_at 62 c e refl
 
 other_none : (b c : ℕ) → eqb 84 b ≡ false → eqb 60 b ≡ false → eqb 62 b ≡ false → eqb 79 b ≡ false → find_word pairs (b ∷ c ∷ []) ≡ nowhere
@@ -71,11 +70,11 @@ other_none b c t l g o = rw (t, l, g, o)
 letter_other : {b : ℕ} (k : ℕ) → letter? k ≡ true → letter? b ≡ false → b ≡ k → ⊥
 letter_other {b} k t f e = no_bool (sym f ∙ ap letter? e ∙ t)
 
-pub no_pair : (b c : ℕ) → (b ≡ 60 → ⊥) → (b ≡ 62 → ⊥) → Nothing ≡ pair_answer b c
+pub no_pair : (b c : ℕ) → (b ≡ 60 → ⊥) → (b ≡ 62 → ⊥) → None ≡ pair_answer b c
 unfolding token_found pair_found letter?
 no_pair b c m n = go (letter? b) refl
   where
-    go : (x : Bool) → letter? b ≡ x → Nothing ≡ token_found (pick x nowhere (find_word operators (b ∷ c ∷ [])))
+    go : (x : Bool) → letter? b ≡ x → None ≡ token_found (pick x nowhere (find_word operators (b ∷ c ∷ [])))
     go true e = refl
     go false e = sym (ap token_found (no_pair_of b c (other_none b c (other 84 (letter_other {b = b} 84 refl e)) (other 60 m) (other 62 n) (other 79 (letter_other {b = b} 79 refl e)))))
 
@@ -96,7 +95,7 @@ signs_none : (b : ℕ) → eqb 44 b ≡ false → eqb 58 b ≡ false → eqb 59 
 unfolding find_word signs word bytes same
 signs_none b n1 n2 n3 n4 n5 n6 n7 n8 n9 n10 n11 n12 n13 n14 = rw (n1, n2, n3, n4, n5, n6, n7, n8, n9, n10, n11, n12, n13, n14)
 
-pub no_sign : {b : ℕ} → (b ≡ 44 → ⊥) → (b ≡ 58 → ⊥) → (b ≡ 59 → ⊥) → (b ≡ 35 → ⊥) → (b ≡ 60 → ⊥) → (b ≡ 62 → ⊥) → (b ≡ 61 → ⊥) → (b ≡ 94 → ⊥) → (b ≡ 42 → ⊥) → (b ≡ 43 → ⊥) → (b ≡ 45 → ⊥) → (b ≡ 47 → ⊥) → (b ≡ 40 → ⊥) → (b ≡ 41 → ⊥) → Nothing ≡ sign_answer b
+pub no_sign : {b : ℕ} → (b ≡ 44 → ⊥) → (b ≡ 58 → ⊥) → (b ≡ 59 → ⊥) → (b ≡ 35 → ⊥) → (b ≡ 60 → ⊥) → (b ≡ 62 → ⊥) → (b ≡ 61 → ⊥) → (b ≡ 94 → ⊥) → (b ≡ 42 → ⊥) → (b ≡ 43 → ⊥) → (b ≡ 45 → ⊥) → (b ≡ 47 → ⊥) → (b ≡ 40 → ⊥) → (b ≡ 41 → ⊥) → None ≡ sign_answer b
 unfolding token_found
 no_sign {b} n1 n2 n3 n4 n5 n6 n7 n8 n9 n10 n11 n12 n13 n14 =
     sym
@@ -106,19 +105,19 @@ no_sign {b} n1 n2 n3 n4 n5 n6 n7 n8 n9 n10 n11 n12 n13 n14 =
 
 -- ---- the longest of them
 
-pub symbol_two : {a : Answer} {t : ℕ} (f g : Found) → a ≡ token_found f → a ≡ Token t → Two (record { 0 = t }) ≡ symbol_found f g
+pub symbol_two : {t : ℕ} (f g : Found) → Some t ≡ token_found f → Some (Two (record { 0 = t })) ≡ symbol_found f g
 unfolding token_found symbol_found
-symbol_two {a} {t} (found u) g p q = let e : Token u ≡ Token t = sym p ∙ q in let i : t ≡ u = cc in ap (λ (x : ℕ). Two (record { 0 = x })) i
-symbol_two nowhere g p q = let z : ◌≡◌ {A = ℕ} 0 1 = cc in absurd (omega arith)
+symbol_two {t} (found u) g p = let i : t ≡ u = cc in ap (λ (x : ℕ). Some (Two (record { 0 = x }))) i
+symbol_two nowhere g p = let z : ◌≡◌ {A = ℕ} 0 1 = cc in absurd (omega arith)
 
-pub symbol_one : {a d : Answer} {t : ℕ} (f g : Found) → a ≡ token_found f → a ≡ Nothing → d ≡ token_found g → d ≡ Token t → One (record { 0 = t }) ≡ symbol_found f g
+pub symbol_one : {t : ℕ} (f g : Found) → None ≡ token_found f → Some t ≡ token_found g → Some (One (record { 0 = t })) ≡ symbol_found f g
 unfolding token_found symbol_found
-symbol_one (found u) g p q r s = let z : ◌≡◌ {A = ℕ} 0 1 = cc in absurd (omega arith)
-symbol_one {a} {d} {t} nowhere (found u) p q r s = let e : Token u ≡ Token t = sym r ∙ s in let i : t ≡ u = cc in ap (λ (x : ℕ). One (record { 0 = x })) i
-symbol_one nowhere nowhere p q r s = let z : ◌≡◌ {A = ℕ} 0 1 = cc in absurd (omega arith)
+symbol_one (found u) g p q = let z : ◌≡◌ {A = ℕ} 0 1 = cc in absurd (omega arith)
+symbol_one {t} nowhere (found u) p q = let i : t ≡ u = cc in ap (λ (x : ℕ). Some (One (record { 0 = x }))) i
+symbol_one nowhere nowhere p q = let z : ◌≡◌ {A = ℕ} 0 1 = cc in absurd (omega arith)
 
-pub symbol_none : {a d : Answer} (f g : Found) → a ≡ token_found f → a ≡ Nothing → d ≡ token_found g → d ≡ Nothing → NoSymbol ≡ symbol_found f g
+pub symbol_none : (f g : Found) → None ≡ token_found f → None ≡ token_found g → None ≡ symbol_found f g
 unfolding token_found symbol_found
-symbol_none (found u) g p q r s = let z : ◌≡◌ {A = ℕ} 0 1 = cc in absurd (omega arith)
-symbol_none nowhere (found u) p q r s = let z : ◌≡◌ {A = ℕ} 0 1 = cc in absurd (omega arith)
-symbol_none nowhere nowhere p q r s = refl
+symbol_none (found u) g p q = let z : ◌≡◌ {A = ℕ} 0 1 = cc in absurd (omega arith)
+symbol_none nowhere (found u) p q = let z : ◌≡◌ {A = ℕ} 0 1 = cc in absurd (omega arith)
+symbol_none nowhere nowhere p q = refl

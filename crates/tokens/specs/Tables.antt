@@ -1,16 +1,13 @@
 -- The tables of words as the code lays them out, and what a search of one gives.
-use Rattle.std.specs.Prelude.{ℕ, zero, suc, ◌+◌, Bool, ◌&&◌, List, [], ◌∷◌, ◌++◌, ltb, eqb, length, get_or, take, drop}
+use Rattle.std.specs.Prelude.{ℕ, zero, suc, ◌+◌, Bool, ◌&&◌, Option, Some, None, List, [], ◌∷◌, ◌++◌, ltb, eqb, length, get_or, take, drop}
 use Rattle.paper.specs.Bytes.{pick, bytes, letter?}
 use Rattle.paper.specs.Classes.{unfit}
 use Rattle.paper.specs.Words.{Word, word, Found, found, nowhere, word_of, statements, read_operators, functions}
-use Rattle.tokens.specs.declared.Found.{Found as Answer}
-use Rattle.tokens.specs.declared.Found.TheVariants.{Token, Nothing}
-use Rattle.tokens.specs.declared.Statement.{Statement}
-use Rattle.tokens.specs.declared.Statement.TheVariants.{Word as AWord, Nothing as NoStatement}
+use Rattle.tokens.specs.declared.StatementToken.{StatementToken}
 use Rattle.tokens.specs.declared.Reserved.{Reserved}
-use Rattle.tokens.specs.declared.Reserved.TheVariants.{Operator, Function, Nothing as NotReserved}
+use Rattle.tokens.specs.declared.Reserved.TheVariants.{Operator, Function}
 use Rattle.tokens.specs.declared.Symbol.{Symbol}
-use Rattle.tokens.specs.declared.Symbol.TheVariants.{Two, One, Nothing as NoSymbol}
+use Rattle.tokens.specs.declared.Symbol.TheVariants.{Two, One}
 
 -- ---- tables
 
@@ -73,29 +70,29 @@ first_word (w ∷ ws) b n = let r = first_word ws b n in pick (begins b n w.spel
 -- ---- what a search gives
 
 -- the token found
-unfoldable pub token_found : Found → Answer
-token_found (found t) = Token t
-token_found nowhere = Nothing
+unfoldable pub token_found : Found → Option ℕ
+token_found (found t) = Some t
+token_found nowhere = None
 
 -- a statement's word
-unfoldable pub statement_found : Found → Statement
-statement_found (found t) = AWord (record { 0 = t })
-statement_found nowhere = NoStatement
+unfoldable pub statement_found : Found → Option StatementToken
+statement_found (found t) = Some (record { 0 = t })
+statement_found nowhere = None
 
 -- a word operator, or from 3D on a function
-unfoldable pub reserved_found : Found → Reserved
-reserved_found (found t) = pick (ltb t 0x3d) (Operator (record { 0 = t })) (Function (record { 0 = t }))
-reserved_found nowhere = NotReserved
+unfoldable pub reserved_found : Found → Option Reserved
+reserved_found (found t) = Some (pick (ltb t 0x3d) (Operator (record { 0 = t })) (Function (record { 0 = t })))
+reserved_found nowhere = None
 
 -- a letter begins no symbol
 unfoldable pub pair_found : ℕ → Found → Found
 pair_found b f = pick (letter? b) nowhere f
 
 -- the longest symbol: of two bytes, or of one
-unfoldable pub symbol_found : Found → Found → Symbol
-symbol_found (found t) one = Two (record { 0 = t })
-symbol_found nowhere (found t) = One (record { 0 = t })
-symbol_found nowhere nowhere = NoSymbol
+unfoldable pub symbol_found : Found → Found → Option Symbol
+symbol_found (found t) one = Some (Two (record { 0 = t }))
+symbol_found nowhere (found t) = Some (One (record { 0 = t }))
+symbol_found nowhere nowhere = None
 
 -- To unfold this is to see the bytes of the fixed words.
 unfoldable pub fixed_bytes : Unit {0}

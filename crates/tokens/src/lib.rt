@@ -13,7 +13,7 @@ ghost use Rattle.paper.specs.Line.{raw_statement?};
 ghost use Rattle.tokens.specs.Tables.{total, read_words, fixed_words, words_of, first_word, token_found, statement_found, reserved_found, pair_found, symbol_found};
 ghost use Rattle.tokens.specs.Parts.{statement_part, operator_part, bytes_at};
 
-use buffers::lesser;
+use buffers::{byte_at, lesser};
 use number::{function, operator, statement};
 
 // A token that begins a statement.
@@ -296,34 +296,18 @@ pub const WORDS: [u8; 355] =
     ,:;GOTOGOSUBTOSTEPTHEN#<=<>>=<>=^*+-/NOTORAND()STR$CHR$USRASCVALLENADRATNCOSPEEKSINRNDFREEXPLOG\
     CLOGSQRSGNABSINTPADDLESTICKPTRIGSTRIG";
 
-// What a search of a table gives: a token, or nothing.
-#[derive(Clone, Copy)]
-pub(crate) enum Found {
-    Token(u8),
-    Nothing,
-}
-
-// What a name is as a statement's word.
-#[derive(Clone, Copy)]
-pub enum Statement {
-    Word(StatementToken),
-    Nothing,
-}
-
 // What a name is as a word operator or function.
 #[derive(Clone, Copy)]
 pub enum Reserved {
     Operator(OperatorToken),
     Function(FunctionToken),
-    Nothing,
 }
 
-// A symbol at two bytes: of both, of the first, or none.
+// A symbol at two bytes: of both, or of the first.
 #[derive(Clone, Copy)]
 pub enum Symbol {
     Two(OperatorToken),
     One(OperatorToken),
-    Nothing,
 }
 
 // Where a spelling stands: among the fixed words or in the name table.
@@ -493,7 +477,7 @@ pub fn read_as(token: u8) -> u8
 
 // The token of the fixed word that is the whole of a name, looked for from a place of the fixed words on: the lengths of the words there are given,
 // and the token of the first. The one borrow of the words by a search: the compiler lays the words down wherever they are borrowed.
-fn find_fixed(start: usize, lengths: &[u8], first: u8, name: &[u8]) -> Found
+fn find_fixed(start: usize, lengths: &[u8], first: u8, name: &[u8]) -> Option<u8>
     requires { (start + total lengths.now ≤ 355) × (first + length lengths.now ≤ 255) }
     ensures { result ≡ token_found (find_word (words_of first lengths.now (drop start fixed_words)) name.now) }
 {
@@ -501,119 +485,100 @@ fn find_fixed(start: usize, lengths: &[u8], first: u8, name: &[u8]) -> Found
 }
 
 // The statement word that is the whole of a name, looked for from the first one on that has the name's first byte and length.
-fn find_statement(first: u8, name: &[u8]) -> Statement
+fn find_statement(first: u8, name: &[u8]) -> Option<StatementToken>
     requires { first_word statements (get_or name.now 0 0) (length name.now) ≡ found first }
     ensures { result ≡ statement_found (find_word statements name.now) }
 {
-    match find_fixed(
+    let token = find_fixed(
         tables::statement_start(first) as usize,
         &tables::STATEMENT_LENGTHS[first as usize..],
         first,
         name,
-    ) {
-        Found::Token(t) => Statement::Word(StatementToken(t)),
-        Found::Nothing => Statement::Nothing,
-    }
+    )?;
+    Some(StatementToken(token))
 }
 
 // The statement word that is the whole of a name.
-pub fn statement_word(name: &[u8]) -> Statement
+pub fn statement_word(name: &[u8]) -> Option<StatementToken>
     ensures { result ≡ statement_found (find_word statements name.now) }
 {
-    let first = tables::first_statement(tables::first_of(name), name.len());
-    if first == tables::NO_WORD {
-        Statement::Nothing
-    } else {
-        find_statement(first, name)
-    }
+    find_statement(tables::first_statement(byte_at(name, 0), name.len())?, name)
 }
 
 // The word operator or function that is the whole of a name, looked for from the first one on that has the name's first byte and length.
-fn find_reserved(first: u8, name: &[u8]) -> Reserved
+fn find_reserved(first: u8, name: &[u8]) -> Option<Reserved>
     requires { first_word read_words (get_or name.now 0 0) (length name.now) ≡ found first }
     ensures { result ≡ reserved_found (find_word operators name.now) }
 {
     let i = first - tables::FIRST_OPERATOR;
-    match find_fixed(
+    let token = find_fixed(
         tables::STATEMENT_BYTES + tables::operator_start(i) as usize,
         &tables::OPERATOR_LENGTHS[i as usize..],
         first,
         name,
-    ) {
-        Found::Token(t) => {
-            if t < FunctionToken::STR.0 {
-                Reserved::Operator(OperatorToken(t))
-            } else {
-                Reserved::Function(FunctionToken(t))
-            }
-        }
-        Found::Nothing => Reserved::Nothing,
+    )?;
+    if token < FunctionToken::STR.0 {
+        Some(Reserved::Operator(OperatorToken(token)))
+    } else {
+        Some(Reserved::Function(FunctionToken(token)))
     }
 }
 
 // The word operator or function that is the whole of a name.
-pub fn reserved_word(name: &[u8]) -> Reserved
+pub fn reserved_word(name: &[u8]) -> Option<Reserved>
     ensures { result ≡ reserved_found (find_word operators name.now) }
 {
-    let first = tables::first_reserved(tables::first_of(name), name.len());
-    if first == tables::NO_WORD {
-        Reserved::Nothing
-    } else {
-        find_reserved(first, name)
-    }
+    find_reserved(tables::first_reserved(byte_at(name, 0), name.len())?, name)
 }
 
 // The symbol of two bytes that these are; a letter begins none.
-fn pair(b: u8, c: u8) -> Found
+fn pair(b: u8, c: u8) -> Option<u8>
     ensures { result ≡ token_found (pair_found b (find_word operators (b ∷ c ∷ []))) }
 {
     match b {
         b'<' => match c {
-            b'=' => Found::Token(OperatorToken::LESS_OR_EQUAL.0),
-            b'>' => Found::Token(OperatorToken::UNEQUAL.0),
-            _ => Found::Nothing,
+            b'=' => Some(OperatorToken::LESS_OR_EQUAL.0),
+            b'>' => Some(OperatorToken::UNEQUAL.0),
+            _ => None,
         },
         b'>' => match c {
-            b'=' => Found::Token(OperatorToken::GREATER_OR_EQUAL.0),
-            _ => Found::Nothing,
+            b'=' => Some(OperatorToken::GREATER_OR_EQUAL.0),
+            _ => None,
         },
-        _ => Found::Nothing,
+        _ => None,
     }
 }
 
 // The symbol of one byte that this is.
-fn sign(b: u8) -> Found
+fn sign(b: u8) -> Option<u8>
     ensures { result ≡ token_found (find_word operators (b ∷ [])) }
 {
     match b {
-        b',' => Found::Token(OperatorToken::COMMA.0),
-        b':' => Found::Token(OperatorToken::COLON.0),
-        b';' => Found::Token(OperatorToken::SEMICOLON.0),
-        b'#' => Found::Token(OperatorToken::CHANNEL_SIGN.0),
-        b'<' => Found::Token(OperatorToken::LESS.0),
-        b'>' => Found::Token(OperatorToken::GREATER.0),
-        b'=' => Found::Token(OperatorToken::EQUAL.0),
-        b'^' => Found::Token(OperatorToken::POWER.0),
-        b'*' => Found::Token(OperatorToken::TIMES.0),
-        b'+' => Found::Token(OperatorToken::PLUS.0),
-        b'-' => Found::Token(OperatorToken::MINUS.0),
-        b'/' => Found::Token(OperatorToken::DIVIDED_BY.0),
-        b'(' => Found::Token(OperatorToken::OPEN.0),
-        b')' => Found::Token(OperatorToken::CLOSE.0),
-        _ => Found::Nothing,
+        b',' => Some(OperatorToken::COMMA.0),
+        b':' => Some(OperatorToken::COLON.0),
+        b';' => Some(OperatorToken::SEMICOLON.0),
+        b'#' => Some(OperatorToken::CHANNEL_SIGN.0),
+        b'<' => Some(OperatorToken::LESS.0),
+        b'>' => Some(OperatorToken::GREATER.0),
+        b'=' => Some(OperatorToken::EQUAL.0),
+        b'^' => Some(OperatorToken::POWER.0),
+        b'*' => Some(OperatorToken::TIMES.0),
+        b'+' => Some(OperatorToken::PLUS.0),
+        b'-' => Some(OperatorToken::MINUS.0),
+        b'/' => Some(OperatorToken::DIVIDED_BY.0),
+        b'(' => Some(OperatorToken::OPEN.0),
+        b')' => Some(OperatorToken::CLOSE.0),
+        _ => None,
     }
 }
 
 // The longest symbol that two bytes begin with: of two, or of one.
-pub fn longest_symbol(b: u8, c: u8) -> Symbol
+pub fn longest_symbol(b: u8, c: u8) -> Option<Symbol>
     ensures { result ≡ symbol_found (pair_found b (find_word operators (b ∷ c ∷ []))) (find_word operators (b ∷ [])) }
 {
     match pair(b, c) {
-        Found::Token(t) => Symbol::Two(OperatorToken(t)),
-        Found::Nothing => match sign(b) {
-            Found::Token(t) => Symbol::One(OperatorToken(t)),
-            Found::Nothing => Symbol::Nothing,
-        },
+        Some(token) => Some(Symbol::Two(OperatorToken(token))),
+        None => Some(Symbol::One(OperatorToken(sign(b)?))),
     }
 }
 

@@ -2,17 +2,13 @@
 ghost use Rattle.std.specs.Prelude.{◌≡◌, ◌&&◌, not, ◌+◌, ◌≤◌, eqb, length, get_or, take, drop};
 ghost use Rattle.paper.specs.Bytes.{same};
 ghost use Rattle.paper.specs.Words.{find_word, statements};
-ghost use Rattle.paper.specs.Tokens.{found_or};
 ghost use Rattle.tokens.specs.Tables.{total, read_words, statement_lengths, operator_lengths, words_of, first_word, token_found};
 
 use crate::number::statement;
-use crate::{Found, FunctionToken, OperatorToken, StatementToken, sign};
+use crate::{FunctionToken, OperatorToken, StatementToken};
 
 // How many tokens from 0 on the table of statement words has.
 pub(crate) const STATEMENTS: u8 = StatementToken::CLOAD.0 + 1;
-
-// No word's token.
-pub(crate) const NO_WORD: u8 = 0xFF;
 
 // How many bytes of the fixed words are statement words.
 pub(crate) const STATEMENT_BYTES: usize = 223;
@@ -175,146 +171,139 @@ pub(crate) fn operator_start(i: u8) -> u8
     }
 }
 
-// The first byte of a name; 0 if it has none.
-pub(crate) fn first_of(name: &[u8]) -> u8
-    ensures { result ≡ get_or name.now 0 0 }
-{
-    if name.len() == 0 { 0 } else { name[0] }
-}
-
-// The token of the first statement word that begins with a byte and has a length; `NO_WORD` if none does.
-pub(crate) fn first_statement(first: u8, size: usize) -> u8
-    ensures { result ≡ found_or (first_word statements first size) 0xff }
+// The token of the first statement word that begins with a byte and has a length; none if none does.
+pub(crate) fn first_statement(first: u8, size: usize) -> Option<u8>
+    ensures { result ≡ token_found (first_word statements first size) }
 {
     match size {
         1 => match first {
-            b'?' => StatementToken::QUESTION.0,
-            _ => NO_WORD,
+            b'?' => Some(StatementToken::QUESTION.0),
+            _ => None,
         },
         2 => match first {
-            b'I' => StatementToken::IF.0,
-            b'O' => StatementToken::ON.0,
-            _ => NO_WORD,
+            b'I' => Some(StatementToken::IF.0),
+            b'O' => Some(StatementToken::ON.0),
+            _ => None,
         },
         3 => match first {
-            b'R' => StatementToken::REM.0,
-            b'L' => StatementToken::LET.0,
-            b'F' => StatementToken::FOR.0,
-            b'B' => StatementToken::BYE.0,
-            b'C' => StatementToken::COM.0,
-            b'D' => StatementToken::DEG.0,
-            b'E' => StatementToken::END.0,
-            b'N' => StatementToken::NEW.0,
-            b'X' => StatementToken::XIO.0,
-            b'P' => StatementToken::POP.0,
-            b'G' => StatementToken::GET.0,
-            _ => NO_WORD,
+            b'R' => Some(StatementToken::REM.0),
+            b'L' => Some(StatementToken::LET.0),
+            b'F' => Some(StatementToken::FOR.0),
+            b'B' => Some(StatementToken::BYE.0),
+            b'C' => Some(StatementToken::COM.0),
+            b'D' => Some(StatementToken::DEG.0),
+            b'E' => Some(StatementToken::END.0),
+            b'N' => Some(StatementToken::NEW.0),
+            b'X' => Some(StatementToken::XIO.0),
+            b'P' => Some(StatementToken::POP.0),
+            b'G' => Some(StatementToken::GET.0),
+            _ => None,
         },
         4 => match first {
-            b'D' => StatementToken::DATA.0,
-            b'L' => StatementToken::LIST.0,
-            b'N' => StatementToken::NEXT.0,
-            b'G' => StatementToken::GOTO.0,
-            b'T' => StatementToken::TRAP.0,
-            b'C' => StatementToken::CONT.0,
-            b'O' => StatementToken::OPEN.0,
-            b'S' => StatementToken::SAVE.0,
-            b'P' => StatementToken::POKE.0,
-            b'R' => StatementToken::READ.0,
-            _ => NO_WORD,
+            b'D' => Some(StatementToken::DATA.0),
+            b'L' => Some(StatementToken::LIST.0),
+            b'N' => Some(StatementToken::NEXT.0),
+            b'G' => Some(StatementToken::GOTO.0),
+            b'T' => Some(StatementToken::TRAP.0),
+            b'C' => Some(StatementToken::CONT.0),
+            b'O' => Some(StatementToken::OPEN.0),
+            b'S' => Some(StatementToken::SAVE.0),
+            b'P' => Some(StatementToken::POKE.0),
+            b'R' => Some(StatementToken::READ.0),
+            _ => None,
         },
         5 => match first {
-            b'I' => StatementToken::INPUT.0,
-            b'C' => StatementToken::COLOR.0,
-            b'E' => StatementToken::ENTER.0,
-            b'G' => StatementToken::GOSUB.0,
-            b'P' => StatementToken::POINT.0,
-            b'S' => StatementToken::SOUND.0,
-            _ => NO_WORD,
+            b'I' => Some(StatementToken::INPUT.0),
+            b'C' => Some(StatementToken::COLOR.0),
+            b'E' => Some(StatementToken::ENTER.0),
+            b'G' => Some(StatementToken::GOSUB.0),
+            b'P' => Some(StatementToken::POINT.0),
+            b'S' => Some(StatementToken::SOUND.0),
+            _ => None,
         },
         6 => match first {
-            b'S' => StatementToken::STATUS.0,
-            b'R' => StatementToken::RETURN.0,
-            b'D' => StatementToken::DRAWTO.0,
-            b'L' => StatementToken::LOCATE.0,
-            _ => NO_WORD,
+            b'S' => Some(StatementToken::STATUS.0),
+            b'R' => Some(StatementToken::RETURN.0),
+            b'D' => Some(StatementToken::DRAWTO.0),
+            b'L' => Some(StatementToken::LOCATE.0),
+            _ => None,
         },
         7 => match first {
-            b'R' => StatementToken::RESTORE.0,
-            _ => NO_WORD,
+            b'R' => Some(StatementToken::RESTORE.0),
+            _ => None,
         },
         8 => match first {
-            b'G' => StatementToken::GRAPHICS.0,
-            b'P' => StatementToken::POSITION.0,
-            b'S' => StatementToken::SETCOLOR.0,
-            _ => NO_WORD,
+            b'G' => Some(StatementToken::GRAPHICS.0),
+            b'P' => Some(StatementToken::POSITION.0),
+            b'S' => Some(StatementToken::SETCOLOR.0),
+            _ => None,
         },
-        _ => NO_WORD,
+        _ => None,
     }
 }
 
-// The token of the first word of an operator or function that begins with a byte and has a length; `NO_WORD` if none does.
-pub(crate) fn first_reserved(first: u8, size: usize) -> u8
-    ensures { result ≡ found_or (first_word read_words first size) 0xff }
+// The token of the first word of an operator or function that begins with a byte and has a length; none if none does.
+pub(crate) fn first_reserved(first: u8, size: usize) -> Option<u8>
+    ensures { result ≡ token_found (first_word read_words first size) }
 {
     match size {
         1 => match first {
-            b',' => OperatorToken::COMMA.0,
-            b':' => OperatorToken::COLON.0,
-            b';' => OperatorToken::SEMICOLON.0,
-            b'#' => OperatorToken::CHANNEL_SIGN.0,
-            b'<' => OperatorToken::LESS.0,
-            b'>' => OperatorToken::GREATER.0,
-            b'=' => OperatorToken::EQUAL.0,
-            b'^' => OperatorToken::POWER.0,
-            b'*' => OperatorToken::TIMES.0,
-            b'+' => OperatorToken::PLUS.0,
-            b'-' => OperatorToken::MINUS.0,
-            b'/' => OperatorToken::DIVIDED_BY.0,
-            b'(' => OperatorToken::OPEN.0,
-            b')' => OperatorToken::CLOSE.0,
-            _ => NO_WORD,
+            b',' => Some(OperatorToken::COMMA.0),
+            b':' => Some(OperatorToken::COLON.0),
+            b';' => Some(OperatorToken::SEMICOLON.0),
+            b'#' => Some(OperatorToken::CHANNEL_SIGN.0),
+            b'<' => Some(OperatorToken::LESS.0),
+            b'>' => Some(OperatorToken::GREATER.0),
+            b'=' => Some(OperatorToken::EQUAL.0),
+            b'^' => Some(OperatorToken::POWER.0),
+            b'*' => Some(OperatorToken::TIMES.0),
+            b'+' => Some(OperatorToken::PLUS.0),
+            b'-' => Some(OperatorToken::MINUS.0),
+            b'/' => Some(OperatorToken::DIVIDED_BY.0),
+            b'(' => Some(OperatorToken::OPEN.0),
+            b')' => Some(OperatorToken::CLOSE.0),
+            _ => None,
         },
         2 => match first {
-            b'T' => OperatorToken::TO.0,
-            b'<' => OperatorToken::LESS_OR_EQUAL.0,
-            b'>' => OperatorToken::GREATER_OR_EQUAL.0,
-            b'O' => OperatorToken::OR.0,
-            _ => NO_WORD,
+            b'T' => Some(OperatorToken::TO.0),
+            b'<' => Some(OperatorToken::LESS_OR_EQUAL.0),
+            b'>' => Some(OperatorToken::GREATER_OR_EQUAL.0),
+            b'O' => Some(OperatorToken::OR.0),
+            _ => None,
         },
         3 => match first {
-            b'N' => OperatorToken::NOT.0,
-            b'A' => OperatorToken::AND.0,
-            b'U' => FunctionToken::USR.0,
-            b'V' => FunctionToken::VAL.0,
-            b'L' => FunctionToken::LEN.0,
-            b'C' => FunctionToken::COS.0,
-            b'S' => FunctionToken::SIN.0,
-            b'R' => FunctionToken::RND.0,
-            b'F' => FunctionToken::FRE.0,
-            b'E' => FunctionToken::EXP.0,
-            b'I' => FunctionToken::INT.0,
-            _ => NO_WORD,
+            b'N' => Some(OperatorToken::NOT.0),
+            b'A' => Some(OperatorToken::AND.0),
+            b'U' => Some(FunctionToken::USR.0),
+            b'V' => Some(FunctionToken::VAL.0),
+            b'L' => Some(FunctionToken::LEN.0),
+            b'C' => Some(FunctionToken::COS.0),
+            b'S' => Some(FunctionToken::SIN.0),
+            b'R' => Some(FunctionToken::RND.0),
+            b'F' => Some(FunctionToken::FRE.0),
+            b'E' => Some(FunctionToken::EXP.0),
+            b'I' => Some(FunctionToken::INT.0),
+            _ => None,
         },
         4 => match first {
-            b'G' => OperatorToken::GOTO.0,
-            b'S' => OperatorToken::STEP.0,
-            b'T' => OperatorToken::THEN.0,
-            b'C' => FunctionToken::CHR.0,
-            b'P' => FunctionToken::PEEK.0,
-            _ => NO_WORD,
+            b'G' => Some(OperatorToken::GOTO.0),
+            b'S' => Some(OperatorToken::STEP.0),
+            b'T' => Some(OperatorToken::THEN.0),
+            b'C' => Some(FunctionToken::CHR.0),
+            b'P' => Some(FunctionToken::PEEK.0),
+            _ => None,
         },
         5 => match first {
-            b'G' => OperatorToken::GOSUB.0,
-            b'S' => FunctionToken::STICK.0,
-            b'P' => FunctionToken::PTRIG.0,
-            _ => NO_WORD,
+            b'G' => Some(OperatorToken::GOSUB.0),
+            b'S' => Some(FunctionToken::STICK.0),
+            b'P' => Some(FunctionToken::PTRIG.0),
+            _ => None,
         },
         6 => match first {
-            b'P' => FunctionToken::PADDLE.0,
-            _ => NO_WORD,
+            b'P' => Some(FunctionToken::PADDLE.0),
+            _ => None,
         },
-        _ => NO_WORD,
+        _ => None,
     }
 }
 
@@ -338,7 +327,7 @@ fn is_word(words: &[u8], from: usize, size: usize, name: &[u8]) -> bool
 
 // The token of the word that is the whole of `name`. The words stand end to end from `start` on; their lengths are given for each
 // token from `first` on, 0 for a token with no word.
-pub(crate) fn find(words: &[u8], start: usize, lengths: &[u8], first: u8, name: &[u8]) -> Found
+pub(crate) fn find(words: &[u8], start: usize, lengths: &[u8], first: u8, name: &[u8]) -> Option<u8>
     requires { (start + total lengths.now ≤ length words.now) × (first + length lengths.now ≤ 255) }
     ensures { result ≡ token_found (find_word (words_of first lengths.now (drop start words.now)) name.now) }
 {
@@ -348,11 +337,11 @@ pub(crate) fn find(words: &[u8], start: usize, lengths: &[u8], first: u8, name: 
     while i < lengths.len() {
         let size = lengths[i] as usize;
         if is_word(words, from, size, name) {
-            return Found::Token(token);
+            return Some(token);
         }
         from += size;
         token += 1;
         i += 1;
     }
-    Found::Nothing
+    None
 }

@@ -1,4 +1,5 @@
 use native.Mathlib.Omega.{arith}
+use mathlib.Core.Path.{◌∙◌}
 use Rattle.paper.specs.Bytes.{bytes}
 use Rattle.paper.specs.Words.{word, read_operators, functions, word_of}
 use Rattle.tokens.specs.Tables.{tabulated, read_words, word_size, operator_lengths}
@@ -22,14 +23,14 @@ pub find_fixed-requires : goal.find_fixed-requires
 unfolding operator_lengths tabulated word_size word_of read_words read_operators functions word bytes
 find_fixed-requires c = reserved_fits c.args.name.now c.requires c.operator_start.ensures
 
-pub returns-then-t : goal.returns-then-t
+pub returns-then-token : goal.returns-then-token
 unfolding operator_lengths tabulated word_size word_of read_words read_operators functions word bytes
-returns-then-t c = operator_answer _ _ c.find_fixed.ensures (reserved_from c.args.name.now c.requires c.operator_start.ensures) c.in-Token.is c.if-t.true
+returns-then-token c = operator_answer _ _ c.in_ok-token.ensures (reserved_from c.args.name.now c.requires c.operator_start.ensures) c.if-token.true
 
-pub returns-else-t : goal.returns-else-t
+pub returns-else-token : goal.returns-else-token
 unfolding operator_lengths tabulated word_size word_of read_words read_operators functions word bytes
-returns-else-t c = function_answer _ _ c.find_fixed.ensures (reserved_from c.args.name.now c.requires c.operator_start.ensures) c.in-Token.is c.if-t.false
+returns-else-token c = function_answer _ _ c.in_ok-token.ensures (reserved_from c.args.name.now c.requires c.operator_start.ensures) c.if-token.false
 
-pub returns-in-Nothing : goal.returns-in-Nothing
+pub returns-in_err-token : goal.returns-in_err-token
 unfolding operator_lengths tabulated word_size word_of read_words read_operators functions word bytes
-returns-in-Nothing c = reserved_none _ _ c.find_fixed.ensures (reserved_from c.args.name.now c.requires c.operator_start.ensures) c.in-Nothing.is
+returns-in_err-token c = c.from_residual.ensures ∙ reserved_none _ _ c.in_err-token.ensures (reserved_from c.args.name.now c.requires c.operator_start.ensures)

@@ -1,4 +1,5 @@
 use native.Mathlib.Omega.{arith}
+use mathlib.Core.Path.{◌∙◌}
 use Rattle.paper.specs.Bytes.{bytes}
 use Rattle.paper.specs.Words.{word, statements, word_of}
 use Rattle.tokens.specs.Tables.{tabulated, word_size, statement_lengths}
@@ -18,10 +19,10 @@ pub find_fixed-requires : goal.find_fixed-requires
 unfolding statement_lengths tabulated word_size word_of statements word bytes
 find_fixed-requires c = statement_fits c.args.name.now c.requires c.statement_start.ensures
 
-pub returns-in-Token : goal.returns-in-Token
+pub returns : goal.returns
 unfolding statement_lengths tabulated word_size word_of statements word bytes
-returns-in-Token c = statement_answer _ _ c.find_fixed.ensures (statement_from c.args.name.now c.requires c.statement_start.ensures) c.in-Token.is
+returns c = statement_answer _ _ c.in_ok-token.ensures (statement_from c.args.name.now c.requires c.statement_start.ensures)
 
-pub returns-in-Nothing : goal.returns-in-Nothing
+pub returns-in_err-token : goal.returns-in_err-token
 unfolding statement_lengths tabulated word_size word_of statements word bytes
-returns-in-Nothing c = statement_none _ _ c.find_fixed.ensures (statement_from c.args.name.now c.requires c.statement_start.ensures) c.in-Nothing.is
+returns-in_err-token c = c.from_residual.ensures ∙ statement_none _ _ c.in_err-token.ensures (statement_from c.args.name.now c.requires c.statement_start.ensures)

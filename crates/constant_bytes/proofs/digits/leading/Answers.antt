@@ -1,6 +1,5 @@
 -- `leading` meets its contract. The invariant: the digits passed are all zero, and those from here on have the rest of the run.
 use native.Mathlib.Omega.{arith}
-use Prim.Native.Nat.{◌-◌}
 use Rattle.constant_bytes.specs.Numerals.{digits_in}
 use Rattle.constant_bytes.proofs.Places.{count, one_more, no_more, all_noughts}
 use Rattle.constant_bytes.proofs.digits.leading.Goals as goal

@@ -4,7 +4,6 @@ use mathlib.Core.Path.{◌≡◌}
 use lib.ListN.{drop}
 use Rattle.paper.specs.Bytes.{run}
 use Rattle.constant_bytes.specs.Numerals.{digits_in, nought?}
-use Rattle.constant_bytes.proofs.Places.{count}
 use Rattle.constant_bytes.proofs.digits.leading.Given as goal
 
 abbrev pub invariant-loop-i : goal.invariant-loop-i
