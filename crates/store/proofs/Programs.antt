@@ -1,5 +1,5 @@
 -- The lines of a saved program: sound lines, and after them none, or one of number 32768 (document 02, §7).
-use Prim.Native.Nat.{ℕ, zero, suc, pred, ◌≤◌, ◌<◌}
+use Prim.Native.Nat.{ℕ, zero, suc, pred, ◌-◌, ◌≤◌, ◌<◌}
 use native.Mathlib.Omega.{arith}
 use mathlib.Core.Path.{◌≡◌, refl, sym, ap, ◌∙◌, subst}
 use mathlib.Core.Bool.{Bool, true, false, ◌&&◌, and-false}
@@ -15,13 +15,13 @@ use Rattle.paper.specs.Files.{direct_whole?, without_direct}
 use Rattle.laws.specs.Tests.{and_right, as_T}
 use Rattle.laws.specs.Lines.{lines_past}
 use Rattle.store.specs.declared.Walked.{Walked}
-use Rattle.store.specs.declared.Program.{Program}
-use Rattle.store.specs.declared.Program.TheVariants.{Unsound, Sound}
-use Rattle.store.specs.Walks.{passes?, passed, least_after, start, walked_on}
+use Rattle.std.specs.Prelude.{Option, Some, None}
+use Rattle.store.specs.declared.Counts.{Counts}
+use Rattle.store.specs.Walks.{passes?, passed, least_after, start, walked_on, counts_past}
 use Rattle.store.specs.Answers.{counts_of, program_answer}
 use Rattle.store.specs.Places.{sound_rising}
 use Rattle.store.specs.Walks.{rising_from, sound_lines_from}
-use Rattle.store.specs.Rising.{lawful, from_zero, from_above}
+use Rattle.store.specs.Rising.{past, lawful, from_zero, from_above}
 use Rattle.store.proofs.Walk.{left, walked, lines_left, from_start, last_greatest}
 
 -- ---- one line of number 32768
@@ -114,13 +114,13 @@ program_lines k (l ∷ m ∷ ms) t = go (passes? k 32768 l) t (program_lines (su
 -- ---- the bytes that follow
 
 -- none
-pub nothing_follows : (s : List ℕ) → length s ≡ 0 → ends_well (lines_in s) ≡ true
+nothing_follows : (s : List ℕ) → length s ≡ 0 → ends_well (lines_in s) ≡ true
 unfolding ends_well lines_in lines_from
 nothing_follows [] e = refl
 nothing_follows (b ∷ s) e = absurd (omega arith)
 
 -- some are one line of number 32768, or are not
-pub something_follows : (s : List ℕ) → (length s ≡ 0 → ⊥) → ends_well (lines_in s) ≡ direct_whole? s
+something_follows : (s : List ℕ) → (length s ≡ 0 → ⊥) → ends_well (lines_in s) ≡ direct_whole? s
 unfolding lines_in lines_from ends_well
 something_follows [] h = absurd (h refl)
 something_follows (b ∷ s) h = ap (λ (z : List (List ℕ)). ends_well (take m (b ∷ s) ∷ z)) (lines_past (pred m) s) ∙ go (drop (pred m) s) refl
@@ -135,6 +135,21 @@ something_follows (b ∷ s) h = ap (λ (z : List (List ℕ)). ends_well (take m 
     go : (r : List ℕ) → drop (pred m) s ≡ r → ends_well (take m (b ∷ s) ∷ lines_in r) ≡ direct_whole? (b ∷ s)
     go [] e = alone m refl (omega (arith, ap length e, length-drop (pred m) s))
     go (x ∷ xs) e = direct_cut (b ∷ s) m refl (λ z. omega (arith, ap length e, length-drop (pred m) s))
+
+-- as the slice from an offset on has them
+module _ (s : List ℕ) (at : ℕ) where
+  abbrev slice : List ℕ
+  slice = take (length s - at) (drop at s)
+
+  pub none_follow : (value empty : Bool) → value ≡ empty → empty ≡ true → empty ≡ eqb (length slice) 0 → value ≡ ends_well (lines_in (drop at s))
+  none_follow value empty v e h = v ∙ e ∙ sym (ap (λ (x : List ℕ). ends_well (lines_in x)) (sym (past s at at refl)) ∙ nothing_follows slice (eqb→eq (length slice) 0 (as_T _ (sym h ∙ e))))
+
+  pub some_follow : (value direct : Bool) → value ≡ direct → direct ≡ direct_whole? slice → eqb (length slice) 0 ≡ false → value ≡ ends_well (lines_in (drop at s))
+  some_follow value direct v e h =
+      v
+      ∙ e
+      ∙ sym (something_follows slice (λ z. let one : ◌≡◌ {A = Bool} true false = sym (eq-eqb (length slice) 0 z) ∙ h in subst T (one) tt))
+      ∙ ap (λ (x : List ℕ). ends_well (lines_in x)) (past s at at refl)
 
 -- ---- the answer
 
@@ -154,21 +169,21 @@ module _ (s : List ℕ) (w : Walked) (is : w ≡ walked_on start 32768 s) where
       ∙ ap (λ (x : Walked). ends_well (lines_in (drop x.at s))) (sym counts_are)
 
   -- sound lines, and their counts
-  pub program_so : ends_well (lines_in (drop w.at s)) ≡ true → (last : ℕ) → last ≡ pred w.least → Sound (record { used = w.at; lines = w.lines; greatest = last }) ≡ program_answer s
+  pub program_so : ends_well (lines_in (drop w.at s)) ≡ true → (c : Counts) → c ≡ counts_past w → Some c ≡ program_answer s
   unfolding program_answer counts_of
-  program_so h last e =
+  program_so h c e =
       let t : T (ends_well (left 0 32768 ls)) = as_T _ (sym (program_sound 0 ls) ∙ from_zero (without_direct ls) ∙ decides ∙ h) in
       let p : without_direct ls ≡ passed 0 32768 ls = program_lines 0 ls t in
       let rises : T (rising (passed 0 32768 ls)) = subst (λ (z : List (List ℕ)). T (rising z)) p (sound_rising (without_direct ls) (as_T _ (decides ∙ h))) in
-      let make : Walked → Program = λ x. Sound (record { used = x.at; lines = x.lines; greatest = pred x.least }) in
-      let counted : List (List ℕ) → ℕ → Program = λ z g. Sound (record { used = length (joined z); lines = length z; greatest = g }) in
-      ap (λ (g : ℕ). Sound (record { used = w.at; lines = w.lines; greatest = g })) e
+      let make : Walked → Option Counts = λ x. Some (record { used = x.at; lines = x.lines; greatest = pred x.least }) in
+      let counted : List (List ℕ) → ℕ → Option Counts = λ z g. Some (record { used = length (joined z); lines = length z; greatest = g }) in
+      ap Some e
       ∙ ap make counts_are
       ∙ ap (counted (passed 0 32768 ls)) (last_greatest (passed 0 32768 ls) rises)
       ∙ ap (λ (z : List (List ℕ)). counted z (greatest_number z)) (sym p)
       ∙ sym (rw (decides ∙ h))
 
   -- others
-  pub program_not_so : ends_well (lines_in (drop w.at s)) ≡ false → Unsound ≡ program_answer s
+  pub program_not_so : ends_well (lines_in (drop w.at s)) ≡ false → None ≡ program_answer s
   unfolding program_answer
   program_not_so h = sym (rw (decides ∙ h))

@@ -16,7 +16,7 @@ use Rattle.laws.specs.Lines.{lines_next, lines_back, bytes_back, joined_append, 
 use Rattle.store.specs.declared.Walked.{Walked}
 use Rattle.store.specs.declared.Counts.{Counts}
 use Rattle.store.specs.declared.Place.{Place}
-use Rattle.store.specs.declared.Found.TheVariants.{Unsound, At}
+use Rattle.std.specs.Prelude.{Some, None}
 use Rattle.store.specs.Walks.{least_after, start, past_lines, walked_on, all_passed}
 use Rattle.store.specs.Answers.{sound_counts, place_of, found_answer}
 use Rattle.store.specs.Places.{counted, sound_rising}
@@ -197,7 +197,7 @@ lines_sound store c t = and_right (leb c.used (room store)) _ (counted store c t
 
 module _ (store : List ℕ) (c : Counts) (n : ℕ) where
   -- a used count above the room
-  pub found_over : room store < c.used → Unsound ≡ found_answer store c n
+  pub found_over : room store < c.used → None ≡ found_answer store c n
   unfolding found_answer
   found_over h = sym (rw (counts_over store c h))
 
@@ -212,10 +212,10 @@ module _ (store : List ℕ) (c : Counts) (n : ℕ) where
     pub test_passed : b ≡ true → T (sound_counts store c)
     test_passed t = as_T (sound_counts store c) (sym test_decides ∙ t)
 
-    pub found_at : b ≡ true → (p : Place) → p ≡ place_of n (lines_in (take c.used store)) → At p ≡ found_answer store c n
+    pub found_at : b ≡ true → (p : Place) → p ≡ place_of n (lines_in (take c.used store)) → Some p ≡ found_answer store c n
     unfolding found_answer
-    found_at t p q = ap At q ∙ sym (rw (sym test_decides ∙ t))
+    found_at t p q = ap Some q ∙ sym (rw (sym test_decides ∙ t))
 
-    pub found_unsound : b ≡ false → Unsound ≡ found_answer store c n
+    pub found_unsound : b ≡ false → None ≡ found_answer store c n
     unfolding found_answer
     found_unsound t = sym (rw (sym test_decides ∙ t))

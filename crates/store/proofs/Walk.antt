@@ -1,15 +1,16 @@
 -- The walk over the lines of a store: a turn of it, and what it decides.
-use Prim.Native.Nat.{ℕ, zero, suc, pred, ◌+◌, ◌-◌, ◌≤◌, ◌<◌}
+use Prim.Native.Nat.{ℕ, zero, suc, pred, min, ◌+◌, ◌-◌, ◌≤◌, ◌<◌}
 use native.Mathlib.Nat.{add-zero, zero-add}
 use native.Mathlib.Numerals.{add-one}
 use native.Mathlib.Omega.{arith}
 use mathlib.Core.Path.{◌≡◌, refl, sym, ap, ap₂, ◌∙◌, subst}
 use mathlib.Core.Bool.{Bool, true, false, ◌&&◌, and-false}
 use mathlib.Core.List.{List, [], ◌∷◌, ◌++◌}
+use Rattle.std.specs.Prelude.{Some, None}
 use lib.Dec.{T, leb, ltb, eqb, ltb→lt, eqb→eq, leb-zero}
 use lib.ListN.{length, take, drop, get_or, length-take, length-drop, length-append}
 use lib.Seq.{get_or-take, take_all, length-take-le, drop-drop}
-use borrow.Author.Tests.{le-leb, lt-leb, le-ltb, lt-ltb, eq-eqb, ne_eqb, ltb-false}
+use borrow.Author.Tests.{le-leb, lt-leb, le-ltb, lt-ltb, eq-eqb, ne_eqb, ltb-false, leb-true, leb-false}
 use Rattle.paper.specs.Bytes.{pick, every, joined}
 use Rattle.paper.specs.Line.{line_number, lawful_number?}
 use Rattle.paper.specs.Store.{lines_from, lines_in, whole_line?, rising_above, rising, sound_lines, greatest_number, room, sound_store, lines_below}
@@ -62,16 +63,16 @@ module _ (k n : ℕ) (s : List ℕ) where
   abbrev first : List ℕ
   first = take (get_or s 2 0) s
 
-  not_whole : whole_line? first ≡ false → passing_size k n s ≡ 0
+  not_whole : whole_line? first ≡ false → passing_size k n s ≡ None
   unfolding passing_size passes?
   not_whole e = rw (e)
 
   -- a length byte below 6
-  pub size_short : get_or s 2 0 < 6 → 0 ≡ passing_size k n s
+  pub size_short : get_or s 2 0 < 6 → None ≡ passing_size k n s
   size_short h = sym (not_whole (short_line s h))
 
   -- a line that goes on past the bytes
-  pub size_cut : length s < get_or s 2 0 → 0 ≡ passing_size k n s
+  pub size_cut : length s < get_or s 2 0 → None ≡ passing_size k n s
   size_cut h = sym (not_whole (cut_line s h))
 
   module _ (long : 6 ≤ get_or s 2 0) where
@@ -79,25 +80,25 @@ module _ (k n : ℕ) (s : List ℕ) where
     number_is = first_number s (get_or s 2 0) (omega arith)
 
     -- a number above 32767
-    pub size_great : 32767 < line_number s → 0 ≡ passing_size k n s
+    pub size_great : 32767 < line_number s → None ≡ passing_size k n s
     size_great h = sym (not_whole (great_line s long h))
 
     -- a number below k
-    pub size_low : line_number s < k → 0 ≡ passing_size k n s
+    pub size_low : line_number s < k → None ≡ passing_size k n s
     unfolding passing_size passes?
     size_low h =
         let low : leb k (line_number first) ≡ false = lt-leb k (line_number first) (omega (arith, number_is)) in
         sym (rw (low, and-false (whole_line? first)))
 
     -- a number that is not below n
-    pub size_high : n ≤ line_number s → 0 ≡ passing_size k n s
+    pub size_high : n ≤ line_number s → None ≡ passing_size k n s
     unfolding passing_size passes?
     size_high h =
         let high : ltb (line_number first) n ≡ false = le-ltb (line_number first) n (omega (arith, number_is)) in
         sym (rw (high, and-false (leb k (line_number first)), and-false (whole_line? first)))
 
     -- a line that is passed
-    pub size_good : get_or s 2 0 ≤ length s → line_number s ≤ 32767 → k ≤ line_number s → line_number s < n → get_or s 2 0 ≡ passing_size k n s
+    pub size_good : get_or s 2 0 ≤ length s → line_number s ≤ 32767 → k ≤ line_number s → line_number s < n → Some (get_or s 2 0) ≡ passing_size k n s
     unfolding passing_size passes?
     size_good fits lawful low high =
         let a : leb k (line_number first) ≡ true = le-leb k (line_number first) (omega (arith, number_is)) in
@@ -119,7 +120,7 @@ none_passed k n [] e = refl
 none_passed k n (b ∷ s) e = rw (e)
 
 -- a line that is not passed ends it
-pub walk_stops : (at count k n : ℕ) (s : List ℕ) → passing_size k n s ≡ 0 → onward at count k n s ≡ walking at count k
+pub walk_stops : (at count k n : ℕ) (s : List ℕ) → passing_size k n s ≡ None → onward at count k n s ≡ walking at count k
 unfolding passing_size past_lines least_after joined
 walk_stops at count k n s h = rw (none_passed k n s (stops k n s h), add-zero at, add-zero count)
 
@@ -228,13 +229,17 @@ past_both w a b =
     let make : ℕ → ℕ → ℕ → Walked = λ x y z. record { at = x; lines = y; least = z } in
     ap₂ (λ (x y : ℕ). make x y (least_after (least_after w.least a) b)) at lines ∙ ap (make (w.at + length (joined (a ++ b))) (w.lines + length (a ++ b))) (sym (least_both w.least a b))
 
--- a walk that has not begun is within all bytes
-pub start_within : (s : List ℕ) (w : Walked) → w ≡ start → Within w s
-start_within s w e = let at = ap (λ (x : Walked). x.at) e in let lines = ap (λ (x : Walked). x.lines) e in (omega arith, omega arith)
+-- a walk that has not begun
+abbrev pub Begun : Walked → Type 0
+Begun w = (w.at ≡ 0) × ((w.lines ≡ 0) × (w.least ≡ 0))
+
+-- it is within all bytes
+pub start_within : (s : List ℕ) (w : Walked) → Begun w → Within w s
+start_within s w e = (omega (arith, e.0), omega (arith, e.1.0))
 
 -- and goes on from the start
-pub on_from_start : (n : ℕ) (s : List ℕ) (w v : Walked) → w ≡ start → v ≡ walked_on w n s → v ≡ walked_on start n s
-on_from_start n s w v e d = d ∙ ap (λ (x : Walked). walked_on x n s) e
+pub on_from_start : (n : ℕ) (s : List ℕ) (w v : Walked) → Begun w → v ≡ walked_on w n s → v ≡ walked_on start n s
+on_from_start n s w v e d = d ∙ ap (λ (x : Walked). walked_on x n s) (ap₂ (λ (x y : ℕ). walking x y w.least) e.0 e.1.0 ∙ ap (walking 0 0) e.1.1)
 
 -- a walk from the start past some lines
 pub from_start : (ls : List (List ℕ)) → past_lines start ls ≡ walking (length (joined ls)) (length ls) (least_after 0 ls)
@@ -364,10 +369,12 @@ last_greatest (l ∷ ls) t = ap pred (least_greatest (line_number l) ls t)
 
 -- ---- the whole store
 
--- the test of a walk, where offset and lines are as counted
-pub last_decides : (c : Counts) (w : Walked) → w.at ≡ c.used → c.lines ≡ w.lines → (last : ℕ) → last ≡ pred w.least → eqb c.greatest last ≡ all_passed c w
-unfolding all_passed
-last_decides c w a l last e = ap (eqb c.greatest) e ∙ sym (rw (eq-eqb w.at c.used a, eq-eqb c.lines w.lines l))
+same_either_way : (a b : ℕ) → eqb a b ≡ eqb b a
+same_either_way a b = go (eqb a b) refl
+  where
+    go : (x : Bool) → eqb a b ≡ x → x ≡ eqb b a
+    go true e = sym (eq-eqb b a (sym (eqb→eq a b (as_T (eqb a b) e))))
+    go false e = sym (ne_eqb b a (λ z. let same : eqb a b ≡ true = eq-eqb a b (sym z) in let one : ◌≡◌ {A = ℕ} 0 1 = cc in omega arith))
 
 -- the walk past all numbers decides
 pub walk_decides : (store : List ℕ) (c : Counts) → c.used ≤ room store → all_passed c (walked_on start 32768 (take c.used store)) ≡ sound_counts store c
@@ -383,11 +390,11 @@ walk_decides store c h = ap (all_passed c) (from_start (passed 0 32768 ls)) ∙ 
     size : length s ≡ c.used
     size = length-take-le c.used store (omega (arith, h, room_lent store))
 
-    ended : eqb (length (joined (passed 0 32768 ls))) c.used ≡ sound_lines ls
-    ended = ap (eqb (length (joined (passed 0 32768 ls)))) (sym size) ∙ sound_walked 0 s ∙ from_zero ls
+    ended : eqb c.used (length (joined (passed 0 32768 ls))) ≡ sound_lines ls
+    ended = same_either_way c.used (length (joined (passed 0 32768 ls))) ∙ ap (eqb (length (joined (passed 0 32768 ls)))) (sym size) ∙ sound_walked 0 s ∙ from_zero ls
 
     go : (b : Bool) → sound_lines ls ≡ b
-        → eqb (length (joined (passed 0 32768 ls))) c.used && (eqb c.lines (length (passed 0 32768 ls)) && eqb c.greatest (pred (least_after 0 (passed 0 32768 ls))))
+        → eqb c.used (length (joined (passed 0 32768 ls))) && (eqb c.lines (length (passed 0 32768 ls)) && eqb c.greatest (pred (least_after 0 (passed 0 32768 ls))))
         ≡ (leb c.used (room store) && sound_lines ls) && (eqb c.lines (length ls) && eqb c.greatest (greatest_number ls))
     go true e =
         let t : T (sound_lines ls) = as_T (sound_lines ls) e in
@@ -399,7 +406,16 @@ pub counts_over : (store : List ℕ) (c : Counts) → room store < c.used → so
 unfolding sound_counts sound_store
 counts_over store c h = rw (lt-leb c.used (room store) h)
 
+-- the room as the less of two numbers
+pub room_is : (store : List ℕ) (n : ℕ) → n ≡ min (length store) 65535 → n ≡ room store
+unfolding room
+room_is store n e = go (leb (length store) 65535) refl
+  where
+    go : (b : Bool) → leb (length store) 65535 ≡ b → n ≡ pick b (length store) 65535
+    go true h = let l = leb-true (length store) 65535 h in omega arith
+    go false h = let l = leb-false (length store) 65535 h in omega arith
+
 -- a walk from the start of some bytes, past all numbers from k on
-pub rest_decides : (k : ℕ) (s : List ℕ) (w : Walked) → w ≡ walked_on (walking 0 0 k) 32768 s → eqb w.at (length s) ≡ sound_lines_from k (lines_in s)
+pub rest_decides : (k : ℕ) (s : List ℕ) (u w : Walked) → Begun u → w ≡ walked_on (walking u.at u.lines k) 32768 s → eqb w.at (length s) ≡ sound_lines_from k (lines_in s)
 unfolding walked_on past_lines
-rest_decides k s w e = ap (λ (x : Walked). eqb x.at (length s)) e ∙ ap (λ (i : ℕ). eqb i (length s)) (zero-add (walked k 32768 s)) ∙ sound_walked k s
+rest_decides k s u w b e = ap (λ (x : Walked). eqb x.at (length s)) (e ∙ ap₂ (λ (x y : ℕ). walked_on (walking x y k) 32768 s) b.0 b.1.0) ∙ ap (λ (i : ℕ). eqb i (length s)) (zero-add (walked k 32768 s)) ∙ sound_walked k s

@@ -1,7 +1,7 @@
 -- What callers know of a place that was found, and of the answers to edits.
 use Prim.Native.Nat.{ℕ, ◌+◌, ◌≤◌}
 use Rattle.std.proofs.Common.{arith, ◌∙◌, leb→le, eqb→eq, take-append-drop}
-use Rattle.std.specs.Prelude.{◌≡◌, refl, Bool, leb, eqb, length}
+use Rattle.std.specs.Prelude.{◌≡◌, refl, Bool, leb, eqb, length, Option, Some, None}
 use Rattle.std.proofs.Math.Path.{sym, ap, subst}
 use Rattle.std.proofs.Math.Bool.{true, false}
 use mathlib.Core.List.{List, [], ◌∷◌, ◌++◌, append_assoc}
@@ -14,7 +14,6 @@ use Rattle.laws.specs.Tests.{and_left, and_right, as_T}
 use Rattle.laws.specs.Lines.{every_second, both_sides, used_of, parts_of, sizes_of, old_line}
 use Rattle.store.specs.declared.Counts.{Counts}
 use Rattle.store.specs.declared.Place.{Place}
-use Rattle.store.specs.declared.Found.TheVariants.{Unsound, At}
 use Rattle.store.specs.Answers.{sound_counts, place_of, found_answer}
 
 -- ---- a sound store and its counts
@@ -101,22 +100,22 @@ own_place n ls p e = e ∙ ap (λ (k : ℕ). place_of k ls) (sym (ap (λ (q : Pl
 
 -- ---- the answer to a search
 
-at_go : (b : Bool) (q p : Place) → pick b (At q) Unsound ≡ At p → (b ≡ true) × (p ≡ q)
+at_go : (b : Bool) (q p : Place) → pick b (Some q) None ≡ Some p → (b ≡ true) × (p ≡ q)
 at_go true q p e = (refl, (cc))
 at_go false q p e = let z : ◌≡◌ {A = ℕ} 0 1 = cc in absurd (omega arith)
 
 -- a place was found: the store is sound, and the counts are its own
-pub found_sound : (store : List ℕ) (c : Counts) (n : ℕ) (p : Place) → found_answer store c n ≡ At p → (T (sound_counts store c)) × (p ≡ place_of n (lines_in (take c.used store)))
+pub found_sound : (store : List ℕ) (c : Counts) (n : ℕ) (p : Place) → found_answer store c n ≡ Some p → (T (sound_counts store c)) × (p ≡ place_of n (lines_in (take c.used store)))
 unfolding found_answer
 found_sound store c n p e =
     let g = at_go (sound_counts store c) (place_of n (lines_in (take c.used store))) p e in
     (as_T (sound_counts store c) g.0, g.1)
 
-none_go : (b : Bool) (q : Place) → pick b (At q) Unsound ≡ Unsound → b ≡ false
+none_go : (b : Bool) (q : Place) → pick b (Some q) None ≡ None → b ≡ false
 none_go true q e = let z : ◌≡◌ {A = ℕ} 0 1 = cc in absurd (omega arith)
 none_go false q e = refl
 
 -- none was: it is not, or they are not
-pub found_unsound : (store : List ℕ) (c : Counts) (n : ℕ) → found_answer store c n ≡ Unsound → sound_counts store c ≡ false
+pub found_unsound : (store : List ℕ) (c : Counts) (n : ℕ) → found_answer store c n ≡ None → sound_counts store c ≡ false
 unfolding found_answer
 found_unsound store c n e = none_go (sound_counts store c) (place_of n (lines_in (take c.used store))) e

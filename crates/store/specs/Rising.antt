@@ -1,5 +1,5 @@
 -- What a caller knows of the line that some bytes begin with, where it is passed and where it is not; and of lines whose numbers rise from one on.
-use Rattle.std.specs.Prelude.{ℕ, suc, ◌+◌, ◌-◌, ◌*◌, ◌≤◌, ◌<◌, ◌≡◌, refl, Bool, true, false, ◌&&◌, List, [], ◌∷◌, T, leb, ltb, eqb, length, take, drop, get_or}
+use Rattle.std.specs.Prelude.{ℕ, suc, ◌+◌, ◌-◌, ◌*◌, ◌≤◌, ◌<◌, ◌≡◌, refl, Bool, true, false, ◌&&◌, Option, Some, None, List, [], ◌∷◌, T, leb, ltb, eqb, length, take, drop, get_or}
 use Rattle.std.proofs.Common.{add-one, arith, sym, ap, ap₂, ◌∙◌, leb→le, eqb→eq, length-take, length-drop, get_or-take, take_all, ltb-false}
 use Rattle.std.proofs.Math.Bool.{and-false}
 use Rattle.std.proofs.Math.Dec.{leb-zero}
@@ -64,16 +64,16 @@ lawful l e =
 
 -- ---- a line that is not passed
 
-pub stops : (k n : ℕ) (s : List ℕ) → passing_size k n s ≡ 0 → passes? k n (take (get_or s 2 0) s) ≡ false
+pub stops : (k n : ℕ) (s : List ℕ) → passing_size k n s ≡ None → passes? k n (take (get_or s 2 0) s) ≡ false
 unfolding passing_size passes?
 stops k n s h = go (passes? k n first) refl h
   where
     first : List ℕ
     first = take (get_or s 2 0) s
 
-    go : (b : Bool) → passes? k n first ≡ b → pick b (get_or s 2 0) 0 ≡ 0 → passes? k n first ≡ false
+    go : (b : Bool) → passes? k n first ≡ b → pick b (Some (get_or s 2 0)) None ≡ None → passes? k n first ≡ false
     go false e h = e
-    go true e h = absurd (omega (arith, (first_go s (and_left (whole_line? first) _ (as_T (passes? k n first) e))).long))
+    go true e h = let z : ◌≡◌ {A = ℕ} 0 1 = cc in absurd (omega arith)
 
 -- below no number but the greatest it is not passed only where the lines are not sound
 not_passed : (k : ℕ) (l : List ℕ) (ls : List (List ℕ)) → passes? k 32768 l ≡ false → sound_lines_from k (l ∷ ls) ≡ false
@@ -86,19 +86,19 @@ not_passed k l ls h = go (whole_line? l) (leb k (line_number l)) (ltb (line_numb
     go true true false e f h = absurd (omega (arith, lawful l e, ltb-false (line_number l) 32768 f))
     go true true true e f h = let z : ◌≡◌ {A = ℕ} 0 1 = cc in absurd (omega arith)
 
-pub walk_ends : (k : ℕ) (s : List ℕ) → 0 < length s → passing_size k 32768 s ≡ 0 → sound_lines_from k (lines_in s) ≡ false
+pub walk_ends : (k : ℕ) (s : List ℕ) → 0 < length s → passing_size k 32768 s ≡ None → sound_lines_from k (lines_in s) ≡ false
 unfolding lines_in lines_from
 walk_ends k [] h e = absurd (omega arith)
 walk_ends k (b ∷ s) h e = not_passed k (take (get_or s 1 0) (b ∷ s)) _ (stops k 32768 (b ∷ s) e)
 
 -- ---- a line that is passed: the walk goes on after it
 
-goes_go : (k n : ℕ) (s : List ℕ) (b : Bool) → passes? k n (take (get_or s 2 0) s) ≡ b → (pick b (get_or s 2 0) 0 ≡ 0 → ⊥) → passes? k n (take (get_or s 2 0) s) ≡ true
+goes_go : (k n : ℕ) (s : List ℕ) (b : Bool) → passes? k n (take (get_or s 2 0) s) ≡ b → (pick b (Some (get_or s 2 0)) None ≡ None → ⊥) → passes? k n (take (get_or s 2 0) s) ≡ true
 goes_go k n s true e h = e
 goes_go k n s false e h = absurd (h refl)
 
 pub record Goes (k n : ℕ) (s : List ℕ) : Type 0 where
-  pub size : passing_size k n s ≡ get_or s 2 0
+  pub size : passing_size k n s ≡ Some (get_or s 2 0)
   pub long : 6 ≤ get_or s 2 0
   pub fits : get_or s 2 0 ≤ length s
   pub small : line_number s ≤ 32767
@@ -107,7 +107,7 @@ pub record Goes (k n : ℕ) (s : List ℕ) : Type 0 where
   pub sound : sound_lines_from k (lines_in s) ≡ sound_lines_from (line_number s + 1) (lines_in (drop (get_or s 2 0) s))
   pub next : passed k n (lines_in s) ≡ take (get_or s 2 0) s ∷ passed (line_number s + 1) n (lines_in (drop (get_or s 2 0) s))
 
-pub walk_goes : (k n : ℕ) (s : List ℕ) → (passing_size k n s ≡ 0 → ⊥) → Goes k n s
+pub walk_goes : (k n : ℕ) (s : List ℕ) → (passing_size k n s ≡ None → ⊥) → Goes k n s
 unfolding passing_size passed passes? sound_lines_from rising_from every
 walk_goes k n s h =
     let m : ℕ = get_or s 2 0 in
@@ -134,3 +134,10 @@ walk_goes k n s h =
           ∙ ap (λ (b : Bool). pick b (l ∷ p) []) t
           ∙ ap (λ (y : ℕ). l ∷ passed y n (lines_in (drop m s))) (ap suc e ∙ sym (add-one (line_number s)));
     }
+
+-- where a size is answered, it is that of a line that is passed
+pub goes_by : (k n : ℕ) (s : List ℕ) (m : ℕ) → passing_size k n s ≡ Some m → (Goes k n s) × (m ≡ get_or s 2 0)
+goes_by k n s m e =
+    let g : Goes k n s = walk_goes k n s (λ z. let y : ◌≡◌ {A = ℕ} 0 1 = cc in omega arith) in
+    let same : ◌≡◌ {A = Option ℕ} (Some m) (Some (get_or s 2 0)) = sym e ∙ g.size in
+    (g, cc)

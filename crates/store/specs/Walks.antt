@@ -1,5 +1,5 @@
 -- A walk over the lines that some bytes are: past whole lines, with rising numbers that are below a given one.
-use Rattle.std.specs.Prelude.{ℕ, suc, pred, ◌+◌, ◌≤◌, Bool, true, ◌&&◌, List, [], ◌∷◌, leb, ltb, eqb, length, take, drop, get_or}
+use Rattle.std.specs.Prelude.{ℕ, suc, pred, ◌+◌, ◌≤◌, Bool, true, ◌&&◌, Option, Some, None, List, [], ◌∷◌, leb, ltb, eqb, length, take, drop, get_or}
 use Rattle.paper.specs.Bytes.{pick, every, joined}
 use Rattle.paper.specs.Line.{line_number}
 use Rattle.paper.specs.Store.{lines_in, whole_line?, rising_above}
@@ -10,9 +10,9 @@ use Rattle.store.specs.declared.Counts.{Counts}
 unfoldable pub passes? : ℕ → ℕ → List ℕ → Bool
 passes? k n l = whole_line? l && (leb k (line_number l) && ltb (line_number l) n)
 
--- the size of the first line of some bytes, 0 if it is none that is passed
-unfoldable pub passing_size : ℕ → ℕ → List ℕ → ℕ
-passing_size k n s = pick (passes? k n (take (get_or s 2 0) s)) (get_or s 2 0) 0
+-- the size of the first line of some bytes, if it is one that is passed
+unfoldable pub passing_size : ℕ → ℕ → List ℕ → Option ℕ
+passing_size k n s = pick (passes? k n (take (get_or s 2 0) s)) (Some (get_or s 2 0)) None
 
 -- the lines that are passed
 unfoldable pub passed : ℕ → ℕ → List (List ℕ) → List (List ℕ)
@@ -49,6 +49,10 @@ walked_on w n s = past_lines w (passed w.least n (lines_in (drop w.at s)))
 abbrev pub Within : Walked → List ℕ → Type 0
 Within w s = (w.at ≤ length s) × (w.lines ≤ w.at)
 
+-- what a record keeps of the lines that a walk has passed
+abbrev pub counts_past : Walked → Counts
+counts_past w = record { used = w.at; lines = w.lines; greatest = pred w.least }
+
 -- a walk has passed all that is counted, with the greatest number last
 unfoldable pub all_passed : Counts → Walked → Bool
-all_passed c w = eqb w.at c.used && (eqb c.lines w.lines && eqb c.greatest (pred w.least))
+all_passed c w = eqb c.used w.at && (eqb c.lines w.lines && eqb c.greatest (pred w.least))

@@ -14,9 +14,9 @@ pub slice_bounds-lines-end : goal.slice_bounds-lines-end
 slice_bounds-lines-end c = sym (length-take-le c.args.counts.used c.args.store.now (used_of c.args.store.now c.args.counts.used (counted c.args.store.now c.args.counts c.requires).sound).lent)
 
 pub first_not_below-requires : goal.first_not_below-requires
-first_not_below-requires c = start_within (take c.args.counts.used c.args.store.now) _ c.beginning.ensures
+first_not_below-requires c = start_within (take c.args.counts.used c.args.store.now) _ c.default.ensures
 
 pub place_at-requires : goal.place_at-requires
 place_at-requires c =
     let args = c.args in
-    (lines_sound args.store.now args.counts c.requires, on_from_start args.number _ _ _ c.beginning.ensures c.first_not_below.ensures.0)
+    (lines_sound args.store.now args.counts c.requires, on_from_start args.number _ _ _ c.default.ensures c.first_not_below.ensures.0)

@@ -6,8 +6,8 @@ use Rattle.store.specs.Walks.{walked_on}
 use Rattle.store.proofs.Walk.{walking, onward}
 use Rattle.store.proofs.first_not_below.Given as goal
 
-abbrev pub invariant-loop-rest : goal.invariant-loop-rest
-invariant-loop-rest l = (length l.rest ≤ length l.lines) × (l.count + length l.rest ≤ length l.lines) × (onward (length l.lines - length l.rest) l.count l.least l.number l.rest ≡ walked_on (walking l.begin l.initial.count l.initial.least) l.number l.lines)
+abbrev pub invariant-loop-size : goal.invariant-loop-size
+invariant-loop-size l = (length l.rest ≤ length l.lines) × (l.count + length l.rest ≤ length l.lines) × (onward (length l.lines - length l.rest) l.count l.least l.number l.rest ≡ walked_on (walking l.begin l.initial.count l.initial.least) l.number l.lines)
 
-abbrev pub decreases-loop-rest : goal.decreases-loop-rest
-decreases-loop-rest l = length l.rest
+abbrev pub decreases-loop-size : goal.decreases-loop-size
+decreases-loop-size l = length l.rest
