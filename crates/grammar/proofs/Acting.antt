@@ -18,7 +18,7 @@ module _ {l : ActOf Gives} (x n r : ℕ) (t : TakesSo words rests x (get_or word
 
 -- a frame that takes an item has the frames that it wants in its place
 pub took_here : {old : List ℕ} {at c : ℕ} {new : List ℕ} (x n r : ℕ) → TakesSo words rests x n r (look (get_or old at 0) c) → at + 9 ≤ length old → new ≡ sets old at (nine n (r / 4096 % 64))
-    → Acts old at c (Act'.Took (r % 64) (at + r / 64 % 64)) new
+    → Acts old at c (Act'.Took (record { gives = r % 64; depth = at + r / 64 % 64 })) new
 took_here {old} {at} {c} {new} x n r t h s =
     let few : r / 64 % 64 ≤ 9 = t.few in
     acts_took (record {

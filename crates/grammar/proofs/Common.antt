@@ -12,8 +12,8 @@ use Rattle.paper.specs.Grammar.{Gives, itself, look}
 use Rattle.paper.specs.Open.{all_Bytes, all_Machine, all_Grammar}
 use Rattle.laws.specs.Counts.{class_count}
 use Rattle.tokens.specs.Spellings.{below, below_at}
-use Rattle.grammar.specs.declared.Step.{Step}
-use Rattle.grammar.specs.declared.Step.TheVariants as Step'
+use Rattle.std.specs.Prelude.{Option, Some}
+use Rattle.grammar.specs.declared.Taken.{Taken}
 use Rattle.grammar.specs.Stack.{stack, gives_of, Steps}
 use Rattle.grammar.proofs.Frames.{stack_put}
 use Rattle.grammar.proofs.StackLaws.{down_left, down_took}
@@ -90,7 +90,7 @@ not_joined c h e f p t o =
 
 module _ (l : List ℕ) (depth c : ℕ) (some : 0 < depth) where
   -- its last frame takes the item and wants nothing
-  pub last_steps : look (get_or l (depth - 1) 0) c ≡ takes itself [] → Steps l depth c (Step'.Took 0 (depth - 1)) l
+  pub last_steps : look (get_or l (depth - 1) 0) c ≡ takes itself [] → Steps l depth c (Some (record { gives = 0; depth = depth - 1 })) l
   unfolding gives_of
   last_steps k = down_took l depth c depth some (omega arith) refl (record { wants = []; acts = k; stacked = refl; few = omega arith })
 
@@ -99,7 +99,7 @@ module _ (l : List ℕ) (depth c : ℕ) (some : 0 < depth) where
   top_is e = let z : depth ≡ suc (depth - 1) = omega arith in ap (stack l) z ∙ ap (λ (f : ℕ). f ∷ stack l (depth - 1)) e
 
   -- the item joins terms
-  pub joined_steps : depth < length l → get_or l (depth - 1) 0 ≡ 6 → look 6 c ≡ takes itself (5 ∷ 6 ∷ []) → Steps l depth c (Step'.Took 0 (depth + 1)) (set l depth 5)
+  pub joined_steps : depth < length l → get_or l (depth - 1) 0 ≡ 6 → look 6 c ≡ takes itself (5 ∷ 6 ∷ []) → Steps l depth c (Some (record { gives = 0; depth = depth + 1 })) (set l depth 5)
   unfolding gives_of
   joined_steps h e k =
       down_took l depth c depth some (omega arith) refl (record {
@@ -110,10 +110,10 @@ module _ (l : List ℕ) (depth c : ℕ) (some : 0 < depth) where
       })
 
   -- the last frame leaves it to those below
-  pub left_steps : {x : Step} {new : List ℕ} → get_or l (depth - 1) 0 ≡ 6 → look 6 c ≡ leave → Steps l (depth - 1) c x new → Steps l depth c x new
+  pub left_steps : {x : Option Taken} {new : List ℕ} → get_or l (depth - 1) 0 ≡ 6 → look 6 c ≡ leave → Steps l (depth - 1) c x new → Steps l depth c x new
   left_steps e k s =
       let down = down_left l depth c depth some refl (ap (λ (f : ℕ). look f c) e ∙ k) in
       record {
-        takes = λ g d q. (down ∙ (s.takes g d q).0, omega (arith, (s.takes g d q).1));
+        takes = λ t q. (down ∙ (s.takes t q).0, omega (arith, (s.takes t q).1));
         refuses = λ q g gs t. s.refuses q g gs (sym down ∙ t);
       }

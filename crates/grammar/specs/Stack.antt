@@ -1,12 +1,11 @@
 -- The stack of frames in a buffer, and what it does with an item.
-use Rattle.std.specs.Prelude.{◌≡◌, ℕ, zero, suc, ◌+◌, ◌≤◌, Bool, true, false, List, [], ◌∷◌, ◌++◌, ◌==◌, ◌≢◌, slice_index}
+use Rattle.std.specs.Prelude.{◌≡◌, ℕ, zero, suc, ◌+◌, ◌≤◌, Bool, true, false, List, [], ◌∷◌, ◌++◌, ◌==◌, ◌≢◌, slice_index, Option, Some, None}
 use Rattle.paper.specs.Bytes.{pick}
 use Rattle.paper.specs.Machine.{take, leave, refuse, took, step}
 use Rattle.paper.specs.Grammar.{Gives, itself, for_strings, as_prefix, put, look}
 use Rattle.grammar.specs.declared.Act.{Act}
 use Rattle.grammar.specs.declared.Act.TheVariants as Act'
-use Rattle.grammar.specs.declared.Step.{Step}
-use Rattle.grammar.specs.declared.Step.TheVariants as Step'
+use Rattle.grammar.specs.declared.Taken.{Taken}
 
 -- the first d frames of a buffer as a stack, the last one on top
 unfoldable pub stack : List ℕ → ℕ → List ℕ
@@ -26,14 +25,14 @@ pub record TakesAt (old : List ℕ) (at c g d : ℕ) (new : List ℕ) : Type 0 w
 
 -- what the frame at a place of a buffer does with an item of a class
 pub record Acts (old : List ℕ) (at c : ℕ) (r : Act) (new : List ℕ) : Type 0 where
-  pub takes : (g d : ℕ) → r ≡ Act'.Took g d → TakesAt old at c g d new
+  pub takes : (t : Taken) → r ≡ Act'.Took t → TakesAt old at c t.gives t.depth new
   pub leaves : r ≡ Act'.Left → (look (slice_index old at) c ≡ leave) × (new ≡ old)
   pub refuses : r ≡ Act'.Refused → look (slice_index old at) c ≡ refuse 4
 
 -- what a stack in a buffer does with an item of a class: takes it, gives g, and has then d frames; or does not take it
-pub record Steps (old : List ℕ) (depth c : ℕ) (r : Step) (new : List ℕ) : Type 0 where
-  pub takes : (g d : ℕ) → r ≡ Step'.Took g d → (step look (stack old depth) c ≡ took (gives_of g) (stack new d)) × (d ≤ depth + 8)
-  pub refuses : r ≡ Step'.Refused → (e : Gives) (gs : List ℕ) → step look (stack old depth) c ≢ took e gs
+pub record Steps (old : List ℕ) (depth c : ℕ) (r : Option Taken) (new : List ℕ) : Type 0 where
+  pub takes : (t : Taken) → r ≡ Some t → (step look (stack old depth) c ≡ took (gives_of t.gives) (stack new t.depth)) × (t.depth ≤ depth + 8)
+  pub refuses : r ≡ None → (e : Gives) (gs : List ℕ) → step look (stack old depth) c ≢ took e gs
 
 -- whether an item of a class joins terms: where more terms may follow it is taken, and wants an operand and more terms; any other is left
 pub record Joins (c : ℕ) (r : Bool) : Type 0 where

@@ -72,10 +72,17 @@ fn put_frames(frames: &mut [u8], at: usize, word: u64, ninth: u8)
     put_frame(frames, at + 8, ninth);
 }
 
-// What a frame does with an item: takes it, with what it gives and the new depth of the stack; leaves it; refuses it.
+// What is given for an item that a stack took, by its number, and how many frames the stack has then.
+#[derive(Clone, Copy)]
+pub struct Taken {
+    pub gives: u8,
+    pub depth: usize,
+}
+
+// What a frame does with an item: takes it; leaves it; refuses it.
 #[derive(Clone, Copy)]
 pub enum Act {
-    Took(u8, usize),
+    Took(Taken),
     Left,
     Refused,
 }
@@ -94,32 +101,26 @@ fn act_at(frames: &mut [u8], at: usize, class: u8) -> Act
     }
     let rest = rows::rest_of(act);
     put_frames(frames, at, rows::word_of(act), (rest / 4096 % 64) as u8);
-    Act::Took((rest % 64) as u8, at + (rest / 64 % 64) as usize)
+    Act::Took(Taken {
+        gives: (rest % 64) as u8,
+        depth: at + (rest / 64 % 64) as usize,
+    })
 }
 
-// What a stack does with an item: takes it, with what is given for it and the new depth; or does not.
-#[derive(Clone, Copy)]
-pub enum Step {
-    Took(u8, usize),
-    Refused,
-}
-
-// What the stack of the first frames of a buffer does with an item of a class: the last frame first; one that leaves the item hands it to
+// How the stack of the first frames of a buffer takes an item of a class, if it does: the last frame first; one that leaves the item hands it to
 // the frame below.
-pub fn take_item(frames: &mut [u8], depth: usize, class: u8) -> Step
+pub fn take_item(frames: &mut [u8], depth: usize, class: u8) -> Option<Taken>
     requires { (depth + 8 ≤ length frames.old) × (class < class_count) }
     ensures { Steps frames.old depth class result frames.new }
 {
-    let mut d = depth;
-    while 0 < d {
-        d -= 1;
-        match act_at(frames, d, class) {
-            Act::Took(gives, n) => return Step::Took(gives, n),
+    for at in (0..depth).rev() {
+        match act_at(frames, at, class) {
+            Act::Took(taken) => return Some(taken),
             Act::Left => {}
-            Act::Refused => return Step::Refused,
+            Act::Refused => return None,
         }
     }
-    Step::Refused
+    None
 }
 
 // The frames that items meet most, by their numbers in the grammar.
@@ -165,28 +166,31 @@ fn joins_terms(class: u8) -> bool
     }
 }
 
-// What a stack does with an item, as `take_item` says it; that its last frame takes the item and wants nothing is seen without the table.
-fn take_last(frames: &mut [u8], depth: usize, class: u8) -> Step
+// How a stack takes an item, as `take_item` says it; that its last frame takes the item and wants nothing is seen without the table.
+fn take_last(frames: &mut [u8], depth: usize, class: u8) -> Option<Taken>
     requires { (depth + 8 ≤ length frames.old) × (class < class_count) }
     ensures { Steps frames.old depth class result frames.new }
 {
     if depth == 0 {
-        return Step::Refused;
+        return None;
     }
     let top = depth - 1;
     if is_last(frames[top], class) {
-        return Step::Took(0, top);
+        return Some(Taken {
+            gives: 0,
+            depth: top,
+        });
     }
     take_item(frames, depth, class)
 }
 
 // The same; what most items meet is seen without the table: that more terms may follow, and then an item that joins them or another one.
-pub fn take_next(frames: &mut [u8], depth: usize, class: u8) -> Step
+pub fn take_next(frames: &mut [u8], depth: usize, class: u8) -> Option<Taken>
     requires { (depth + 8 ≤ length frames.old) × (class < class_count) }
     ensures { Steps frames.old depth class result frames.new }
 {
     if depth == 0 {
-        return Step::Refused;
+        return None;
     }
     let top = depth - 1;
     if frames[top] != MORE_TERMS {
@@ -194,7 +198,10 @@ pub fn take_next(frames: &mut [u8], depth: usize, class: u8) -> Step
     }
     if joins_terms(class) {
         frames[depth] = OPERAND;
-        return Step::Took(0, depth + 1);
+        return Some(Taken {
+            gives: 0,
+            depth: depth + 1,
+        });
     }
     take_last(frames, top, class)
 }
