@@ -4,11 +4,12 @@
 ghost use Rattle.std.specs.Prelude.{◌≡◌, ◌≤◌, length, take, get_or};
 ghost use Rattle.paper.specs.Bytes.{blank};
 ghost use Rattle.paper.specs.Line.{direct_number};
-ghost use Rattle.paper.specs.Errors.{flipped, marked_at, error_line};
+ghost use Rattle.paper.specs.Errors.{flipped, marked_at, error_line, keepable?};
 ghost use Rattle.enter_error.specs.Keeps.{keeps?};
 
-use buffers::{Run, copy, put, run_end};
+use buffers::{copy, put};
 use enter_item::{LINE_ROOM, low_byte};
+use refusals::Refusal;
 use tokens::StatementToken;
 
 // The number of a line that is read without one.
@@ -21,7 +22,7 @@ const ERROR_TOKEN: u8 = StatementToken::ERROR.0;
 fn byte_or_blank(text: &[u8], place: usize) -> u8
     ensures { result ≡ get_or text.now place blank }
 {
-    if place < text.len() { text[place] } else { 32 }
+    text.get(place).copied().unwrap_or(b' ')
 }
 
 // A byte with its top bit flipped.
@@ -31,24 +32,22 @@ fn flip(b: u8) -> u8
     if 128 <= b { b % 128 } else { b + 128 }
 }
 
+// Whether a text that is refused at a place can be kept: it has no 9B, and no 1B at the place.
+fn is_keepable(text: &[u8], place: usize) -> bool
+    ensures { result ≡ keepable? place text.now }
+{
+    !text.contains(&0x9B) && byte_or_blank(text, place) != 0x1B
+}
+
 // Whether the line with a number that is refused at a place of its text is kept: where wrong lines are, with 4, and if its text has no 9B, and no 1B at
 // the place. One without a number is not.
 pub fn keeps(text: &[u8], keep: bool, line_number: usize, number: u8, place: usize) -> bool
     ensures { result ≡ keeps? keep text.now line_number number place }
 {
-    if !keep {
-        return false;
-    }
-    if line_number == DIRECT_NUMBER {
-        return false;
-    }
-    if number != 4 {
-        return false;
-    }
-    if byte_or_blank(text, place) == 0x1B {
-        return false;
-    }
-    run_end(text, 0, Run::RawBytes) == text.len()
+    line_number != DIRECT_NUMBER
+        && keep
+        && number == Refusal::NoReading.number()
+        && is_keepable(text, place)
 }
 
 // How many bytes a text has with the byte at a place flipped: a place at its end adds one.
