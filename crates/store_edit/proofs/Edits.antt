@@ -1,13 +1,13 @@
 -- An edit: the bytes after the line at a place are moved once, and a line is copied to the place.
 use Prim.Native.Nat.{ℕ, ◌+◌, ◌-◌, ◌≤◌, ◌<◌}
 use native.Mathlib.Omega.{arith}
-use mathlib.Core.Path.{◌≡◌, sym, ap, ap₂, ◌∙◌, subst}
-use mathlib.Core.Bool.{true, false}
+use mathlib.Core.Path.{◌≡◌, refl, sym, ap, ap₂, ◌∙◌, subst}
+use mathlib.Core.Bool.{Bool, true, false}
 use mathlib.Core.List.{List, [], ◌∷◌, ◌++◌, append_assoc}
 use lib.Dec.{T, leb, ltb, leb→le}
 use lib.ListN.{length, take, drop, length-append, take-append-drop}
 use lib.Seq.{paste, length-paste, sets, sets-eq, drop_at, drop-drop, take-take, take-append-le, take-append_seam, length-take-le, drop-append_seam}
-use borrow.Author.Tests.{le-ltb, lt-ltb}
+use borrow.Author.Tests.{le-ltb, lt-ltb, ltb-true, ltb-false}
 use Rattle.paper.specs.Bytes.{pick, every, joined}
 use Rattle.paper.specs.Line.{line_number}
 use Rattle.paper.specs.Store.{lines_in, whole_line?, rising, greatest_number, sound_store, room, lines_below, lines_above, stored?, put_line, take_out, overwritten}
@@ -15,10 +15,9 @@ use Rattle.laws.specs.Tests.{and_left, and_right}
 use Rattle.laws.specs.Lines.{bytes_back, joined_append, old_line, room_lent, used_of, parts_of, sizes_of}
 use Rattle.store.specs.declared.Counts.{Counts}
 use Rattle.store.specs.declared.Place.{Place}
-use Rattle.store_edit.specs.declared.Stored.TheVariants.{Done, NoRoom}
-use Rattle.store_edit.specs.declared.Removed.TheVariants.{Done as Gone, NotThere}
-use Rattle.store.specs.Answers.{sound_counts, place_of}
-use Rattle.store_edit.specs.Answers.{counts_of, too_long, stored_answer, stored_bytes, removed_answer, removed_bytes}
+use Rattle.std.specs.Prelude.{max, Some, None}
+use Rattle.store.specs.Answers.{sound_counts, place_of, counts_of}
+use Rattle.store_edit.specs.Answers.{too_long, stored_answer, stored_bytes, removed_answer, removed_bytes}
 use Rattle.store.specs.Places.{counted, sound_rising, there, missing}
 use Rattle.store.specs.Pairs.{count_more, count_same, greatest_put, count_less, greatest_before, greatest_stays}
 
@@ -125,7 +124,7 @@ module _ (store : List ℕ) (used : ℕ) (line : List ℕ) (sound : T (sound_sto
 
   -- no room
   pub put_refused : (p : Place) → p ≡ place_of (line_number line) (lines_in (take used store)) → room store < used - p.size + length line
-      → (NoRoom ≡ stored_answer store (put_line line (lines_in (take used store)))) × (store ≡ stored_bytes store (put_line line (lines_in (take used store))))
+      → (None ≡ stored_answer store (put_line line (lines_in (take used store)))) × (store ≡ stored_bytes store (put_line line (lines_in (take used store))))
   unfolding stored_answer stored_bytes too_long
   put_refused p e h =
       let ls : List (List ℕ) = put_line line (lines_in (take used store)) in
@@ -149,17 +148,25 @@ module _ (store : List ℕ) (used : ℕ) (line : List ℕ) (sound : T (sound_sto
   -- the line is put in
   pub put_done : (p : Place) → p ≡ place_of (line_number line) (lines_in (take used store)) → (c : Counts) → c ≡ counts_of (put_line line (lines_in (take used store))) → c.used ≤ room store
       → (mid new : List ℕ) → mid ≡ paste store (p.at + length line) (drop (p.at + p.size) store) (used - (p.at + p.size)) → new ≡ sets mid p.at line
-      → (Done c ≡ stored_answer store (put_line line (lines_in (take used store)))) × (new ≡ stored_bytes store (put_line line (lines_in (take used store))))
+      → (Some c ≡ stored_answer store (put_line line (lines_in (take used store)))) × (new ≡ stored_bytes store (put_line line (lines_in (take used store))))
   unfolding stored_answer stored_bytes too_long counts_of
   put_done p e c q h mid new em en =
       let ls : List (List ℕ) = put_line line (lines_in (take used store)) in
       let s : c.used ≡ length (joined ls) = ap (λ (x : Counts). x.used) q in
       let f : ltb (room store) (length (joined ls)) ≡ false = le-ltb (room store) (length (joined ls)) (omega arith) in
-      (rw (f) (ap Done q), rw (f) (en ∙ ap (λ (x : List ℕ). sets x p.at line) em ∙ put_bytes (omega (arith, room_lent store)) p e))
+      (rw (f) (ap Some q), rw (f) (en ∙ ap (λ (x : List ℕ). sets x p.at line) em ∙ put_bytes (omega (arith, room_lent store)) p e))
+
+-- the greater of two numbers, by a test
+greater : (a b : ℕ) → max a b ≡ pick (ltb a b) b a
+greater a b = go (ltb a b) refl
+  where
+    go : (x : Bool) → ltb a b ≡ x → max a b ≡ pick x b a
+    go true e = let h = ltb-true a b e in omega arith
+    go false e = let h = ltb-false a b e in omega arith
 
 -- the counts afterwards
 module _ (store : List ℕ) (c : Counts) (line : List ℕ) (sound : T (sound_counts store c)) (p : Place) (e : p ≡ place_of (line_number line) (lines_in (take c.used store))) (greatest : ℕ)
-    (g : greatest ≡ pick (ltb c.greatest p.number) p.number c.greatest) where
+    (g : greatest ≡ max c.greatest p.number) where
   abbrev old : List (List ℕ)
   old = lines_in (take c.used store)
 
@@ -167,6 +174,7 @@ module _ (store : List ℕ) (c : Counts) (line : List ℕ) (sound : T (sound_cou
   unfolding place_of
   greatest_is =
       g
+      ∙ greater c.greatest p.number
       ∙ ap₂ (λ (x y : ℕ). pick (ltb x y) y x) (counted store c sound).greatest (ap (λ (q : Place). q.number) e)
       ∙ sym (greatest_put line old)
 
@@ -214,16 +222,16 @@ module _ (store : List ℕ) (used n : ℕ) (sound : T (sound_store store used)) 
 
   -- there is no such line
   pub out_refused : (p : Place) → p ≡ place_of n (lines_in (take used store)) → p.size ≡ 0
-      → (NotThere ≡ removed_answer n (lines_in (take used store))) × (store ≡ removed_bytes n store (lines_in (take used store)))
+      → (None ≡ removed_answer n (lines_in (take used store))) × (store ≡ removed_bytes n store (lines_in (take used store)))
   unfolding removed_answer removed_bytes
   out_refused p e h = let f = missing store used n sound p e h in (rw (f), rw (f))
 
   -- the line is taken out
   pub out_done : (p : Place) → p ≡ place_of n (lines_in (take used store)) → (p.size ≡ 0 → ⊥) → (c : Counts) → c ≡ counts_of (take_out n (lines_in (take used store)))
       → (new : List ℕ) → new ≡ paste store (p.at + 0) (drop (p.at + p.size) store) (used - (p.at + p.size))
-      → (Gone c ≡ removed_answer n (lines_in (take used store))) × (new ≡ removed_bytes n store (lines_in (take used store)))
+      → (Some c ≡ removed_answer n (lines_in (take used store))) × (new ≡ removed_bytes n store (lines_in (take used store)))
   unfolding removed_answer removed_bytes
-  out_done p e h c q new en = let f = there store used n sound p e h in (rw (f) (ap Gone q), rw (f) (en ∙ out_bytes p e))
+  out_done p e h c q new en = let f = there store used n sound p e h in (rw (f) (ap Some q), rw (f) (en ∙ out_bytes p e))
 
 -- the counts afterwards
 module _ (store : List ℕ) (c : Counts) (n : ℕ) (sound : T (sound_counts store c)) (p : Place) (e : p ≡ place_of n (lines_in (take c.used store))) (h : p.size ≡ 0 → ⊥) where

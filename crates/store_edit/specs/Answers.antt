@@ -1,16 +1,9 @@
 -- What an edit of the store answers, and what it leaves in the lent store.
-use Rattle.std.specs.Prelude.{ℕ, Bool, List, ltb, length}
+use Rattle.std.specs.Prelude.{ℕ, Bool, Option, Some, None, List, ltb, length}
 use Rattle.paper.specs.Bytes.{pick, joined}
-use Rattle.paper.specs.Store.{greatest_number, room, stored?, take_out, overwritten}
+use Rattle.paper.specs.Store.{room, stored?, take_out, overwritten}
 use Rattle.store.specs.declared.Counts.{Counts}
-use Rattle.store_edit.specs.declared.Stored.{Stored}
-use Rattle.store_edit.specs.declared.Stored.TheVariants.{Done, NoRoom}
-use Rattle.store_edit.specs.declared.Removed.{Removed}
-use Rattle.store_edit.specs.declared.Removed.TheVariants.{Done as Gone, NotThere}
-
--- the counts of some lines
-unfoldable pub counts_of : List (List ℕ) → Counts
-counts_of ls = record { used = length (joined ls); lines = length ls; greatest = greatest_number ls }
+use Rattle.store.specs.Answers.{counts_of}
 
 -- ---- putting a line in
 
@@ -18,9 +11,9 @@ counts_of ls = record { used = length (joined ls); lines = length ls; greatest =
 unfoldable pub too_long : List ℕ → List (List ℕ) → Bool
 too_long store ls = ltb (room store) (length (joined ls))
 
--- the answer, by the lines that the store would hold: document 01's 8, or 0 and the counts afterwards
-unfoldable pub stored_answer : List ℕ → List (List ℕ) → Stored
-stored_answer store ls = pick (too_long store ls) NoRoom (Done (counts_of ls))
+-- the answer, by the lines that the store would hold: none, for document 01's 8, or the counts afterwards, for its 0
+unfoldable pub stored_answer : List ℕ → List (List ℕ) → Option Counts
+stored_answer store ls = pick (too_long store ls) None (Some (counts_of ls))
 
 -- what the store then holds
 unfoldable pub stored_bytes : List ℕ → List (List ℕ) → List ℕ
@@ -28,9 +21,9 @@ stored_bytes store ls = pick (too_long store ls) store (overwritten (joined ls) 
 
 -- ---- taking a line out
 
--- the answer for a line number: 0 and the counts afterwards, or document 01's 9
-unfoldable pub removed_answer : ℕ → List (List ℕ) → Removed
-removed_answer n ls = pick (stored? n ls) (Gone (counts_of (take_out n ls))) NotThere
+-- the answer for a line number: the counts afterwards, for document 01's 0, or none, for its 9
+unfoldable pub removed_answer : ℕ → List (List ℕ) → Option Counts
+removed_answer n ls = pick (stored? n ls) (Some (counts_of (take_out n ls))) None
 
 -- what the store then holds
 unfoldable pub removed_bytes : ℕ → List ℕ → List (List ℕ) → List ℕ

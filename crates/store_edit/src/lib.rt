@@ -1,8 +1,7 @@
 // Lines put into a sound store, and taken out of one.
 #![tactic(auto)]
 
-ghost use Rattle.std.specs.Prelude.{◌≡◌, T, ltb, take};
-ghost use Rattle.paper.specs.Bytes.{pick};
+ghost use Rattle.std.specs.Prelude.{◌≡◌, T, take};
 ghost use Rattle.paper.specs.Line.{line_number};
 ghost use Rattle.paper.specs.Store.{lines_in, put_line};
 ghost use Rattle.store.specs.Answers.{place_of, sound_counts};
@@ -10,22 +9,9 @@ ghost use Rattle.store_edit.specs.Answers.{stored_answer, stored_bytes, removed_
 
 use store::{Counts, Place, room_of};
 
-// The greater of two numbers.
-fn greater(a: usize, b: usize) -> usize
-    ensures { result ≡ pick (ltb a b) b a }
-{
-    if a < b { b } else { a }
-}
-
-// What putting a line in answers: the counts afterwards, or that the store would pass its room.
-#[derive(Clone, Copy)]
-pub enum Stored {
-    Done(Counts),
-    NoRoom,
-}
-
-// Puts a line in at the place of its number, and there in the place of a stored line. Nothing is written if the store would pass its room.
-pub fn put_in(store: &mut [u8], counts: Counts, place: Place, line: &[u8]) -> Stored
+// Puts a line in at the place of its number, and there in the place of a stored line, and answers the counts afterwards. Nothing is written if the
+// store would pass its room.
+pub fn put_in(store: &mut [u8], counts: Counts, place: Place, line: &[u8]) -> Option<Counts>
     requires { (T (sound_counts store.old counts)) × (place ≡ place_of (line_number line.now) (lines_in (take counts.used store.old))) }
     ensures { (result ≡ stored_answer store.old (put_line line.now (lines_in (take counts.used store.old))))
         × (store.new ≡ stored_bytes store.old (put_line line.now (lines_in (take counts.used store.old)))) }
@@ -35,32 +21,25 @@ pub fn put_in(store: &mut [u8], counts: Counts, place: Place, line: &[u8]) -> St
     let new = line.len();
     let after = counts.used - old + new;
     if room_of(store) < after {
-        return Stored::NoRoom;
+        return None;
     }
     store_gap::resize(store, at, old, new, counts.used);
     buffers::copy(store, at, line);
-    let greatest = greater(counts.greatest, place.number);
+    let greatest = counts.greatest.max(place.number);
     let lines = if old == 0 {
         counts.lines + 1
     } else {
         counts.lines
     };
-    Stored::Done(Counts {
+    Some(Counts {
         used: after,
         lines,
         greatest,
     })
 }
 
-// What taking a line out answers: the counts afterwards, or that there is no line with the number.
-#[derive(Clone, Copy)]
-pub enum Removed {
-    Done(Counts),
-    NotThere,
-}
-
-// Takes the line at a place out.
-pub fn take_out(store: &mut [u8], counts: Counts, place: Place) -> Removed
+// Takes the line at a place out, and answers the counts afterwards; or none, where there is no line with the number.
+pub fn take_out(store: &mut [u8], counts: Counts, place: Place) -> Option<Counts>
     requires { (T (sound_counts store.old counts)) × (place ≡ place_of place.number (lines_in (take counts.used store.old))) }
     ensures { (result ≡ removed_answer place.number (lines_in (take counts.used store.old)))
         × (store.new ≡ removed_bytes place.number store.old (lines_in (take counts.used store.old))) }
@@ -68,7 +47,7 @@ pub fn take_out(store: &mut [u8], counts: Counts, place: Place) -> Removed
     let at = place.at;
     let old = place.size;
     if old == 0 {
-        return Removed::NotThere;
+        return None;
     }
     store_gap::resize(store, at, old, 0, counts.used);
     let used = counts.used - old;
@@ -78,7 +57,7 @@ pub fn take_out(store: &mut [u8], counts: Counts, place: Place) -> Removed
     } else {
         counts.greatest
     };
-    Removed::Done(Counts {
+    Some(Counts {
         used,
         lines,
         greatest,

@@ -39,10 +39,10 @@ pub returns-then-old-eq0 : goal.returns-then-old-eq0
 returns-then-old-eq0 c =
     let args = c.args in
     let sound = (counted args.store.now args.counts c.requires.0).sound in
-    put_done args.store.now args.counts.used args.line.now sound args.place c.requires.1 _ (put_more args.store.now args.counts args.line.now c.requires.0 args.place c.requires.1 _ c.greater-greatest.ensures c.if-old-eq0.true) (omega (arith, c.room_of.ensures)) _ _ (tail_placed args.store.now _ args.place.at args.place.size (length args.line.now) args.counts.used _ c.resize.ensures) c.copy.ensures
+    put_done args.store.now args.counts.used args.line.now sound args.place c.requires.1 _ (put_more args.store.now args.counts args.line.now c.requires.0 args.place c.requires.1 _ c.max-greatest.ensures c.if-old-eq0.true) (omega (arith, c.room_of.ensures)) _ _ (tail_placed args.store.now _ args.place.at args.place.size (length args.line.now) args.counts.used _ c.resize.ensures) c.copy.ensures
 
 pub returns-else-old-eq0 : goal.returns-else-old-eq0
 returns-else-old-eq0 c =
     let args = c.args in
     let sound = (counted args.store.now args.counts c.requires.0).sound in
-    put_done args.store.now args.counts.used args.line.now sound args.place c.requires.1 _ (put_same args.store.now args.counts args.line.now c.requires.0 args.place c.requires.1 _ c.greater-greatest.ensures c.if-old-eq0.false) (omega (arith, c.room_of.ensures)) _ _ (tail_placed args.store.now _ args.place.at args.place.size (length args.line.now) args.counts.used _ c.resize.ensures) c.copy.ensures
+    put_done args.store.now args.counts.used args.line.now sound args.place c.requires.1 _ (put_same args.store.now args.counts args.line.now c.requires.0 args.place c.requires.1 _ c.max-greatest.ensures c.if-old-eq0.false) (omega (arith, c.room_of.ensures)) _ _ (tail_placed args.store.now _ args.place.at args.place.size (length args.line.now) args.counts.used _ c.resize.ensures) c.copy.ensures
