@@ -1,3 +1,4 @@
 pub mod States
 pub mod Sound
 pub mod Tight
+pub mod Refusals
