@@ -1,7 +1,7 @@
 // A program from another tokenizer: its tables and every line examined before a tag takes it. Nothing is written.
 #![tactic(auto)]
 
-ghost use Rattle.std.specs.Prelude.{◌≡◌, take};
+ghost use Rattle.std.specs.Prelude.{◌≡◌, Err, take};
 ghost use Rattle.paper.specs.Bytes.{pick};
 ghost use Rattle.paper.specs.Line.{line_number};
 ghost use Rattle.paper.specs.Names.{names_in};
@@ -15,10 +15,9 @@ use list_alone::{DEEPEST, well_formed_over};
 use names_kinds::{KINDS, list_kinds};
 use store::{GREATEST_NUMBER, heads};
 
-// What examining a program answers: yes; or the first that is unsound of names, values and store; or the number of the first line that is not well-formed.
+// Why a program is not taken: the first that is unsound of names, values and store; or the first line that is not well-formed, by its number.
 #[derive(Clone, Copy)]
-pub enum Verdict {
-    Yes,
+pub enum Flaw {
     UnsoundNames,
     UnsoundValues,
     UnsoundStore,
@@ -26,45 +25,45 @@ pub enum Verdict {
 }
 
 // The answer's first number: 0 yes, 1 names, 2 values, 3 store, 4 a line.
-pub fn number_of(v: Verdict) -> usize
+#[tactic(auto, unfolding(crate::specs::Verdicts::verdict, paper::specs::Examine::verdict_number))]
+pub fn number_of(v: Result<(), Flaw>) -> usize
     ensures { result ≡ verdict_number (verdict v) }
 {
     match v {
-        Verdict::Yes => 0,
-        Verdict::UnsoundNames => 1,
-        Verdict::UnsoundValues => 2,
-        Verdict::UnsoundStore => 3,
-        Verdict::BadLine(_) => 4,
+        Ok(()) => 0,
+        Err(Flaw::UnsoundNames) => 1,
+        Err(Flaw::UnsoundValues) => 2,
+        Err(Flaw::UnsoundStore) => 3,
+        Err(Flaw::BadLine(_)) => 4,
     }
 }
 
 // The answer's second number: that of the bad line, 0 where there is none.
-pub fn line_of(v: Verdict) -> usize
+#[tactic(auto, unfolding(crate::specs::Verdicts::verdict, paper::specs::Examine::verdict_line))]
+pub fn line_of(v: Result<(), Flaw>) -> usize
     ensures { result ≡ verdict_line (verdict v) }
 {
     match v {
-        Verdict::Yes => 0,
-        Verdict::UnsoundNames => 0,
-        Verdict::UnsoundValues => 0,
-        Verdict::UnsoundStore => 0,
-        Verdict::BadLine(n) => n,
+        Err(Flaw::BadLine(n)) => n,
+        _ => 0,
     }
 }
 
-// The answer where the first line of some bytes is bad, and those before it are good: its number, if all lines from it on are sound too.
-fn bad_from(rest: &[u8], least: usize) -> Verdict
-    ensures { verdict result ≡ pick (sound_lines_from least (lines_in rest.now)) (bad_line (line_number rest.now)) unsound_store }
+// What is wrong where the first line of some bytes is bad, and those before it are good: that line, if all lines from it on are sound too.
+#[tactic(auto, unfolding(crate::specs::Verdicts::verdict))]
+fn bad_from(rest: &[u8], least: usize) -> Flaw
+    ensures { verdict (Err result) ≡ pick (sound_lines_from least (lines_in rest.now)) (bad_line (line_number rest.now)) unsound_store }
 {
     if store::sound_from(rest, least) {
-        Verdict::BadLine(heads::number(rest))
+        Flaw::BadLine(heads::number(rest))
     } else {
-        Verdict::UnsoundStore
+        Flaw::UnsoundStore
     }
 }
 
 // Examines the lines of a store over a sound name table in one walk: each is tested by the lister's test, up to the first that is bad.
 // The kinds of the names are listed before, once for all lines.
-fn examine_lines(lines: &[u8], names: &[u8], name_bytes: usize) -> Verdict
+fn examine_lines(lines: &[u8], names: &[u8], name_bytes: usize) -> Result<(), Flaw>
     requires { Sound names.now name_bytes }
     ensures { verdict result ≡ lines_verdict (names_in (take name_bytes names.now)) 0 lines.now }
 {
@@ -76,15 +75,15 @@ fn examine_lines(lines: &[u8], names: &[u8], name_bytes: usize) -> Verdict
     while 0 < rest.len() {
         let size = store::passing(rest, least, GREATEST_NUMBER + 1);
         if size == 0 {
-            return Verdict::UnsoundStore;
+            return Err(Flaw::UnsoundStore);
         }
         if !well_formed_over(&rest[..size], &kinds, &mut frames) {
-            return bad_from(rest, least);
+            return Err(bad_from(rest, least));
         }
         least = heads::number(rest) + 1;
         rest = &rest[size..];
     }
-    Verdict::Yes
+    Ok(())
 }
 
 // Examines a program: names, room for their values, and store, in this order, and then every line.
@@ -95,17 +94,17 @@ pub fn examine(
     values: &[u8],
     store: &[u8],
     used: usize,
-) -> Verdict
+) -> Result<(), Flaw>
     ensures { verdict result ≡ examine-call names.now name_bytes name_count values.now store.now used }
 {
     if !names_sound::sound_table(names, name_bytes, name_count) {
-        return Verdict::UnsoundNames;
+        return Err(Flaw::UnsoundNames);
     }
     if !names_sound::values_fit(name_count, values.len()) {
-        return Verdict::UnsoundValues;
+        return Err(Flaw::UnsoundValues);
     }
     if store::room_of(store) < used {
-        return Verdict::UnsoundStore;
+        return Err(Flaw::UnsoundStore);
     }
     examine_lines(&store[..used], names, name_bytes)
 }
