@@ -19,8 +19,7 @@ use Rattle.paper.specs.Listing.{decimal, token_text, body_text, listing_text, li
 use Rattle.laws.specs.Tests.{as_T}
 use Rattle.buffers.specs.Sets.{sets_append}
 use Rattle.list_pieces.specs.declared.Piece.{Piece}
-use Rattle.list_line.specs.declared.first.Measure.{Measure}
-use Rattle.list_line.specs.declared.first.Measure.TheVariants as Measure'
+use Rattle.std.specs.Prelude.{Option, Some, None}
 use Rattle.list_pieces.specs.Pieces.{piece_at, tokens_of_piece, size_of, end_after, Holds}
 use Rattle.list_pieces.specs.Rest.{Written, Rest, Head}
 use Rattle.grammar.specs.Stack.{stack}
@@ -95,7 +94,7 @@ head_listing false ns l = append_assoc (decimal 5 (line_number l)) (blank ∷ []
 
 -- ---- a line that is not well-formed
 
-pub not_measured : (direct : Bool) (ns : List (List ℕ)) (l : List ℕ) (room : ℕ) → formed? (lawful_for direct) ns l ≡ false → Measure'.NotWellFormed ≡ measured direct ns l room
+pub not_measured : (direct : Bool) (ns : List (List ℕ)) (l : List ℕ) (room : ℕ) → formed? (lawful_for direct) ns l ≡ false → None ≡ measured direct ns l room
 unfolding measured found
 not_measured direct ns l room n = sym (ap (λ (b : Bool). found b (capped room (length (formed_listing direct ns l)))) n)
 
@@ -135,22 +134,22 @@ module _ {direct : Bool} {ns : List (List ℕ)} {l : List ℕ} {room : ℕ} {fra
       subst (λ (z : ℕ). Measuring direct ns l room new (at + z) stop d more) (sym g) (subst (λ (z : ℕ). Measuring direct ns l room new (at + size_of c) z d more) (sym f) next)
 
   -- the rest is not that of a well-formed line
-  pub measuring_fails : (Rest ns (stack frames depth) at end (drop at l) → ⊥) → Measure'.NotWellFormed ≡ measured direct ns l room
+  pub measuring_fails : (Rest ns (stack frames depth) at end (drop at l) → ⊥) → None ≡ measured direct ns l room
   measuring_fails n = not_measured direct ns l room (fitting_fails m.fitting n)
 
-  pub measuring_open : length l ≤ at → (end ≡ at → ⊥) → Measure'.NotWellFormed ≡ measured direct ns l room
+  pub measuring_open : length l ≤ at → (end ≡ at → ⊥) → None ≡ measured direct ns l room
   measuring_open h n = not_measured direct ns l room (fitting_open m.fitting h n)
 
-  pub measuring_wants : length l ≤ at → (depth ≡ 0 → ⊥) → Measure'.NotWellFormed ≡ measured direct ns l room
+  pub measuring_wants : length l ≤ at → (depth ≡ 0 → ⊥) → None ≡ measured direct ns l room
   measuring_wants h n = not_measured direct ns l room (fitting_wants m.fitting h n)
 
-  pub measuring_done : length l ≤ at → end ≡ at → depth ≡ 0 → Measure'.Length total ≡ measured direct ns l room
+  pub measuring_done : length l ≤ at → end ≡ at → depth ≡ 0 → Some total ≡ measured direct ns l room
   unfolding measured found body_text tokens_from
   measuring_done h e d =
       let t : formed? (lawful_for direct) ns l ≡ true = fitting_done m.fitting h e d in
       let z : body_text (tokens_at ns l at end) ≡ [] = ap (λ (u : List ℕ). body_text (tokens_from ns 0 at end u)) (drop_of_length-le l h) in
       let k : m.before ≡ length (formed_listing direct ns l) = omega (arith, m.sum, ap length z) in
-      ap Measure'.Length (m.count ∙ ap (capped room) k) ∙ sym (ap (λ (b : Bool). found b (capped room (length (formed_listing direct ns l)))) t)
+      ap Some (m.count ∙ ap (capped room) k) ∙ sym (ap (λ (b : Bool). found b (capped room (length (formed_listing direct ns l)))) t)
 
 -- ---- the second pass
 
@@ -235,24 +234,24 @@ pub record Says (direct : Bool) (ns : List (List ℕ)) (l : List ℕ) (room n : 
   pub formed : formed? (lawful_for direct) ns l ≡ true
   pub count : n ≡ capped room (length (formed_listing direct ns l))
 
-found_length : (b : Bool) (k n : ℕ) → found b k ≡ Measure'.Length n → (b ≡ true) × (n ≡ k)
+found_length : (b : Bool) (k n : ℕ) → found b k ≡ Some n → (b ≡ true) × (n ≡ k)
 unfolding found
 found_length true k n e = (refl, (let z : n ≡ k = cc in z))
 found_length false k n e = let z : ◌≡◌ {A = ℕ} 0 1 = cc in absurd (omega arith)
 
-found_none : (b : Bool) (k : ℕ) → found b k ≡ Measure'.NotWellFormed → b ≡ false
+found_none : (b : Bool) (k : ℕ) → found b k ≡ None → b ≡ false
 unfolding found
 found_none true k e = let z : ◌≡◌ {A = ℕ} 0 1 = cc in absurd (omega arith)
 found_none false k e = refl
 
-pub says_length : {direct : Bool} {ns : List (List ℕ)} {l : List ℕ} {room n : ℕ} {r : Measure} → r ≡ measured direct ns l room → r ≡ Measure'.Length n → Says direct ns l room n
+pub says_length : {direct : Bool} {ns : List (List ℕ)} {l : List ℕ} {room n : ℕ} {r : Option ℕ} → r ≡ measured direct ns l room → r ≡ Some n → Says direct ns l room n
 unfolding measured
 says_length {direct} {ns} {l} {room} {n} e f =
     let w = found_length (formed? (lawful_for direct) ns l) (capped room (length (formed_listing direct ns l))) n (sym e ∙ f) in
     record { formed = w.0; count = w.1 }
 
 -- a line that is found not to be well-formed
-pub says_none : (direct : Bool) (ns : List (List ℕ)) (l : List ℕ) (room : ℕ) {r : Measure} → r ≡ measured direct ns l room → r ≡ Measure'.NotWellFormed → formed? (lawful_for direct) ns l ≡ false
+pub says_none : (direct : Bool) (ns : List (List ℕ)) (l : List ℕ) (room : ℕ) {r : Option ℕ} → r ≡ measured direct ns l room → r ≡ None → formed? (lawful_for direct) ns l ≡ false
 unfolding measured
 says_none direct ns l room e f = found_none (formed? (lawful_for direct) ns l) (capped room (length (formed_listing direct ns l))) (sym e ∙ f)
 

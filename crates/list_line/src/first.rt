@@ -8,13 +8,6 @@ ghost use Rattle.list_line.specs.Listed.{capped, measured};
 use list_alone::DEEPEST;
 use list_check::Fit;
 
-// What the first pass finds: the line is not well-formed; or the length of its listing, or the first that is longer than the room.
-#[derive(Clone, Copy)]
-pub enum Measure {
-    NotWellFormed,
-    Length(usize),
-}
-
 // The sum of two lengths, or the first that is longer than the room.
 fn longer(total: usize, more: usize, room: usize) -> usize
     requires { (room < 2 ^ 63) × (total ≤ room + 1) }
@@ -30,7 +23,7 @@ fn longer(total: usize, more: usize, room: usize) -> usize
     }
 }
 
-// The first pass over a line whose head is right. The stack of frames begins with the frame of a statement; what `none` holds does not matter.
+// The first pass over a line whose head is right: the length of its listing, or the first that is longer than the room, if the line is well-formed. The stack of frames begins with the frame of a statement; what `none` holds does not matter.
 fn measure_body(
     line: &[u8],
     direct: bool,
@@ -39,7 +32,7 @@ fn measure_body(
     room: usize,
     frames: &mut [u8],
     none: &mut [u8],
-) -> Measure
+) -> Option<usize>
     requires { Head (lawful_for direct) line.now × Sound names.now size × (room < 2 ^ 63) × (2056 ≤ length frames.old) × (get_or frames.old 0 0 ≡ 0) }
     ensures { result ≡ measured direct (names_in (take size names.now)) line.now room }
 {
@@ -57,25 +50,31 @@ fn measure_body(
                 at += list_pieces::size_of(piece);
                 depth = d;
             }
-            Fit::Fails => return Measure::NotWellFormed,
+            Fit::Fails => return None,
         }
     }
     if end != at {
-        return Measure::NotWellFormed;
+        return None;
     }
     if depth != 0 {
-        return Measure::NotWellFormed;
+        return None;
     }
-    Measure::Length(total)
+    Some(total)
 }
 
 // Whether a line, stored or direct, is well-formed over a sound name table, and how long its listing is, up to a room.
-pub fn measure_line(line: &[u8], direct: bool, names: &[u8], size: usize, room: usize) -> Measure
+pub fn measure_line(
+    line: &[u8],
+    direct: bool,
+    names: &[u8],
+    size: usize,
+    room: usize,
+) -> Option<usize>
     requires { Sound names.now size × (room < 2 ^ 63) }
     ensures { result ≡ measured direct (names_in (take size names.now)) line.now room }
 {
     if !list_head::is_right(line, direct) {
-        return Measure::NotWellFormed;
+        return None;
     }
     let mut frames = [0u8; DEEPEST];
     let mut none = [0u8; 0];

@@ -10,12 +10,17 @@ ghost use Rattle.list_pieces.specs.Rest.{Sound};
 ghost use Rattle.list_outcome.specs.Outcomes.{answer};
 ghost use Rattle.list_line.specs.Listed.{lists};
 
-use first::Measure;
-use list_outcome::Outcome;
+use refusals::Refusal;
 
-// Lists a line, of any bytes, stored or direct, over a sound name table of `size` bytes: the listing is written to the front of a buffer, or
-// nothing is.
-pub fn list(line: &[u8], direct: bool, names: &[u8], size: usize, out: &mut [u8]) -> Outcome
+// Lists a line, of any bytes, stored or direct, over a sound name table of `size` bytes: the listing is written to the front of a buffer and its
+// length is returned, or nothing is written.
+pub fn list(
+    line: &[u8],
+    direct: bool,
+    names: &[u8],
+    size: usize,
+    out: &mut [u8],
+) -> Result<usize, Refusal>
     requires { Sound names.now size }
     ensures { answer result out.new ≡ lists direct (names_in (take size names.now)) line.now out.old }
 {
@@ -23,14 +28,12 @@ pub fn list(line: &[u8], direct: bool, names: &[u8], size: usize, out: &mut [u8]
         return list_outcome::list_error(line, direct, out);
     }
     let room = out.len();
-    match first::measure_line(line, direct, names, size, room) {
-        Measure::NotWellFormed => Outcome::NotWellFormed,
-        Measure::Length(n) => {
-            if room < n {
-                return Outcome::TooLong;
-            }
-            second::write_line(line, direct, names, size, out);
-            Outcome::Written(n)
-        }
+    let Some(n) = first::measure_line(line, direct, names, size, room) else {
+        return Err(Refusal::NotWellFormed);
+    };
+    if room < n {
+        return Err(Refusal::LongListing);
     }
+    second::write_line(line, direct, names, size, out);
+    Ok(n)
 }

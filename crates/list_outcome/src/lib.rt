@@ -1,4 +1,4 @@
-// What comes of listing a line, and the listing of an error line (document 02, §9).
+// The listing of an error line (document 02, §9): its length, or why there is none.
 #![tactic(auto)]
 
 ghost use Rattle.std.specs.Prelude.{◌≡◌, true};
@@ -9,13 +9,7 @@ ghost use Rattle.list_text.specs.Texts.{Writes};
 ghost use Rattle.list_head.specs.Heads.{lawful_for};
 ghost use Rattle.list_outcome.specs.Outcomes.{error_listing, answer};
 
-// What comes of listing a line: it is neither well-formed nor an error line; its listing is longer than the buffer; it is written, so many bytes long.
-#[derive(Clone, Copy)]
-pub enum Outcome {
-    NotWellFormed,
-    TooLong,
-    Written(usize),
-}
+use refusals::Refusal;
 
 // Writes the listing of an error line to the front of a buffer, as much as fits, and returns its length.
 fn write_listing(line: &[u8], direct: bool, out: &mut [u8]) -> usize
@@ -26,17 +20,17 @@ fn write_listing(line: &[u8], direct: bool, out: &mut [u8]) -> usize
     n + list_error::write_error(line, out, n)
 }
 
-// Lists an error line: the listing is written to the front of a buffer, or nothing is.
-pub fn list_error(line: &[u8], direct: bool, out: &mut [u8]) -> Outcome
+// Lists an error line: the listing is written to the front of a buffer and its length is returned, or nothing is written.
+pub fn list_error(line: &[u8], direct: bool, out: &mut [u8]) -> Result<usize, Refusal>
     requires { error_line? line.now ≡ true }
     ensures { answer result out.new ≡ listed_if (lawful_for direct (line_number line.now)) (error_listing direct line.now) out.old }
 {
     if !list_head::is_lawful(line, direct) {
-        return Outcome::NotWellFormed;
+        return Err(Refusal::NotWellFormed);
     }
     let mut none = [0u8; 0];
     if out.len() < write_listing(line, direct, &mut none) {
-        return Outcome::TooLong;
+        return Err(Refusal::LongListing);
     }
-    Outcome::Written(write_listing(line, direct, out))
+    Ok(write_listing(line, direct, out))
 }

@@ -12,7 +12,7 @@ use Rattle.paper.specs.WellFormed.{formed?}
 use Rattle.paper.specs.Errors.{error_line?, error_text, listable?}
 use Rattle.list_error.specs.ErrorLaws.{error_long, error_shown}
 use Rattle.list_weigh.specs.declared.Weight.{Weight}
-use Rattle.list_weigh.specs.declared.Weighing.TheVariants.{NotListable, Weighs}
+use Rattle.std.specs.Prelude.{Some, None}
 use Rattle.list_weigh.specs.Weights.{plus, head_weight, formed_weight, error_weight, line_weight, weighing, Small}
 use Rattle.list_weigh.proofs.Sums.{same_weight, formed_columns, error_columns}
 use Rattle.list_weigh.proofs.Bounds.{head_small}
@@ -52,20 +52,20 @@ module _ (ns : List (List ℕ)) (l : List ℕ) where
   unfolding listable?
   other_listed e = rw (← e, no_other)
 
-  answered : (b : Bool) → listable? lawful_number? ns l ≡ b → pick b (Weighs (line_weight ns l)) NotListable ≡ weighing ns l
+  answered : (b : Bool) → listable? lawful_number? ns l ≡ b → pick b (Some (line_weight ns l)) None ≡ weighing ns l
   unfolding weighing
-  answered b e = ap (λ (x : Bool). pick x (Weighs (line_weight ns l)) NotListable) (sym e)
+  answered b e = ap (λ (x : Bool). pick x (Some (line_weight ns l)) None) (sym e)
 
-  pub error_refused : true ≡ error_line? l → (n : ℕ) → n ≡ line_number l → 32767 < n → NotListable ≡ weighing ns l
+  pub error_refused : true ≡ error_line? l → (n : ℕ) → n ≡ line_number l → 32767 < n → None ≡ weighing ns l
   unfolding lawful_number?
   error_refused e n f h = answered false (error_listed e ∙ lt-leb (line_number l) 32767 (omega arith))
 
-  pub error_answered : true ≡ error_line? l → (n : ℕ) → n ≡ line_number l → n ≤ 32767 → (w : Weight) → w ≡ error_weight l → Weighs w ≡ weighing ns l
+  pub error_answered : true ≡ error_line? l → (n : ℕ) → n ≡ line_number l → n ≤ 32767 → (w : Weight) → w ≡ error_weight l → Some w ≡ weighing ns l
   unfolding lawful_number?
-  error_answered e n f h w g = ap Weighs (g ∙ error_columns ns l e) ∙ answered true (error_listed e ∙ le-leb (line_number l) 32767 (omega arith))
+  error_answered e n f h w g = ap Some (g ∙ error_columns ns l e) ∙ answered true (error_listed e ∙ le-leb (line_number l) 32767 (omega arith))
 
-  pub other_refused : false ≡ error_line? l → formed? lawful_number? ns l ≡ false → NotListable ≡ weighing ns l
+  pub other_refused : false ≡ error_line? l → formed? lawful_number? ns l ≡ false → None ≡ weighing ns l
   other_refused e f = answered false (other_listed e ∙ f)
 
-  pub other_answered : false ≡ error_line? l → formed? lawful_number? ns l ≡ true → (w : Weight) → w ≡ formed_weight ns l → Weighs w ≡ weighing ns l
-  other_answered e f w g = ap Weighs (g ∙ formed_columns ns l e) ∙ answered true (other_listed e ∙ f)
+  pub other_answered : false ≡ error_line? l → formed? lawful_number? ns l ≡ true → (w : Weight) → w ≡ formed_weight ns l → Some w ≡ weighing ns l
+  other_answered e f w g = ap Some (g ∙ formed_columns ns l e) ∙ answered true (other_listed e ∙ f)

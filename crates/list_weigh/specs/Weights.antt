@@ -1,5 +1,5 @@
 -- The weight of some bytes, in the code's own form: of tokens, of pieces and of lines.
-use Rattle.std.specs.Prelude.{ℕ, suc, ◌+◌, ◌*◌, ◌≤◌, List, [], ◌∷◌, ◌++◌, length}
+use Rattle.std.specs.Prelude.{ℕ, suc, ◌+◌, ◌*◌, ◌≤◌, List, [], ◌∷◌, ◌++◌, length, Option, Some, None}
 use Rattle.paper.specs.Bytes.{pick, bytes, blank}
 use Rattle.paper.specs.Tokens.{Token}
 use Rattle.paper.specs.Line.{line_number, lawful_number?, line_tokens}
@@ -9,8 +9,6 @@ use Rattle.paper.specs.Weigh.{shares, in_else, line_variables, line_numbers, lin
 use Rattle.list_pieces.specs.declared.Piece.{Piece}
 use Rattle.list_pieces.specs.declared.Piece.TheVariants.{Word, Text, Target, NoTarget, Variable, Constant, Quoted, Operator}
 use Rattle.list_weigh.specs.declared.Weight.{Weight}
-use Rattle.list_weigh.specs.declared.Weighing.{Weighing}
-use Rattle.list_weigh.specs.declared.Weighing.TheVariants.{NotListable, Weighs}
 
 -- nothing
 abbrev pub nothing : Weight
@@ -77,8 +75,8 @@ line_weight ns l =
     }
 
 -- what weighing a line answers
-unfoldable pub weighing : List (List ℕ) → List ℕ → Weighing
-weighing ns l = pick (listable? lawful_number? ns l) (Weighs (line_weight ns l)) NotListable
+unfoldable pub weighing : List (List ℕ) → List ℕ → Option Weight
+weighing ns l = pick (listable? lawful_number? ns l) (Some (line_weight ns l)) None
 
 -- a weight that n bytes may have, over a name table of at most 65,535 bytes
 pub record Small (n : ℕ) (w : Weight) : Type 0 where
@@ -90,6 +88,6 @@ pub record Small (n : ℕ) (w : Weight) : Type 0 where
   pub others : w.others ≤ n
 
 -- an answer with such a weight
-unfoldable pub Slight : ℕ → Weighing → Type 0
-Slight n NotListable = Unit {0}
-Slight n (Weighs w) = Small n w
+unfoldable pub Slight : ℕ → Option Weight → Type 0
+Slight n None = Unit {0}
+Slight n (Some w) = Small n w

@@ -25,13 +25,6 @@ pub struct Weight {
     pub others: usize,
 }
 
-// What weighing a line answers: that it cannot be listed, or its weight.
-#[derive(Clone, Copy)]
-pub enum Weighing {
-    NotListable,
-    Weighs(Weight),
-}
-
 // The weight of no bytes.
 pub fn nothing() -> Weight
     ensures { result ≡ no-weight }
@@ -132,18 +125,24 @@ fn weigh_error(line: &[u8]) -> Weight
 
 // The weight of a stored line, of any bytes, over a sound name table of `size` bytes, the kinds of whose names are listed, if it can be listed. The caller lends
 // the room for the stack of frames; what it holds does not matter.
-pub fn weigh(line: &[u8], names: &[u8], size: usize, kinds: &[u8], frames: &mut [u8]) -> Weighing
+pub fn weigh(
+    line: &[u8],
+    names: &[u8],
+    size: usize,
+    kinds: &[u8],
+    frames: &mut [u8],
+) -> Option<Weight>
     requires { Sound names.now size × (size ≤ 65535) × Kinds (names_in (take size names.now)) kinds.now × (2056 ≤ length frames.old) }
     ensures { (result ≡ weighing (names_in (take size names.now)) line.now) × Slight (length line.now) result }
 {
     if list_error::is_error_line(line) {
         if GREATEST_NUMBER < heads::number(line) {
-            return Weighing::NotListable;
+            return None;
         }
-        return Weighing::Weighs(weigh_error(line));
+        return Some(weigh_error(line));
     }
     if !list_alone::well_formed_over(line, kinds, frames) {
-        return Weighing::NotListable;
+        return None;
     }
-    Weighing::Weighs(weigh_formed(line, names, size))
+    Some(weigh_formed(line, names, size))
 }

@@ -21,23 +21,23 @@ measure_line-requires c = (c.requires, omega (arith, c.well_formed))
 pub returns-then-room-n : goal.returns-then-room-n
 returns-then-room-n c =
     let a = c.args in
-    let s = (says_length c.measure_line.ensures c.in-Length.is) in
+    let s = (says_length c.measure_line.ensures c.in-Some.is) in
     too_long _ _ a.out.now s.formed (lists_long a.direct (names_in (take a.size a.names.now)) a.line.now _ _ s c.if-room-n.true) ∙ as_formed a.direct (names_in (take a.size a.names.now)) a.line.now a.out.now (sym c.if-is_error_line.false ∙ c.is_error_line.ensures)
 
 pub write_line-requires : goal.write_line-requires
 write_line-requires c =
     let a = c.args in
-    let s = (says_length c.measure_line.ensures c.in-Length.is) in
+    let s = (says_length c.measure_line.ensures c.in-Some.is) in
     (s.formed, (lists_fits a.direct (names_in (take a.size a.names.now)) a.line.now _ _ s c.if-room-n.false).1)
 
-pub returns-in-NotWellFormed : goal.returns-in-NotWellFormed
-returns-in-NotWellFormed c =
+pub returns-in_default : goal.returns-in_default
+returns-in_default c =
     let a = c.args in
-    refused _ _ a.out.now (says_none a.direct (names_in (take a.size a.names.now)) a.line.now _ c.measure_line.ensures c.in-NotWellFormed.is) ∙ as_formed a.direct (names_in (take a.size a.names.now)) a.line.now a.out.now (sym c.if-is_error_line.false ∙ c.is_error_line.ensures)
+    refused _ _ a.out.now (says_none a.direct (names_in (take a.size a.names.now)) a.line.now _ c.measure_line.ensures c.in_default.is) ∙ as_formed a.direct (names_in (take a.size a.names.now)) a.line.now a.out.now (sym c.if-is_error_line.false ∙ c.is_error_line.ensures)
 
-pub returns-else-room-n : goal.returns-else-room-n
-returns-else-room-n c =
+pub returns : goal.returns
+returns c =
     let a = c.args in
-    let s = (says_length c.measure_line.ensures c.in-Length.is) in
+    let s = (says_length c.measure_line.ensures c.in-Some.is) in
     let f = lists_fits a.direct (names_in (take a.size a.names.now)) a.line.now _ _ s c.if-room-n.false in
     written _ _ a.out.now _ _ s.formed f.1 f.0 c.write_line.ensures ∙ as_formed a.direct (names_in (take a.size a.names.now)) a.line.now a.out.now (sym c.if-is_error_line.false ∙ c.is_error_line.ensures)
