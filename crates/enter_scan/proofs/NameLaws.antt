@@ -14,9 +14,8 @@ use Rattle.tokens.specs.declared.OperatorToken.{OperatorToken}
 use Rattle.tokens.specs.declared.FunctionToken.{FunctionToken}
 use Rattle.tokens.specs.declared.StatementToken.{StatementToken}
 use Rattle.tokens.specs.declared.Reserved.{Reserved}
-use Rattle.tokens.specs.declared.Reserved.TheVariants.{Operator as ROperator, Function as RFunction, Nothing as NotReserved}
-use Rattle.tokens.specs.declared.Statement.{Statement as AStatement}
-use Rattle.tokens.specs.declared.Statement.TheVariants.{Word as AWord, Nothing as NoStatement}
+use Rattle.tokens.specs.declared.Reserved.TheVariants.{Operator as ROperator, Function as RFunction}
+use Rattle.std.specs.Prelude.{Option, Some, None}
 use Rattle.tokens.specs.Tables.{reserved_found, statement_found}
 use Rattle.enter_scan.specs.declared.Kind.{Kind}
 use Rattle.enter_scan.specs.declared.Kind.TheVariants.{Operator, Function, Statement}
@@ -25,48 +24,44 @@ use Rattle.enter_scan.proofs.Sound.{in_text}
 
 -- ---- words
 
-pub reserved_operator : {r : Reserved} {t : OperatorToken} (f : Found) (k : Kind) → r ≡ reserved_found f → r ≡ ROperator t → Operator t ≡ reserved_kind f k
+pub reserved_operator : {r : Option Reserved} {t : OperatorToken} (f : Found) (k : Kind) → r ≡ reserved_found f → r ≡ Some (ROperator t) → Operator t ≡ reserved_kind f k
 unfolding reserved_found reserved_kind
 reserved_operator {r} {t} (found u) k p q = go (ltb u 0x3d) (sym q ∙ p)
   where
-    go : (b : Bool) → ROperator t ≡ pick b (ROperator (record { 0 = u })) (RFunction (record { 0 = u })) → Operator t ≡ pick b (Operator (record { 0 = u })) (Function (record { 0 = u }))
+    go : (b : Bool) → ◌≡◌ {A = Option Reserved} (Some (ROperator t)) (Some (pick b (ROperator (record { 0 = u })) (RFunction (record { 0 = u })))) → Operator t ≡ pick b (Operator (record { 0 = u })) (Function (record { 0 = u }))
     go true e = let i : t ≡ record { 0 = u } = cc in ap Operator i
     go false e = let z : ◌≡◌ {A = ℕ} 0 1 = cc in absurd (omega arith)
 reserved_operator nowhere k p q = let z : ◌≡◌ {A = ℕ} 0 1 = cc in absurd (omega arith)
 
-pub reserved_function : {r : Reserved} {t : FunctionToken} (f : Found) (k : Kind) → r ≡ reserved_found f → r ≡ RFunction t → Function t ≡ reserved_kind f k
+pub reserved_function : {r : Option Reserved} {t : FunctionToken} (f : Found) (k : Kind) → r ≡ reserved_found f → r ≡ Some (RFunction t) → Function t ≡ reserved_kind f k
 unfolding reserved_found reserved_kind
 reserved_function {r} {t} (found u) k p q = go (ltb u 0x3d) (sym q ∙ p)
   where
-    go : (b : Bool) → RFunction t ≡ pick b (ROperator (record { 0 = u })) (RFunction (record { 0 = u })) → Function t ≡ pick b (Operator (record { 0 = u })) (Function (record { 0 = u }))
+    go : (b : Bool) → ◌≡◌ {A = Option Reserved} (Some (RFunction t)) (Some (pick b (ROperator (record { 0 = u })) (RFunction (record { 0 = u })))) → Function t ≡ pick b (Operator (record { 0 = u })) (Function (record { 0 = u }))
     go true e = let z : ◌≡◌ {A = ℕ} 0 1 = cc in absurd (omega arith)
     go false e = let i : t ≡ record { 0 = u } = cc in ap Function i
 reserved_function nowhere k p q = let z : ◌≡◌ {A = ℕ} 0 1 = cc in absurd (omega arith)
 
-pub reserved_other : {r : Reserved} (f : Found) (k : Kind) → r ≡ reserved_found f → r ≡ NotReserved → k ≡ reserved_kind f k
+pub reserved_other : {r : Option Reserved} (f : Found) (k : Kind) → r ≡ reserved_found f → r ≡ None → k ≡ reserved_kind f k
 unfolding reserved_found reserved_kind
-reserved_other {r} (found u) k p q = go (ltb u 0x3d) (sym q ∙ p)
-  where
-    go : (b : Bool) → NotReserved ≡ pick b (ROperator (record { 0 = u })) (RFunction (record { 0 = u })) → k ≡ pick b (Operator (record { 0 = u })) (Function (record { 0 = u }))
-    go true e = let z : ◌≡◌ {A = ℕ} 0 1 = cc in absurd (omega arith)
-    go false e = let z : ◌≡◌ {A = ℕ} 0 1 = cc in absurd (omega arith)
+reserved_other (found u) k p q = let z : ◌≡◌ {A = ℕ} 0 1 = cc in absurd (omega arith)
 reserved_other nowhere k p q = refl
 
-statement_go : {r : AStatement} {t : StatementToken} (f : Found) (k : Kind) → r ≡ statement_found f → r ≡ AWord t → Statement t ≡ statement_kind f k
+statement_go : {r : Option StatementToken} {t : StatementToken} (f : Found) (k : Kind) → r ≡ statement_found f → r ≡ Some t → Statement t ≡ statement_kind f k
 unfolding statement_found statement_kind
-statement_go {r} {t} (found u) k p q = let e : AWord (record { 0 = u }) ≡ AWord t = sym p ∙ q in let i : t ≡ record { 0 = u } = cc in ap Statement i
+statement_go {r} {t} (found u) k p q = let e : ◌≡◌ {A = Option StatementToken} (Some (record { 0 = u })) (Some t) = sym p ∙ q in let i : t ≡ record { 0 = u } = cc in ap Statement i
 statement_go nowhere k p q = let z : ◌≡◌ {A = ℕ} 0 1 = cc in absurd (omega arith)
 
-other_go : {r : AStatement} (f : Found) (k : Kind) → r ≡ statement_found f → r ≡ NoStatement → k ≡ statement_kind f k
+other_go : {r : Option StatementToken} (f : Found) (k : Kind) → r ≡ statement_found f → r ≡ None → k ≡ statement_kind f k
 unfolding statement_found statement_kind
 other_go (found u) k p q = let z : ◌≡◌ {A = ℕ} 0 1 = cc in absurd (omega arith)
 other_go nowhere k p q = refl
 
-pub name_statement : {r : AStatement} {t : StatementToken} {first : Bool} (w : List ℕ) (k : Kind) → first ≡ true → r ≡ statement_found (find_word statements w) → r ≡ AWord t → Statement t ≡ name_kind first w k
+pub name_statement : {r : Option StatementToken} {t : StatementToken} {first : Bool} (w : List ℕ) (k : Kind) → first ≡ true → r ≡ statement_found (find_word statements w) → r ≡ Some t → Statement t ≡ name_kind first w k
 unfolding name_kind
 name_statement {r} {t} {first} w k e p q = statement_go (find_word statements w) (reserved_kind (find_word operators w) k) p q ∙ sym (rw e)
 
-pub name_no_statement : {r : AStatement} {first : Bool} {j : Kind} (w : List ℕ) (k : Kind) → first ≡ true → r ≡ statement_found (find_word statements w) → r ≡ NoStatement
+pub name_no_statement : {r : Option StatementToken} {first : Bool} {j : Kind} (w : List ℕ) (k : Kind) → first ≡ true → r ≡ statement_found (find_word statements w) → r ≡ None
     → j ≡ reserved_kind (find_word operators w) k → j ≡ name_kind first w k
 unfolding name_kind
 name_no_statement {r} {first} {j} w k e p q h = h ∙ other_go (find_word statements w) (reserved_kind (find_word operators w) k) p q ∙ sym (rw e)

@@ -2,9 +2,8 @@
 use Prim.Native.Nat.{ℕ, suc, ◌+◌, ◌-◌}
 use native.Mathlib.Omega.{arith}
 use mathlib.Core.Path.{◌≡◌, refl, sym, ap, ap₂, ◌∙◌}
-use mathlib.Core.Bool.{true, false}
+use mathlib.Core.Bool.{false}
 use mathlib.Core.List.{List, [], ◌∷◌}
-use lib.Dec.{eqb}
 use lib.ListN.{drop, get_or}
 use lib.Seq.{get_or-drop, drop-drop}
 use borrow.Author.Tests.{eq-eqb, ne_eqb}
@@ -13,7 +12,8 @@ use Rattle.paper.specs.Words.{Found, found, nowhere, find_word, operators}
 use Rattle.paper.specs.Items.{string_byte?}
 use Rattle.tokens.specs.declared.OperatorToken.{OperatorToken}
 use Rattle.tokens.specs.declared.Symbol.{Symbol}
-use Rattle.tokens.specs.declared.Symbol.TheVariants.{Two, One, Nothing}
+use Rattle.tokens.specs.declared.Symbol.TheVariants.{Two, One}
+use Rattle.std.specs.Prelude.{Option, Some, None}
 use Rattle.tokens.specs.Tables.{pair_found, symbol_found}
 use Rattle.enter_scan.specs.declared.Kind.TheVariants.{Quoted, Operator, Bad}
 use Rattle.enter_scan.specs.Kinds.{Shape, shape, string_ended, string_shape, symbol_kind, symbol_shape, item_with}
@@ -62,36 +62,36 @@ no_letter : (b : ℕ) (f : Found) → letter? b ≡ false → pair_found b f ≡
 unfolding pair_found
 no_letter b f e = rw e
 
-module _ {r : Symbol} (b c : ℕ) (l : letter? b ≡ false) (e : r ≡ symbol_found (pair_found b (find_word operators (b ∷ c ∷ []))) (find_word operators (b ∷ []))) where
+module _ {r : Option Symbol} (b c : ℕ) (l : letter? b ≡ false) (e : r ≡ symbol_found (pair_found b (find_word operators (b ∷ c ∷ []))) (find_word operators (b ∷ []))) where
   symbol_is : r ≡ symbol_found (find_word operators (b ∷ c ∷ [])) (find_word operators (b ∷ []))
   symbol_is = e ∙ ap (λ (f : Found). symbol_found f (find_word operators (b ∷ []))) (no_letter b (find_word operators (b ∷ c ∷ [])) l)
 
-  two_go : {t : OperatorToken} (at : ℕ) (f g : Found) → symbol_found f g ≡ Two t → record { kind = Operator t; at = at; end = at + 2 } ≡ item_with (symbol_kind 2 f (symbol_kind 1 g (shape Bad 1))) at
+  two_go : {t : OperatorToken} (at : ℕ) (f g : Found) → symbol_found f g ≡ Some (Two t) → record { kind = Operator t; at = at; end = at + 2 } ≡ item_with (symbol_kind 2 f (symbol_kind 1 g (shape Bad 1))) at
   unfolding symbol_found symbol_kind item_with
   two_go {t} at (found u) g p = let i : t ≡ record { 0 = u } = cc in ap (λ (x : OperatorToken). record { kind = Operator x; at = at; end = at + 2 }) i
   two_go at nowhere (found u) p = let z : ◌≡◌ {A = ℕ} 0 1 = cc in absurd (omega arith)
   two_go at nowhere nowhere p = let z : ◌≡◌ {A = ℕ} 0 1 = cc in absurd (omega arith)
 
-  pub symbol_two : {t : OperatorToken} (at : ℕ) → r ≡ Two t → record { kind = Operator t; at = at; end = at + 2 } ≡ item_with (symbol_shape b c) at
+  pub symbol_two : {t : OperatorToken} (at : ℕ) → r ≡ Some (Two t) → record { kind = Operator t; at = at; end = at + 2 } ≡ item_with (symbol_shape b c) at
   unfolding symbol_shape
   symbol_two at p = two_go at (find_word operators (b ∷ c ∷ [])) (find_word operators (b ∷ [])) (sym symbol_is ∙ p)
 
-  one_go : {t : OperatorToken} (at : ℕ) (f g : Found) → symbol_found f g ≡ One t → record { kind = Operator t; at = at; end = at + 1 } ≡ item_with (symbol_kind 2 f (symbol_kind 1 g (shape Bad 1))) at
+  one_go : {t : OperatorToken} (at : ℕ) (f g : Found) → symbol_found f g ≡ Some (One t) → record { kind = Operator t; at = at; end = at + 1 } ≡ item_with (symbol_kind 2 f (symbol_kind 1 g (shape Bad 1))) at
   unfolding symbol_found symbol_kind item_with
   one_go at (found u) g p = let z : ◌≡◌ {A = ℕ} 0 1 = cc in absurd (omega arith)
   one_go {t} at nowhere (found u) p = let i : t ≡ record { 0 = u } = cc in ap (λ (x : OperatorToken). record { kind = Operator x; at = at; end = at + 1 }) i
   one_go at nowhere nowhere p = let z : ◌≡◌ {A = ℕ} 0 1 = cc in absurd (omega arith)
 
-  pub symbol_one : {t : OperatorToken} (at : ℕ) → r ≡ One t → record { kind = Operator t; at = at; end = at + 1 } ≡ item_with (symbol_shape b c) at
+  pub symbol_one : {t : OperatorToken} (at : ℕ) → r ≡ Some (One t) → record { kind = Operator t; at = at; end = at + 1 } ≡ item_with (symbol_shape b c) at
   unfolding symbol_shape
   symbol_one at p = one_go at (find_word operators (b ∷ c ∷ [])) (find_word operators (b ∷ [])) (sym symbol_is ∙ p)
 
-  none_go : (at : ℕ) (f g : Found) → symbol_found f g ≡ Nothing → record { kind = Bad; at = at; end = at + 1 } ≡ item_with (symbol_kind 2 f (symbol_kind 1 g (shape Bad 1))) at
+  none_go : (at : ℕ) (f g : Found) → symbol_found f g ≡ None → record { kind = Bad; at = at; end = at + 1 } ≡ item_with (symbol_kind 2 f (symbol_kind 1 g (shape Bad 1))) at
   unfolding symbol_found symbol_kind item_with
   none_go at (found u) g p = let z : ◌≡◌ {A = ℕ} 0 1 = cc in absurd (omega arith)
   none_go at nowhere (found u) p = let z : ◌≡◌ {A = ℕ} 0 1 = cc in absurd (omega arith)
   none_go at nowhere nowhere p = refl
 
-  pub symbol_none : (at : ℕ) → r ≡ Nothing → record { kind = Bad; at = at; end = at + 1 } ≡ item_with (symbol_shape b c) at
+  pub symbol_none : (at : ℕ) → r ≡ None → record { kind = Bad; at = at; end = at + 1 } ≡ item_with (symbol_shape b c) at
   unfolding symbol_shape
   symbol_none at p = none_go at (find_word operators (b ∷ c ∷ [])) (find_word operators (b ∷ [])) (sym symbol_is ∙ p)

@@ -6,7 +6,7 @@ ghost use Rattle.enter_scan.specs.Kinds.{variable_kind, reserved_kind, name_kind
 
 use crate::{Item, Kind};
 use buffers::{Run, byte_at, run_end};
-use tokens::{Reserved, Statement};
+use tokens::Reserved;
 
 // Past a `$`, if one stands there.
 fn past_dollar(part: &[u8], at: usize) -> usize
@@ -38,9 +38,9 @@ fn reserved_or(name: &[u8], other: Kind) -> Kind
     ensures { result ≡ reserved_kind (find_word operators name.now) other }
 {
     match tokens::reserved_word(name) {
-        Reserved::Operator(t) => Kind::Operator(t),
-        Reserved::Function(t) => Kind::Function(t),
-        Reserved::Nothing => other,
+        Some(Reserved::Operator(t)) => Kind::Operator(t),
+        Some(Reserved::Function(t)) => Kind::Function(t),
+        None => other,
     }
 }
 
@@ -48,13 +48,13 @@ fn reserved_or(name: &[u8], other: Kind) -> Kind
 fn kind_of_name(name: &[u8], first: bool, other: Kind) -> Kind
     ensures { result ≡ name_kind first name.now other }
 {
-    if first {
-        return match tokens::statement_word(name) {
-            Statement::Word(t) => Kind::Statement(t),
-            Statement::Nothing => reserved_or(name, other),
-        };
+    if !first {
+        return reserved_or(name, other);
     }
-    reserved_or(name, other)
+    match tokens::statement_word(name) {
+        Some(t) => Kind::Statement(t),
+        None => reserved_or(name, other),
+    }
 }
 
 // The item of a name: the longest run of letters and digits, with a `$` directly after it.

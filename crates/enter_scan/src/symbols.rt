@@ -49,17 +49,17 @@ pub(crate) fn symbol_item(part: &[u8], at: usize) -> Item
     ensures { result ≡ item_with (symbol_shape (get_or part.now at 0) (get_or part.now (at + 1) 0)) at }
 {
     match tokens::longest_symbol(part[at], byte_at(part, at + 1)) {
-        Symbol::Two(t) => Item {
+        Some(Symbol::Two(t)) => Item {
             kind: Kind::Operator(t),
             at,
             end: at + 2,
         },
-        Symbol::One(t) => Item {
+        Some(Symbol::One(t)) => Item {
             kind: Kind::Operator(t),
             at,
             end: at + 1,
         },
-        Symbol::Nothing => Item {
+        None => Item {
             kind: Kind::Bad,
             at,
             end: at + 1,

@@ -1,11 +1,11 @@
 use Rattle.enter_scan.proofs.NameLaws.{name_statement, name_no_statement, name_elsewhere}
 use Rattle.enter_scan.proofs.names.kind_of_name.Goals as goal
 
-pub returns-in-Word : goal.returns-in-Word
-returns-in-Word c = name_statement c.args.name.now c.args.other c.if-first.true c.statement_word.ensures c.in-Word.is
+pub returns-then-not-first : goal.returns-then-not-first
+returns-then-not-first c = name_elsewhere c.args.name.now c.args.other c.if-not-first.true c.reserved_or.ensures
 
-pub returns-in-Nothing : goal.returns-in-Nothing
-returns-in-Nothing c = name_no_statement c.args.name.now c.args.other c.if-first.true c.statement_word.ensures c.in-Nothing.is c.reserved_or.ensures
+pub returns-in-Some : goal.returns-in-Some
+returns-in-Some c = name_statement c.args.name.now c.args.other c.if-not-first.false c.statement_word.ensures c.in-Some.is
 
-pub returns : goal.returns
-returns c = name_elsewhere c.args.name.now c.args.other c.if-first.false c.reserved_or-2.ensures
+pub returns-in-None : goal.returns-in-None
+returns-in-None c = name_no_statement c.args.name.now c.args.other c.if-not-first.false c.statement_word.ensures c.in-None.is c.reserved_or-in-None.ensures
