@@ -1,6 +1,9 @@
 -- What the runs of bytes are made of, and laws of the run that begins at a place of a list.
 use Rattle.std.specs.Prelude.{ℕ, suc, ◌+◌, ◌≤◌, ◌<◌, ◌≡◌, refl, Bool, true, false, List, [], ◌∷◌, length, drop, get_or}
-use Rattle.std.proofs.Common.{add-one, arith, drop_of_length-le, drop-cons}
+use Rattle.std.specs.List.{prefix_len, take_while}
+use Rattle.std.proofs.lemmas.List.Folds.{length-prefix_len}
+use Rattle.std.specs.Prelude.{cond}
+use Rattle.std.proofs.Common.{add-one, arith, sym, ap, ◌∙◌, drop_of_length-le, drop-cons}
 use Rattle.paper.specs.Bytes.{pick, run, digit?, letter_or_digit?, blank?}
 use Rattle.paper.specs.Items.{string_byte?, raw_byte?}
 use Rattle.buffers.specs.declared.Run.{Run}
@@ -28,6 +31,19 @@ run_off q s i h t = rw (drop-cons s i 0 h, t)
 pub run_past : (q : ℕ → Bool) (s : List ℕ) (i : ℕ) → length s ≤ i → run q (drop i s) ≡ 0
 unfolding run
 run_past q s i h = rw (drop_of_length-le s h)
+
+taken_go : (q : ℕ → Bool) (s : List ℕ) (b : Bool) → run q s ≡ prefix_len q s → pick b (suc (run q s)) 0 ≡ cond b (1 + prefix_len q s) 0
+taken_go q s true h = omega arith
+taken_go q s false h = refl
+
+-- a run is what passes at the front of a list
+pub run_taken : (q : ℕ → Bool) (s : List ℕ) → length (take_while q s) ≡ run q s
+unfolding run
+run_taken q s = length-prefix_len q s ∙ sym (go s)
+  where
+    go : (t : List ℕ) → run q t ≡ prefix_len q t
+    go [] = refl
+    go (x ∷ t) = taken_go q t (q x) (go t)
 
 within_go : (q : ℕ → Bool) (n m : ℕ) (b : Bool) → n ≤ m → pick b (suc n) 0 ≤ suc m
 within_go q n m true h = omega arith

@@ -1,11 +1,16 @@
-use borrow.Author.Tests.{le-leb, lt-leb}
+use native.Mathlib.Omega.{arith}
+use Rattle.std.proofs.lemmas.Bool.Decides.{nat_tests}
 use Rattle.paper.specs.Bytes.{digit?}
 use Rattle.buffers.proofs.is_digit.Goals as goal
 
-pub returns-then-b-ge48 : goal.returns-then-b-ge48
+pub returns-in-48-to-57 : goal.returns-in-48-to-57
 unfolding digit?
-returns-then-b-ge48 c = simp (le-leb 48 c.args.b c.if-b-ge48.true)
+returns-in-48-to-57 c = grind (arith, nat_tests)
 
-pub returns-else-b-ge48 : goal.returns-else-b-ge48
+pub returns-in_default : goal.returns-in_default
 unfolding digit?
-returns-else-b-ge48 c = simp (lt-leb 48 c.args.b c.if-b-ge48.false)
+returns-in_default c = grind (arith, nat_tests)
+
+pub returns-in_default-2 : goal.returns-in_default-2
+unfolding digit?
+returns-in_default-2 c = grind (arith, nat_tests)

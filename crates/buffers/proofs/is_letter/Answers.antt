@@ -1,11 +1,16 @@
-use borrow.Author.Tests.{le-leb, lt-leb}
+use native.Mathlib.Omega.{arith}
+use Rattle.std.proofs.lemmas.Bool.Decides.{nat_tests}
 use Rattle.paper.specs.Bytes.{letter?}
 use Rattle.buffers.proofs.is_letter.Goals as goal
 
-pub returns-then-b-ge65 : goal.returns-then-b-ge65
+pub returns-in-65-to-90 : goal.returns-in-65-to-90
 unfolding letter?
-returns-then-b-ge65 c = simp (le-leb 65 c.args.b c.if-b-ge65.true)
+returns-in-65-to-90 c = grind (arith, nat_tests)
 
-pub returns-else-b-ge65 : goal.returns-else-b-ge65
+pub returns-in_default : goal.returns-in_default
 unfolding letter?
-returns-else-b-ge65 c = simp (lt-leb 65 c.args.b c.if-b-ge65.false)
+returns-in_default c = grind (arith, nat_tests)
+
+pub returns-in_default-2 : goal.returns-in_default-2
+unfolding letter?
+returns-in_default-2 c = grind (arith, nat_tests)
