@@ -72,6 +72,7 @@ fn is_string_byte(b: u8) -> bool
 }
 
 // What a run of bytes is made of.
+// Stays an enum: under a closure in its place no clause could say which bytes a run has until each caller proved it of its own closure, and `Run::Digits` says it.
 #[derive(Clone, Copy)]
 pub enum Run {
     Blanks,
