@@ -20,6 +20,10 @@ use Rattle.paper.specs.Direct.{Typed, same_buffer, accept_direct}
 use Rattle.laws.specs.Names.{closed?, adds_front, Sound}
 use Rattle.names_numbered.specs.Answers.{lacks, Room}
 use Rattle.names_numbered.specs.Uses.{length_bytes, lacks_is, room_left}
+use Rattle.std.specs.Prelude.{Some, None}
+use Rattle.refusals.specs.Numbers.{number_of}
+use Rattle.refusals.specs.declared.Refusal.{Refusal}
+use Rattle.refusals.specs.declared.Refusal.TheVariants.{NoNameRoom, LongLine}
 use Rattle.store_edit.specs.Answers.{too_long}
 use Rattle.editor_names.specs.Answers.{short_of}
 use Rattle.editor_accept.specs.Lines.{Written}
@@ -35,35 +39,35 @@ line_number_of ns n ts = omega arith
 -- ---- refusals 6 and 7, which come before the line's place is looked at
 
 module _ (lack : Bool) (size : ℕ) where
-  nothing_short : short_of lack size ≡ 0 → (lack ≡ false) × (ltb 255 size ≡ false)
+  nothing_short : short_of lack size ≡ None → (lack ≡ false) × (ltb 255 size ≡ false)
   unfolding short_of
   nothing_short h = go lack (ltb 255 size) h
     where
-      go : (a b : Bool) → ◌≡◌ {A = ℕ} (pick a 6 (pick b 7 0)) 0 → (a ≡ false) × (b ≡ false)
-      go true b h = absurd (omega arith)
-      go false true h = absurd (omega arith)
+      go : (a b : Bool) → pick a (Some NoNameRoom) (pick b (Some LongLine) None) ≡ None → (a ≡ false) × (b ≡ false)
+      go true b h = let z : ◌≡◌ {A = ℕ} 0 1 = cc in absurd (omega arith)
+      go false true h = let z : ◌≡◌ {A = ℕ} 0 1 = cc in absurd (omega arith)
       go false false h = (refl, refl)
 
   -- where neither holds there is room for the names, and the line is short
-  not_lacking : short_of lack size ≡ 0 → lack ≡ false
+  not_lacking : short_of lack size ≡ None → lack ≡ false
   not_lacking h = (nothing_short h).0
 
-  not_long : short_of lack size ≡ 0 → size ≤ 255
+  not_long : short_of lack size ≡ None → size ≤ 255
   not_long h = ltb-false 255 size (nothing_short h).1
 
   module _ {A : Type 0} (refuse : ℕ → A) (line : List ℕ) (is : size ≡ length line) (unfitting : Bool) (a : A) where
     -- a refusal
-    refused_short : (short_of lack size ≡ 0 → ⊥) → refuse (short_of lack size) ≡ unless_short refuse lack line unfitting a
+    refused_short : (k : Refusal) → short_of lack size ≡ Some k → refuse (number_of k) ≡ unless_short refuse lack line unfitting a
     unfolding short_of unless_short
-    refused_short h = rw (is) (go lack (ltb 255 (length line)) (λ z. h (rw (is) z)))
+    refused_short k h = go lack (ltb 255 (length line)) (rw (is) at h)
       where
-        go : (x y : Bool) → (◌≡◌ {A = ℕ} (pick x 6 (pick y 7 0)) 0 → ⊥) → refuse (pick x 6 (pick y 7 0)) ≡ pick x (refuse 6) (pick y (refuse 7) (pick unfitting (refuse 8) a))
-        go true y h = refl
-        go false true h = refl
-        go false false h = absurd (h refl)
+        go : (x y : Bool) → pick x (Some NoNameRoom) (pick y (Some LongLine) None) ≡ Some k → refuse (number_of k) ≡ pick x (refuse 6) (pick y (refuse 7) (pick unfitting (refuse 8) a))
+        go true y h = let same : k ≡ NoNameRoom = cc in ap (λ (r : Refusal). refuse (number_of r)) same
+        go false true h = let same : k ≡ LongLine = cc in ap (λ (r : Refusal). refuse (number_of r)) same
+        go false false h = let z : ◌≡◌ {A = ℕ} 0 1 = cc in absurd (omega arith)
 
     -- the place decides
-    place_decides : short_of lack size ≡ 0 → pick unfitting (refuse 8) a ≡ unless_short refuse lack line unfitting a
+    place_decides : short_of lack size ≡ None → pick unfitting (refuse 8) a ≡ unless_short refuse lack line unfitting a
     unfolding unless_short
     place_decides h = let f = nothing_short h in sym (rw (f.0, ← is, f.1))
 
@@ -78,7 +82,7 @@ module _ (s : State) (t : Sound s.names s.name_size s.name_count) (v : 8 * s.nam
   counted = t.counted
 
   -- there is room for the names
-  pub roomy : short_of lack size ≡ 0 → closed? fresh ≡ true → Room s.names s.name_size s.values s.name_count fresh
+  pub roomy : short_of lack size ≡ None → closed? fresh ≡ true → Room s.names s.name_size s.values s.name_count fresh
   roomy h c = room_left s.names s.name_size s.values s.name_count fresh (not_lacking lack size h) c t.few t.within v
 
   -- the state with the new names
@@ -128,21 +132,21 @@ module _ (s : State) (t : Sound s.names s.name_size s.name_count) (v : 8 * s.nam
     added_is = omega (arith, ap length (names_are w), length-append (names_of s) (names_in fresh))
 
     -- the line is written out where it is short and its names are few
-    line_is : short_of lack size ≡ 0 → take size line ≡ line_bytes ns n ts
+    line_is : short_of lack size ≡ None → take size line ≡ line_bytes ns n ts
     line_is h = w.bytes (not_long lack size h) (omega (arith, (roomy h w.closed).few, ap length (names_are w), length-append (names_of s) (names_in fresh), counted))
 
     -- its number
-    pub number_is : short_of lack size ≡ 0 → line_number (take size line) ≡ n
+    pub number_is : short_of lack size ≡ None → line_number (take size line) ≡ n
     number_is h = ap line_number (line_is h) ∙ line_number_of ns n ts
 
     -- ---- stored
 
     -- 6, 7
-    pub short_stored : (short_of lack size ≡ 0 → ⊥) → refusal (short_of lack size) no_span s ≡ accept s n ts
+    pub short_stored : (k : Refusal) → short_of lack size ≡ Some k → refusal (number_of k) no_span s ≡ accept s n ts
     unfolding accept
-    short_stored h = rw (lack_is) (refused_short lack size (λ k. refusal k no_span s) (line_bytes ns n ts) w.length_is _ _ h)
+    short_stored k h = rw (lack_is) (refused_short lack size (λ i. refusal i no_span s) (line_bytes ns n ts) w.length_is _ _ k h)
 
-    module _ (h : short_of lack size ≡ 0) where
+    module _ (h : short_of lack size ≡ None) where
       abbrev lines : List (List ℕ)
       lines = put_line (take size line) (lines_of s)
 
@@ -164,12 +168,12 @@ module _ (s : State) (t : Sound s.names s.name_size s.name_count) (v : 8 * s.nam
   lacking = lack s t v direct_number line size fresh
 
   -- 6, 7
-  pub short_direct : (short_of lacking size ≡ 0 → ⊥) → same_buffer buffer (refusal (short_of lacking size) no_span s) ≡ accept_direct s buffer ts
+  pub short_direct : (k : Refusal) → short_of lacking size ≡ Some k → same_buffer buffer (refusal (number_of k) no_span s) ≡ accept_direct s buffer ts
   unfolding accept_direct
-  short_direct h = rw (lack_is s t v direct_number line size fresh ts w)
-      (refused_short lacking size (λ k. same_buffer buffer (refusal k no_span s)) (line_bytes (add_names (names_of s) ts) direct_number ts) w.length_is _ _ h)
+  short_direct k h = rw (lack_is s t v direct_number line size fresh ts w)
+      (refused_short lacking size (λ i. same_buffer buffer (refusal i no_span s)) (line_bytes (add_names (names_of s) ts) direct_number ts) w.length_is _ _ k h)
 
-  module _ (h : short_of lacking size ≡ 0) where
+  module _ (h : short_of lacking size ≡ None) where
     abbrev typed_so : Typed
     typed_so = record {
       entered = record { number = 0; place = no_span; added = length (names_in fresh); after = named s t v direct_number line size fresh };

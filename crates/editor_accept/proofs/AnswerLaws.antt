@@ -18,16 +18,17 @@ use Rattle.paper.specs.Direct.{same_buffer}
 use Rattle.laws.specs.Names.{closed?, Sound}
 use Rattle.buffers.specs.Sets.{overwrites}
 use Rattle.names_numbered.specs.Answers.{lacks, Room}
-use Rattle.store.specs.Answers.{place_of}
-use Rattle.store_edit.specs.Answers.{counts_of, stored_answer, stored_bytes}
+use Rattle.store.specs.Answers.{place_of, counts_of}
+use Rattle.store_edit.specs.Answers.{stored_answer, stored_bytes}
 use Rattle.store_edit.specs.Answered.{stored_done, stored_no_room}
 use Rattle.store.specs.declared.Counts.{Counts}
 use Rattle.store.specs.declared.Place.{Place}
-use Rattle.store_edit.specs.declared.Stored.{Stored}
-use Rattle.store_edit.specs.declared.Stored.TheVariants.{Done, NoRoom}
+use Rattle.std.specs.Prelude.{Option, Some, None}
+use Rattle.refusals.specs.declared.Refusal.{Refusal}
+use Rattle.refusals.specs.declared.Refusal.TheVariants.{NoRoom}
 use Rattle.editor_edit.specs.declared.Editor.{Editor}
 use Rattle.editor_edit.specs.declared.Entered.{Entered}
-use Rattle.editor_edit.specs.States.{state, counts_in, entered, refusing, Lies}
+use Rattle.editor_edit.specs.States.{state, counts_in, entered, refusing, no_place, Lies}
 use Rattle.editor_edit.specs.Sound.{lines_counted, lines_kept, lies_counted}
 use Rattle.editor_names.specs.Answers.{accepting, short_of}
 use Rattle.editor_accept.specs.Lines.{Written, Accepts, AcceptsDirect}
@@ -38,27 +39,27 @@ module _ (names values store : List ℕ) (e : Editor) where
   S = state names values store e
 
   module _ (t : Sound names e.name_bytes e.name_count) (v : 8 * e.name_count ≤ length values) (n : ℕ) (line : List ℕ) (size : ℕ) (fresh : List ℕ) where
-    -- its number among 6 and 7, or 0
-    abbrev short : ℕ
+    -- its refusal with 6 or 7, if any
+    abbrev short : Option Refusal
     short = short_of (lacks (length names) e.name_bytes (length values) e.name_count (names_in fresh)) size
 
     -- 6, 7
-    pub answer_short : (k : ℕ) (x : Entered) → k ≡ short → (k ≡ 0 → ⊥) → x ≡ refusing k no_span e → Accepts S n line size fresh (entered x names values store)
+    pub answer_short : (o : Option Refusal) (k : Refusal) (x : Entered) → o ≡ short → o ≡ Some k → x ≡ refusing (no_place k) e → Accepts S n line size fresh (entered x names values store)
     unfolding refusal
-    answer_short k x l d q ts w = rw (q, l) (short_stored S t v n line size fresh ts w (λ z. d (l ∙ z)))
+    answer_short o k x l d q ts w = rw (q) (short_stored S t v n line size fresh ts w k (sym l ∙ d))
 
     -- there is room for the new names
-    pub room_is : (k : ℕ) → k ≡ short → k ≡ 0 → closed? fresh ≡ true → Room names e.name_bytes values e.name_count fresh
+    pub room_is : (k : Option Refusal) → k ≡ short → k ≡ None → closed? fresh ≡ true → Room names e.name_bytes values e.name_count fresh
     room_is k l d c = roomy S t v n line size fresh (sym l ∙ d) c
 
-    module _ (kept : Counts) (is : kept ≡ counts_in e) (k : ℕ) (l : k ≡ short) (d : k ≡ 0) (part : List ℕ) (p : part ≡ take size line) where
+    module _ (kept : Counts) (is : kept ≡ counts_in e) (k : Option Refusal) (l : k ≡ short) (d : k ≡ None) (part : List ℕ) (p : part ≡ take size line) where
       -- the place of the line's number
       pub place_is : (ts : List Token) (q : Place) → Written (names_of S) n ts line size fresh → Lies q n S → q ≡ place_of (line_number part) (lines_counted S kept is)
       place_is ts q w h =
           let same : line_number part ≡ n = ap line_number p ∙ number_is S t v n line size fresh ts w (sym l ∙ d) in
           lies_counted S kept is n q h ∙ ap (λ (m : ℕ). place_of m (lines_counted S kept is)) (sym same)
 
-      module _ (r : Stored) (store' : List ℕ) (a : r ≡ stored_answer store (put_line part (lines_counted S kept is))) (z : store' ≡ stored_bytes store (put_line part (lines_counted S kept is))) where
+      module _ (r : Option Counts) (store' : List ℕ) (a : r ≡ stored_answer store (put_line part (lines_counted S kept is))) (z : store' ≡ stored_bytes store (put_line part (lines_counted S kept is))) where
         abbrev put : List (List ℕ)
         put = put_line (take size line) (lines_of S)
 
@@ -72,7 +73,7 @@ module _ (names values store : List ℕ) (e : Editor) where
         put_left = z ∙ ap (stored_bytes store) same_put
 
         -- 8
-        pub answer_8 : (x : Entered) → r ≡ NoRoom → x ≡ refusing 8 no_span e → Accepts S n line size fresh (entered x names values store')
+        pub answer_8 : (x : Entered) → r ≡ None → x ≡ refusing (no_place NoRoom) e → Accepts S n line size fresh (entered x names values store')
         unfolding stored_bytes refusal
         answer_8 x g q ts w =
             let no = stored_no_room store put (sym put_answered ∙ g) in
@@ -80,7 +81,7 @@ module _ (names values store : List ℕ) (e : Editor) where
             rw (st, q) (sym (rw (no)) ∙ room_decides S t v n line size fresh ts w (sym l ∙ d))
 
         -- 0
-        pub answer_0 : (after : Counts) (x : Entered) (names' values' : List ℕ) → r ≡ Done after → x ≡ accepting fresh after e
+        pub answer_0 : (after : Counts) (x : Entered) (names' values' : List ℕ) → r ≡ Some after → x ≡ accepting fresh after e
             → names' ≡ overwritten (take e.name_bytes names ++ name_bytes (names_in fresh)) names
             → values' ≡ overwritten (take (8 * e.name_count) values ++ value_entries e.name_count (names_in fresh)) values
             → Accepts S n line size fresh (entered x names' values' store')
@@ -93,15 +94,15 @@ module _ (names values store : List ℕ) (e : Editor) where
 -- ---- accepting a line without a number, over any store
 
 module _ (names values : List ℕ) (e : Editor) (t : Sound names e.name_bytes e.name_count) (v : 8 * e.name_count ≤ length values) (buffer line : List ℕ) (size : ℕ) (fresh : List ℕ)
-    (k : ℕ) (l : k ≡ short names values [] e t v direct_number line size fresh) where
+    (o : Option Refusal) (l : o ≡ short names values [] e t v direct_number line size fresh) where
   -- 6, 7
-  pub direct_short : (x : Entered) → (k ≡ 0 → ⊥) → x ≡ refusing k no_span e → AcceptsDirect names values e buffer line size fresh x names values buffer
+  pub direct_short : (k : Refusal) (x : Entered) → o ≡ Some k → x ≡ refusing (no_place k) e → AcceptsDirect names values e buffer line size fresh x names values buffer
   unfolding refusal same_buffer
-  direct_short x d q store ts w = rw (q, l) (short_direct (state names values store e) t v line size fresh ts w buffer (λ z. d (l ∙ z)))
+  direct_short k x d q store ts w = rw (q) (short_direct (state names values store e) t v line size fresh ts w buffer k (sym l ∙ d))
 
-  module _ (d : k ≡ 0) where
+  module _ (d : o ≡ None) where
     -- 8
-    pub direct_8 : (x : Entered) → length buffer < size → x ≡ refusing 8 no_span e → AcceptsDirect names values e buffer line size fresh x names values buffer
+    pub direct_8 : (x : Entered) → length buffer < size → x ≡ refusing (no_place NoRoom) e → AcceptsDirect names values e buffer line size fresh x names values buffer
     unfolding refusal same_buffer
     direct_8 x h q store ts w = rw (q) (sym (rw (lt-ltb (length buffer) size h)) ∙ buffer_decides (state names values store e) t v line size fresh ts w buffer (sym l ∙ d))
 

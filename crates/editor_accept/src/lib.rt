@@ -10,10 +10,10 @@ ghost use Rattle.editor_edit.specs.States.{state, entered, Lies};
 ghost use Rattle.editor_accept.specs.Lines.{Readable, Accepts, AcceptsDirect};
 
 use buffers::{copy, front};
-use editor_edit::{Editor, Entered, refused, store_counts};
+use editor_edit::{Editor, Entered, refused};
 use editor_names::{accepted, shortage};
-use store::Place;
-use store_edit::Stored;
+use refusals::Refusal;
+use store::{Counts, Place};
 
 // Puts the first `size` bytes of a buffer, a line that was read, at the place of its number into a sound store, and the names that are new in it
 // into the tables; or refuses it with 6, 7 or 8. Nothing is written before all tests have passed.
@@ -31,13 +31,12 @@ pub fn accept(
         × (Readable (names_in (take e.name_bytes names.old)) place.number line.now size fresh.now) }
     ensures { Accepts (state names.old values.old store.old e) place.number line.now size fresh.now (entered result names.new values.new store.new) }
 {
-    let short = shortage(names.len(), values.len(), size, fresh, e);
-    if short != 0 {
-        return refused(short, e);
+    if let Some(refusal) = shortage(names.len(), values.len(), size, fresh, e) {
+        return refused(refusal, e);
     }
-    match store_edit::put_in(store, store_counts(e), place, front(line, size)) {
-        Stored::NoRoom => refused(8, e),
-        Stored::Done(after) => accepted(fresh, names, values, after, e),
+    match store_edit::put_in(store, Counts::from(e), place, front(line, size)) {
+        Some(after) => accepted(fresh, names, values, after, e),
+        None => refused(Refusal::NoRoom, e),
     }
 }
 
@@ -56,13 +55,12 @@ pub fn accept_direct(
         × (Readable (names_in (take e.name_bytes names.old)) direct_number line.now size fresh.now) }
     ensures { AcceptsDirect names.old values.old e buffer.old line.now size fresh.now result names.new values.new buffer.new }
 {
-    let short = shortage(names.len(), values.len(), size, fresh, e);
-    if short != 0 {
-        return refused(short, e);
+    if let Some(refusal) = shortage(names.len(), values.len(), size, fresh, e) {
+        return refused(refusal, e);
     }
     if buffer.len() < size {
-        return refused(8, e);
+        return refused(Refusal::NoRoom, e);
     }
     copy(buffer, 0, front(line, size));
-    accepted(fresh, names, values, store_counts(e), e)
+    accepted(fresh, names, values, Counts::from(e), e)
 }

@@ -15,19 +15,26 @@ use Rattle.editor_edit.specs.declared.Entered.{Entered}
 abbrev pub record_of : State → Editor
 record_of s = record { used = s.used; lines = s.line_count; greatest = s.greatest; name_count = s.name_count; name_bytes = s.name_size }
 
--- two answers with the same three numbers are one
-pub same_answer : (a b : Result ℕ RefusedItem) → number_in a ≡ number_in b → place_in a ≡ place_in b → added_in a ≡ added_in b → a ≡ b
-same_answer (Ok a) (Ok b) n p e = ap Ok e
-same_answer (Ok a) (Err j) n p e = absurd (some_number j.refusal (sym n))
-same_answer (Err i) (Ok b) n p e = absurd (some_number i.refusal n)
-same_answer (Err i) (Err j) n p e =
-    let make : Refusal → ℕ → ℕ → Result ℕ RefusedItem = λ k x y. Err (record { refusal = k; place = x; end = y }) in
-    ap₂ (λ (k : Refusal) (x : ℕ). make k x i.end) (same_number i.refusal j.refusal n) (ap (λ (s : Span). s.start) p) ∙ ap (make j.refusal j.place) (ap (λ (s : Span). s.end) p)
-
 -- of a text entered, or a line taken out: o is the outcome that the contract gives
 pub one_entered : (o : Outcome) (r r' : Entered) (n v s n' v' s' : List ℕ) → entered r n v s ≡ o → entered r' n' v' s' ≡ o → (r ≡ r') × (n ≡ n') × (v ≡ v') × (s ≡ s')
-one_entered o r r' n v s n' v' s' h k =
-    let e = h ∙ sym k in
-    let answer : r.added ≡ r'.added = same_answer r.added r'.added (ap (λ (x : Outcome). x.number) e) (ap (λ (x : Outcome). x.place) e) (ap (λ (x : Outcome). x.added) e) in
-    let make : Result ℕ RefusedItem → Editor → Entered = λ x y. record { added = x; editor = y } in
-    (ap₂ make answer (ap (λ (x : Outcome). record_of x.after) e), ap (λ (x : Outcome). x.after.names) e, ap (λ (x : Outcome). x.after.values) e, ap (λ (x : Outcome). x.after.store) e)
+one_entered o r r' n v s n' v' s' h k = (ap₂ make answer (ap (λ (x : Outcome). record_of x.after) e), ap (λ (x : Outcome). x.after.names) e, ap (λ (x : Outcome). x.after.values) e, ap (λ (x : Outcome). x.after.store) e)
+  where
+    e : entered r n v s ≡ entered r' n' v' s'
+    e = h ∙ sym k
+
+    make : Result ℕ RefusedItem → Editor → Entered
+    make x y = record { added = x; editor = y }
+
+    item : Refusal → ℕ → ℕ → Result ℕ RefusedItem
+    item k x y = Err (record { refusal = k; place = x; end = y })
+
+    -- two answers with the same three numbers are one
+    same : (a b : Result ℕ RefusedItem) → number_in a ≡ number_in b → place_in a ≡ place_in b → added_in a ≡ added_in b → a ≡ b
+    same (Ok a) (Ok b) n p e = ap Ok e
+    same (Ok a) (Err j) n p e = absurd (some_number j.refusal (sym n))
+    same (Err i) (Ok b) n p e = absurd (some_number i.refusal n)
+    same (Err i) (Err j) n p e =
+        ap₂ (λ (k : Refusal) (x : ℕ). item k x i.end) (same_number i.refusal j.refusal n) (ap (λ (s : Span). s.start) p) ∙ ap (item j.refusal j.place) (ap (λ (s : Span). s.end) p)
+
+    answer : r.added ≡ r'.added
+    answer = same r.added r'.added (ap (λ (x : Outcome). x.number) e) (ap (λ (x : Outcome). x.place) e) (ap (λ (x : Outcome). x.added) e)

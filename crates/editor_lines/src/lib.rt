@@ -8,51 +8,48 @@ ghost use Rattle.paper.specs.Calls.{sound_state, delete, keep_line};
 ghost use Rattle.editor_edit.specs.States.{state, entered, Lies};
 
 use buffers::front;
-use editor_edit::{Editor, Entered, refused, store_counts, with_counts};
-use store::Place;
-use store_edit::{Removed, Stored};
+use editor_edit::{Editor, Entered, refused};
+use refusals::{Refusal, RefusedItem};
+use store::{Counts, Place};
 
 // Takes the line at a place out of a sound store.
 pub fn take_out(place: Place, names: &[u8], values: &[u8], store: &mut [u8], e: Editor) -> Entered
     requires { (T (sound_state (state names.now values.now store.old e))) × (Lies place place.number (state names.now values.now store.old e)) }
     ensures { entered result names.now values.now store.new ≡ delete (state names.now values.now store.old e) place.number }
 {
-    match store_edit::take_out(store, store_counts(e), place) {
-        Removed::Done(left) => Entered {
-            number: 0,
-            place: 0,
-            end: 0,
-            added: 0,
-            editor: with_counts(e, left),
+    match store_edit::take_out(store, Counts::from(e), place) {
+        Some(left) => Entered {
+            added: Ok(0),
+            editor: e.with_counts(left),
         },
-        Removed::NotThere => refused(9, e),
+        None => refused(Refusal::NoLine, e),
     }
 }
 
-// Puts the first `size` bytes of a buffer, the error line of a text, at the place of its number into a sound store, and answers 4 all the same, with the
-// place in the text and its end; or refuses it with 8. The tables stay as they are.
+// Puts the first `size` bytes of a buffer, the error line of a text, at the place of its number into a sound store, and answers that it has no reading
+// all the same, with the place in the text and its end; or refuses it where there is no room. The tables stay as they are.
 pub fn keep(
     place: Place,
     error_line: &[u8],
     size: usize,
-    at: usize,
-    end: usize,
+    wrong: RefusedItem,
     names: &[u8],
     values: &[u8],
     store: &mut [u8],
     editor: Editor,
 ) -> Entered
     requires { (T (sound_state (state names.now values.now store.old editor))) × (Lies place (line_number (take size error_line.now)) (state names.now values.now store.old editor)) }
-    ensures { entered result names.now values.now store.new ≡ keep_line (state names.now values.now store.old editor) (take size error_line.now) (span at end) }
+    ensures { entered result names.now values.now store.new ≡ keep_line (state names.now values.now store.old editor) (take size error_line.now) (span wrong.place wrong.end) }
 {
-    match store_edit::put_in(store, store_counts(editor), place, front(error_line, size)) {
-        Stored::NoRoom => refused(8, editor),
-        Stored::Done(after) => Entered {
-            number: 4,
-            place: at,
-            end,
-            added: 0,
-            editor: with_counts(editor, after),
+    let unread = RefusedItem {
+        refusal: Refusal::NoReading,
+        ..wrong
+    };
+    match store_edit::put_in(store, Counts::from(editor), place, front(error_line, size)) {
+        Some(after) => Entered {
+            added: Err(unread),
+            editor: editor.with_counts(after),
         },
+        None => refused(Refusal::NoRoom, editor),
     }
 }

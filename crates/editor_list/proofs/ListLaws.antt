@@ -19,9 +19,10 @@ use Rattle.list_outcome.specs.Outcomes.{answer}
 use Rattle.list_line.specs.Listed.{lists}
 use Rattle.list_pieces.specs.Rest.{Sound}
 use Rattle.list_pieces.specs.NameLaws.{sound_own}
-use Rattle.editor_list.specs.declared.Listed.{Listed as Answer}
-use Rattle.list_outcome.specs.declared.Outcome.{Outcome as Found}
-use Rattle.editor_list.specs.Answers.{unlisted, listed, Numbered}
+use Rattle.std.specs.Prelude.{Result, Err}
+use Rattle.refusals.specs.declared.Refusal.{Refusal}
+use Rattle.refusals.specs.declared.Refusal.TheVariants.{NoLine}
+use Rattle.editor_list.specs.Answers.{listed, listed_as}
 use Rattle.editor_edit.specs.States.{Lies}
 use Rattle.editor_edit.specs.Sound.{table_tested, store_sound}
 
@@ -45,27 +46,27 @@ module _ (s : State) (o : T (sound_state s)) (n : ℕ) (p : Place) (lies : Lies 
       omega (arith, lies_within, room_lent s.store, leb→le s.used (room s.store) (and_left (leb s.used (room s.store)) _ (store_sound s o)))
 
   -- 9
-  pub not_stored : (r : Answer) (out : List ℕ) → p.size ≡ 0 → r ≡ unlisted 9 → listed r out ≡ list_sound n s out
+  pub not_stored : (out : List ℕ) → p.size ≡ 0 → listed (Err NoLine) out ≡ list_sound n s out
   unfolding list_sound not_listed lines_of
-  not_stored r out h q = rw q (sym (rw (missing s.store s.used n (store_sound s o) p e h)))
+  not_stored out h = sym (rw (missing s.store s.used n (store_sound s o) p e h))
 
   -- 10, 11 or the listing
-  pub listed_so : (line out out' : List ℕ) (x : Found) (r : Answer) → (p.size ≡ 0 → ⊥) → line ≡ take p.size (drop p.at s.store) → answer x out' ≡ lists false (names_in (take s.name_size s.names)) line out → Numbered x r
+  pub listed_so : (line out out' : List ℕ) (r : Result ℕ Refusal) → (p.size ≡ 0 → ⊥) → line ≡ take p.size (drop p.at s.store) → answer r out' ≡ lists false (names_in (take s.name_size s.names)) line out
       → listed r out' ≡ list_sound n s out
   unfolding list_sound names_of lines_of
-  listed_so line out out' x r h l a q =
+  listed_so line out out' r h l a =
       let t = there s.store s.used n (store_sound s o) p e h in
       let b : line ≡ line_at n (lines_in (take s.used s.store)) = l ∙ line_there s.store s.used n (store_sound s o) p e h in
-      q out' ∙ a ∙ sym (rw (t, ← b))
+      listed_as r out' ∙ a ∙ sym (rw (t, ← b))
 
 -- a part of so many bytes
 pub part_is : (at size : ℕ) (l : List ℕ) → take (at + size - at) (drop at l) ≡ take size (drop at l)
 part_is at size l = let e : at + size - at ≡ size = omega arith in ap (λ (k : ℕ). take k (drop at l)) e
 
 -- 10, 11 or the listing of the line in a line buffer
-pub shown_so : (buffer : List ℕ) (ns : List (List ℕ)) (line out out' : List ℕ) (k : ℕ) (x : Found) (r : Answer) → k ≡ get_or buffer 2 0 → line ≡ take k buffer → answer x out' ≡ lists true ns line out → Numbered x r
+pub shown_so : (buffer : List ℕ) (ns : List (List ℕ)) (line out out' : List ℕ) (k : ℕ) (r : Result ℕ Refusal) → k ≡ get_or buffer 2 0 → line ≡ take k buffer → answer r out' ≡ lists true ns line out
     → listed r out' ≡ show_sound buffer ns out
 unfolding show_sound line_in
-shown_so buffer ns line out out' k x r e f a q =
+shown_so buffer ns line out out' k r e f a =
     let own : line ≡ line_in buffer = f ∙ ap (λ (n : ℕ). take n buffer) e in
-    q out' ∙ a ∙ ap (λ (l : List ℕ). lists true ns l out) own
+    listed_as r out' ∙ a ∙ ap (λ (l : List ℕ). lists true ns l out) own

@@ -8,14 +8,22 @@ ghost use Rattle.names_numbered.specs.Answers.{lacks, Room};
 ghost use Rattle.editor_names.specs.Answers.{accepting, short_of};
 
 use editor_edit::{Editor, Entered};
+use refusals::Refusal;
 use store::Counts;
 
 // The most bytes that a line may have.
 const LONGEST_LINE: usize = 255;
 
-// The number of the refusal that a line of `size` bytes gets wherever it is to stand: 6 if the names that are new in it lack room, 7 if it is too
-// long; 0 if it gets none.
-pub fn shortage(name_room: usize, value_room: usize, size: usize, fresh: &[u8], e: Editor) -> u8
+// The refusal that a line of `size` bytes gets wherever it is to stand, if it gets one: that the names that are new in it lack room, or that it is too
+// long.
+#[tactic(auto, unfolding(crate::specs::Answers::short_of))]
+pub fn shortage(
+    name_room: usize,
+    value_room: usize,
+    size: usize,
+    fresh: &[u8],
+    e: Editor,
+) -> Option<Refusal>
     ensures { result ≡ short_of (lacks name_room e.name_bytes value_room e.name_count (names_in fresh.now)) size }
 {
     let lacks = names_numbered::lacks_room(
@@ -26,12 +34,12 @@ pub fn shortage(name_room: usize, value_room: usize, size: usize, fresh: &[u8], 
         fresh,
     );
     if lacks {
-        return 6;
+        Some(Refusal::NoNameRoom)
+    } else if LONGEST_LINE < size {
+        Some(Refusal::LongLine)
+    } else {
+        None
     }
-    if LONGEST_LINE < size {
-        return 7;
-    }
-    0
 }
 
 // Adds the names that are new in an accepted line to the tables, and answers with the store's counts after it.
@@ -47,23 +55,16 @@ pub fn accepted(
         × (names.new ≡ overwritten (take e.name_bytes names.old ++ name_bytes (names_in fresh.now)) names.old)
         × (values.new ≡ overwritten (take (8 * e.name_count) values.old ++ value_entries e.name_count (names_in fresh.now)) values.old) }
 {
-    let bytes = e.name_bytes;
-    let count = e.name_count;
-    names_numbered::add(names, bytes, values, count, fresh);
+    names_numbered::add(names, e.name_bytes, values, e.name_count, fresh);
     let added = names_numbered::count(fresh);
-    let name_count = count + added;
-    let name_bytes = bytes + fresh.len();
+    let name_count = e.name_count + added;
+    let name_bytes = e.name_bytes + fresh.len();
     Entered {
-        number: 0,
-        place: 0,
-        end: 0,
-        added,
+        added: Ok(added),
         editor: Editor {
-            used: after.used,
-            lines: after.lines,
-            greatest: after.greatest,
             name_count,
             name_bytes,
+            ..e.with_counts(after)
         },
     }
 }

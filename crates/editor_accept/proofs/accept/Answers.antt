@@ -4,33 +4,33 @@ use Rattle.editor_edit.specs.Sound.{table_sound, values_fit, counts_sound}
 use Rattle.editor_accept.proofs.AnswerLaws.{answer_short, room_is, place_is, answer_8, answer_0}
 use Rattle.editor_accept.proofs.accept.Goals as goal
 
-pub returns-then-short-ne0 : goal.returns-then-short-ne0
-returns-then-short-ne0 c =
+pub returns-in-Some : goal.returns-in-Some
+returns-in-Some c =
     let args = c.args in
     let s = state args.names.now args.values.now args.store.now args.e in
-    answer_short args.names.now args.values.now args.store.now args.e (table_sound s c.requires.0) (values_fit s c.requires.0) args.place.number args.line.now args.size args.fresh.now _ _ c.shortage-short.ensures c.if-short-ne0.true c.refused.ensures
+    answer_short args.names.now args.values.now args.store.now args.e (table_sound s c.requires.0) (values_fit s c.requires.0) args.place.number args.line.now args.size args.fresh.now _ _ _ c.shortage.ensures c.in-Some.is c.refused.ensures
 
 pub put_in-requires : goal.put_in-requires
 unfolding names_of
 put_in-requires c =
     let args = c.args in
     let s = state args.names.now args.values.now args.store.now args.e in
-    (counts_sound s _ c.store_counts.ensures c.requires.0, place_is args.names.now args.values.now args.store.now args.e (table_sound s c.requires.0) (values_fit s c.requires.0) args.place.number args.line.now args.size args.fresh.now _ c.store_counts.ensures _ c.shortage-short.ensures c.if-short-ne0.false _ c.front.ensures c.requires.2.ts args.place c.requires.2.written c.requires.1)
+    (counts_sound s _ c.from.ensures c.requires.0, place_is args.names.now args.values.now args.store.now args.e (table_sound s c.requires.0) (values_fit s c.requires.0) args.place.number args.line.now args.size args.fresh.now _ c.from.ensures _ c.shortage.ensures c.in_default.is _ c.front.ensures c.requires.2.ts args.place c.requires.2.written c.requires.1)
 
 pub accepted-requires : goal.accepted-requires
 accepted-requires c =
     let args = c.args in
     let s = state args.names.now args.values.now args.store.now args.e in
-    room_is args.names.now args.values.now args.store.now args.e (table_sound s c.requires.0) (values_fit s c.requires.0) args.place.number args.line.now args.size args.fresh.now _ c.shortage-short.ensures c.if-short-ne0.false c.requires.2.written.closed
+    room_is args.names.now args.values.now args.store.now args.e (table_sound s c.requires.0) (values_fit s c.requires.0) args.place.number args.line.now args.size args.fresh.now _ c.shortage.ensures c.in_default.is c.requires.2.written.closed
 
-pub returns-in-NoRoom : goal.returns-in-NoRoom
-returns-in-NoRoom c =
+pub returns-in-None : goal.returns-in-None
+returns-in-None c =
     let args = c.args in
     let s = state args.names.now args.values.now args.store.now args.e in
-    answer_8 args.names.now args.values.now args.store.now args.e (table_sound s c.requires.0) (values_fit s c.requires.0) args.place.number args.line.now args.size args.fresh.now _ c.store_counts.ensures _ c.shortage-short.ensures c.if-short-ne0.false _ c.front.ensures _ _ c.put_in.ensures.0 c.put_in.ensures.1 _ c.in-NoRoom.is c.refused-in-NoRoom.ensures
+    answer_8 args.names.now args.values.now args.store.now args.e (table_sound s c.requires.0) (values_fit s c.requires.0) args.place.number args.line.now args.size args.fresh.now _ c.from.ensures _ c.shortage.ensures c.in_default.is _ c.front.ensures _ _ c.put_in.ensures.0 c.put_in.ensures.1 _ c.in-None.is c.refused-in-None.ensures
 
-pub returns-in-Done : goal.returns-in-Done
-returns-in-Done c =
+pub returns-in-Some-put_in : goal.returns-in-Some-put_in
+returns-in-Some-put_in c =
     let args = c.args in
     let s = state args.names.now args.values.now args.store.now args.e in
-    answer_0 args.names.now args.values.now args.store.now args.e (table_sound s c.requires.0) (values_fit s c.requires.0) args.place.number args.line.now args.size args.fresh.now _ c.store_counts.ensures _ c.shortage-short.ensures c.if-short-ne0.false _ c.front.ensures _ _ c.put_in.ensures.0 c.put_in.ensures.1 _ _ _ _ c.in-Done.is c.accepted.ensures.0 c.accepted.ensures.1 c.accepted.ensures.2
+    answer_0 args.names.now args.values.now args.store.now args.e (table_sound s c.requires.0) (values_fit s c.requires.0) args.place.number args.line.now args.size args.fresh.now _ c.from.ensures _ c.shortage.ensures c.in_default.is _ c.front.ensures _ _ c.put_in.ensures.0 c.put_in.ensures.1 _ _ _ _ c.in-Some-put_in.is c.accepted.ensures.0 c.accepted.ensures.1 c.accepted.ensures.2

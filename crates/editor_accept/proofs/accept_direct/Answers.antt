@@ -3,22 +3,22 @@ use Rattle.paper.specs.Line.{direct_number}
 use Rattle.editor_accept.proofs.AnswerLaws.{room_is, direct_short, direct_8, direct_0}
 use Rattle.editor_accept.proofs.accept_direct.Goals as goal
 
-pub returns-then-short-ne0 : goal.returns-then-short-ne0
-returns-then-short-ne0 c =
+pub returns-in-Some : goal.returns-in-Some
+returns-in-Some c =
     let args = c.args in
-    direct_short args.names.now args.values.now args.e c.requires.0 c.requires.1 args.buffer.now args.line.now args.size args.fresh.now _ c.shortage-short.ensures _ c.if-short-ne0.true c.refused.ensures
+    direct_short args.names.now args.values.now args.e c.requires.0 c.requires.1 args.buffer.now args.line.now args.size args.fresh.now _ c.shortage.ensures _ _ c.in-Some.is c.refused.ensures
 
 pub returns-then-buffer-size : goal.returns-then-buffer-size
 returns-then-buffer-size c =
     let args = c.args in
-    direct_8 args.names.now args.values.now args.e c.requires.0 c.requires.1 args.buffer.now args.line.now args.size args.fresh.now _ c.shortage-short.ensures c.if-short-ne0.false _ c.if-buffer-size.true c.refused-then-buffer-size.ensures
+    direct_8 args.names.now args.values.now args.e c.requires.0 c.requires.1 args.buffer.now args.line.now args.size args.fresh.now _ c.shortage.ensures c.in_default.is _ c.if-buffer-size.true c.refused-then-buffer-size.ensures
 
 pub accepted-requires : goal.accepted-requires
 accepted-requires c =
     let args = c.args in
-    room_is args.names.now args.values.now [] args.e c.requires.0 c.requires.1 direct_number args.line.now args.size args.fresh.now _ c.shortage-short.ensures c.if-short-ne0.false c.requires.2.written.closed
+    room_is args.names.now args.values.now [] args.e c.requires.0 c.requires.1 direct_number args.line.now args.size args.fresh.now _ c.shortage.ensures c.in_default.is c.requires.2.written.closed
 
 pub returns : goal.returns
 returns c =
     let args = c.args in
-    direct_0 args.names.now args.values.now args.e c.requires.0 c.requires.1 args.buffer.now args.line.now args.size args.fresh.now _ c.shortage-short.ensures c.if-short-ne0.false _ _ _ _ _ _ c.if-buffer-size.false c.store_counts.ensures c.front.ensures c.copy.ensures c.accepted.ensures.0 c.accepted.ensures.1 c.accepted.ensures.2
+    direct_0 args.names.now args.values.now args.e c.requires.0 c.requires.1 args.buffer.now args.line.now args.size args.fresh.now _ c.shortage.ensures c.in_default.is _ _ _ _ _ _ c.if-buffer-size.false c.from.ensures c.front.ensures c.copy.ensures c.accepted.ensures.0 c.accepted.ensures.1 c.accepted.ensures.2

@@ -3,10 +3,10 @@ use Rattle.editor_edit.specs.States.{state}
 use Rattle.editor_list.proofs.ListLaws.{names_sound, lies_there, not_stored, listed_so, part_is}
 use Rattle.editor_list.proofs.list_stored.Goals as goal
 
-pub returns-then-size-eq0 : goal.returns-then-size-eq0
-returns-then-size-eq0 c =
+pub returns-then-place-eq0 : goal.returns-then-place-eq0
+returns-then-place-eq0 c =
     let args = c.args in
-    not_stored (state args.names.now args.values.now args.store.now args.e) c.requires.0 args.place.number args.place c.requires.1 _ args.out.now c.if-size-eq0.true c.not_listed.ensures
+    not_stored (state args.names.now args.values.now args.store.now args.e) c.requires.0 args.place.number args.place c.requires.1 args.out.now c.if-place-eq0.true
 
 pub overflow_add-end : goal.overflow_add-end
 overflow_add-end c =
@@ -26,4 +26,4 @@ list-requires c =
 pub returns : goal.returns
 returns c =
     let args = c.args in
-    listed_so (state args.names.now args.values.now args.store.now args.e) c.requires.0 args.place.number args.place c.requires.1 _ args.out.now _ _ _ c.if-size-eq0.false (part_is args.place.at args.place.size args.store.now) c.list.ensures c.numbered.ensures
+    listed_so (state args.names.now args.values.now args.store.now args.e) c.requires.0 args.place.number args.place c.requires.1 _ args.out.now _ _ c.if-place-eq0.false (part_is args.place.at args.place.size args.store.now) c.list.ensures
