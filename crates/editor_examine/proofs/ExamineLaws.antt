@@ -4,6 +4,7 @@ use native.Mathlib.Omega.{arith}
 use mathlib.Core.Path.{◌≡◌, refl, sym, ap, ap₂, ◌∙◌}
 use mathlib.Core.Bool.{Bool, true, false, not}
 use mathlib.Core.List.{List, [], ◌∷◌}
+use Rattle.std.specs.Prelude.{None}
 use lib.Dec.{leb}
 use lib.ListN.{length, take, drop, get_or}
 use borrow.Author.Tests.{le-leb, lt-leb}
@@ -34,9 +35,9 @@ module _ (ns : List (List ℕ)) (k : ℕ) (s : List ℕ) where
       go (b ∷ s) h = absurd (omega arith)
 
   -- a line that is not whole, or does not rise
-  pub not_sound : 0 < length s → (size : ℕ) → size ≡ passing_size k 32768 s → size ≡ 0 → unsound_store ≡ lines_verdict ns k s
+  pub not_sound : 0 < length s → passing_size k 32768 s ≡ None → unsound_store ≡ lines_verdict ns k s
   unfolding lines_verdict
-  not_sound h size e z = sym (rw (walk_ends k s h (sym e ∙ z)))
+  not_sound h z = sym (rw (walk_ends k s h z))
 
   module _ (goes : Goes k 32768 s) (formed : Bool) (is : formed ≡ well_formed? ns (take (get_or s 2 0) s)) where
     -- a bad line, if all lines are sound

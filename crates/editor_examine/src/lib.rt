@@ -72,16 +72,14 @@ fn examine_lines(lines: &[u8], names: &[u8], name_bytes: usize) -> Result<(), Fl
     let mut frames = [0u8; DEEPEST];
     let mut rest = lines;
     let mut least: usize = 0;
-    while 0 < rest.len() {
-        let size = store::passing(rest, least, GREATEST_NUMBER + 1);
-        if size == 0 {
-            return Err(Flaw::UnsoundStore);
-        }
-        if !well_formed_over(&rest[..size], &kinds, &mut frames) {
+    while !rest.is_empty() {
+        let size = store::passing(rest, least, GREATEST_NUMBER + 1).ok_or(Flaw::UnsoundStore)?;
+        let (line, after) = rest.split_at(size);
+        if !well_formed_over(line, &kinds, &mut frames) {
             return Err(bad_from(rest, least));
         }
         least = heads::number(rest) + 1;
-        rest = &rest[size..];
+        rest = after;
     }
     Ok(())
 }

@@ -4,6 +4,7 @@ use native.Mathlib.Omega.{arith}
 use mathlib.Core.Path.{◌≡◌, refl, sym, ap, ◌∙◌}
 use mathlib.Core.Bool.{Bool, true, false, ◌||◌}
 use mathlib.Core.List.{List}
+use Rattle.std.specs.Prelude.{Ok, Err}
 use lib.Dec.{ltb}
 use lib.ListN.{length, take, drop}
 use lib.Seq.{sets}
@@ -17,9 +18,9 @@ use Rattle.laws.specs.Lines.{room_lent}
 use Rattle.buffers.specs.Sets.{overwrites}
 use Rattle.editor_edit.specs.declared.Editor.{Editor}
 use Rattle.editor_edit.specs.States.{state}
-use Rattle.file_load.specs.declared.Opened.TheVariants.{Refused, Holds}
-use Rattle.file_load.specs.declared.Loaded.{Loaded}
-use Rattle.file_load.specs.Answers.{record_of_parts, opened, unloaded, loaded, placed}
+use Rattle.refusals.specs.declared.Refusal.{Refusal}
+use Rattle.refusals.specs.declared.Refusal.TheVariants.{NoRoom}
+use Rattle.file_load.specs.Answers.{record_of_parts, opened, loaded, placed}
 use Rattle.file_load.specs.Lies.{Lies, faultless, faulty}
 
 -- ---- the answers
@@ -32,29 +33,29 @@ module _ (file names values store : List ℕ) (e held : Editor) (l : Lies file h
   abbrev s : State
   s = state names values store e
 
-  refused_8 : (r : Loaded) → too_small? (parts_of file) s ≡ true → r ≡ unloaded 8 e → loaded r names values store ≡ placed file s
+  refused_8 : too_small? (parts_of file) s ≡ true → loaded e (Err NoRoom) names values store ≡ placed file s
   unfolding placed not_loaded
-  refused_8 r t q = rw q (sym (rw t))
+  refused_8 t = sym (rw t)
 
   -- 8: of the names
-  pub names_short : (r : Loaded) → length names < held.name_bytes → r ≡ unloaded 8 e → loaded r names values store ≡ placed file s
+  pub names_short : length names < held.name_bytes → loaded e (Err NoRoom) names values store ≡ placed file s
   unfolding too_small?
-  names_short r h q = refused_8 r (rw (lt-ltb (length names) (length (parts_of file).names) (omega (arith, l.name_size)))) q
+  names_short h = refused_8 (rw (lt-ltb (length names) (length (parts_of file).names) (omega (arith, l.name_size))))
 
   -- of the values
-  pub values_short : (r : Loaded) → length values < 8 * held.name_count → r ≡ unloaded 8 e → loaded r names values store ≡ placed file s
+  pub values_short : length values < 8 * held.name_count → loaded e (Err NoRoom) names values store ≡ placed file s
   unfolding too_small?
-  values_short r h q = refused_8 r (rw (lt-ltb (length values) (length (parts_of file).values) (omega (arith, l.value_size))) (either (ltb (length names) (length (parts_of file).names)))) q
+  values_short h = refused_8 (rw (lt-ltb (length values) (length (parts_of file).values) (omega (arith, l.value_size))) (either (ltb (length names) (length (parts_of file).names))))
     where
       either : (b : Bool) → b || true ≡ true
       either true = refl
       either false = refl
 
   -- of the store
-  pub store_short : (r : Loaded) → room store < held.used → r ≡ unloaded 8 e → loaded r names values store ≡ placed file s
+  pub store_short : room store < held.used → loaded e (Err NoRoom) names values store ≡ placed file s
   unfolding too_small?
-  store_short r h q =
-      refused_8 r (rw (lt-ltb (room store) (length (joined (parts_of file).lines)) (omega (arith, l.line_size))) (either (ltb (length names) (length (parts_of file).names)) (ltb (length values) (length (parts_of file).values)))) q
+  store_short h =
+      refused_8 (rw (lt-ltb (room store) (length (joined (parts_of file).lines)) (omega (arith, l.line_size))) (either (ltb (length names) (length (parts_of file).names)) (ltb (length values) (length (parts_of file).values))))
     where
       either : (a b : Bool) → a || (b || true) ≡ true
       either true b = refl
@@ -65,7 +66,7 @@ module _ (file names values store : List ℕ) (e held : Editor) (l : Lies file h
   pub copied : held.name_bytes ≤ length names → 8 * held.name_count ≤ length values → held.used ≤ room store
       → (names' values' store' : List ℕ) → names' ≡ sets names 0 (take held.name_bytes (drop 14 file)) → values' ≡ sets values 0 (take (8 * held.name_count) (drop (14 + held.name_bytes + 1) file))
       → store' ≡ sets store 0 (take held.used (drop (14 + held.name_bytes + 1 + 8 * held.name_count) file))
-      → loaded (record { number = 0; editor = held }) names' values' store' ≡ placed file s
+      → loaded e (Ok held) names' values' store' ≡ placed file s
   unfolding placed too_small? loaded_state record_of_parts
   copied a b c names' values' store' en ev es =
       let p : Parts = parts_of file in
@@ -76,11 +77,11 @@ module _ (file names values store : List ℕ) (e held : Editor) (l : Lies file h
       (sym (rw (le-ltb (length names) (length p.names) (omega (arith, l.name_size)), le-ltb (length values) (length p.values) (omega (arith, l.value_size)), le-ltb (room store) (length (joined p.lines)) (omega (arith, l.line_size)))))
 
   -- the whole call
-  pub loads_held : opened file ≡ Holds held → (o : Outcome) → o ≡ placed file s → o ≡ load file s
+  pub loads_held : opened file ≡ Ok held → (o : Outcome) → o ≡ placed file s → o ≡ load file s
   unfolding load placed
   loads_held h o q = q ∙ sym (faultless (not_loaded s) file _ held h)
 
 -- a refused file
-pub loads_refused : (file names values store : List ℕ) (e : Editor) (k : ℕ) (r : Loaded) → opened file ≡ Refused k → r ≡ unloaded k e → loaded r names values store ≡ load file (state names values store e)
+pub loads_refused : (file names values store : List ℕ) (e : Editor) (r : Refusal) → opened file ≡ Err r → loaded e (Err r) names values store ≡ load file (state names values store e)
 unfolding load not_loaded
-loads_refused file names values store e k r h q = rw q (sym (faulty (not_loaded (state names values store e)) file _ k h))
+loads_refused file names values store e r h = sym (faulty (not_loaded (state names values store e)) file _ r h)

@@ -1,16 +1,16 @@
 -- What is found in a file, and what reading it answers, as outcomes of `paper`.
-use Rattle.std.specs.Prelude.{ℕ, not, List, length}
+use Rattle.std.specs.Prelude.{ℕ, not, List, length, Result, Ok, Err}
 use Rattle.paper.specs.Bytes.{pick, joined}
 use Rattle.paper.specs.Names.{names_in}
 use Rattle.paper.specs.Store.{greatest_number}
 use Rattle.paper.specs.Calls.{State}
-use Rattle.paper.specs.Files.{Parts, parts_of, sound_parts?, unless_faulty, too_small?, loaded_state, not_loaded}
+use Rattle.paper.specs.Files.{Parts, parts_of, no_head?, right_words?, sound_parts?, too_small?, loaded_state, not_loaded}
 use Rattle.paper.specs.Files.{Loaded as Outcome}
 use Rattle.editor_edit.specs.declared.Editor.{Editor}
 use Rattle.editor_edit.specs.States.{state}
-use Rattle.file_load.specs.declared.Opened.{Opened}
-use Rattle.file_load.specs.declared.Opened.TheVariants.{Refused, Holds}
-use Rattle.file_load.specs.declared.Loaded.{Loaded}
+use Rattle.refusals.specs.declared.Refusal.{Refusal}
+use Rattle.refusals.specs.declared.Refusal.TheVariants.{Unsound, NoProgram, Damaged}
+use Rattle.refusals.specs.Numbers.{number_of}
 
 -- the record of a program in its parts
 unfoldable pub record_of_parts : Parts → Editor
@@ -23,20 +23,26 @@ record_of_parts p = record {
 }
 
 -- 1, or that record
-unfoldable pub parted : List ℕ → Opened
-parted file = let p = parts_of file in pick (not (sound_parts? p)) (Refused 1) (Holds (record_of_parts p))
+unfoldable pub parted : List ℕ → Result Editor Refusal
+parted file = let p = parts_of file in pick (not (sound_parts? p)) (Err Unsound) (Ok (record_of_parts p))
 
 -- what is found in a file: 12, 13, 1, or that record
-unfoldable pub opened : List ℕ → Opened
-opened file = unless_faulty Refused file (Holds (record_of_parts (parts_of file)))
+unfoldable pub opened : List ℕ → Result Editor Refusal
+opened file = pick (no_head? file) (Err NoProgram) (pick (not (right_words? file)) (Err Damaged) (parted file))
 
--- what a call answered, with what it left in names, values and store
-abbrev pub loaded : Loaded → List ℕ → List ℕ → List ℕ → Outcome
-loaded r names values store = record { number = r.number; after = state names values store r.editor }
+-- the number of an answer, 0 where nothing was refused
+abbrev pub number_in : Result Editor Refusal → ℕ
+number_in (Ok held) = 0
+number_in (Err r) = number_of r
 
--- a refusal: the record is as it was
-abbrev pub unloaded : ℕ → Editor → Loaded
-unloaded number e = record { number = number; editor = e }
+-- the record after a call over a record e: that of the file, or after a refusal e as it was
+abbrev pub record_after : Editor → Result Editor Refusal → Editor
+record_after e (Ok held) = held
+record_after e (Err r) = e
+
+-- what a call over a record e answered, with what it left in names, values and store
+abbrev pub loaded : Editor → Result Editor Refusal → List ℕ → List ℕ → List ℕ → Outcome
+loaded e r names values store = record { number = number_in r; after = state names values store (record_after e r) }
 
 -- of a file with nothing wrong: 8, or its program stands in the buffers
 unfoldable pub placed : List ℕ → State → Outcome

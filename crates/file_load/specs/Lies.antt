@@ -2,7 +2,7 @@
 use Prim.Native.Nat.{ℕ, ◌+◌, ◌-◌, ◌*◌, ◌≤◌, ◌<◌}
 use Rattle.std.proofs.Common.{arith, subst, ◌∙◌, leb→le, length-append, take-add, get_or-take}
 use Rattle.std.proofs.Math.Path.{◌≡◌, sym, ap, ap₂}
-use Rattle.std.specs.Prelude.{refl, Bool, not, ◌||◌, leb, ltb, eqb, get_or}
+use Rattle.std.specs.Prelude.{refl, Bool, not, ◌||◌, leb, ltb, eqb, get_or, Result, Ok, Err}
 use Rattle.std.proofs.Math.Bool.{true, false}
 use mathlib.Core.List.{List, [], ◌∷◌, ◌++◌}
 use Rattle.std.proofs.Math.Dec.{T, eqb→eq}
@@ -16,8 +16,10 @@ use Rattle.paper.specs.Files.{word_at, Parts, direct_whole?, without_direct, par
 use Rattle.laws.specs.Tests.{and_left, and_right, as_T}
 use Rattle.laws.specs.Lines.{lines_next}
 use Rattle.editor_edit.specs.declared.Editor.{Editor}
-use Rattle.file_load.specs.declared.Opened.TheVariants.{Refused, Holds}
-use Rattle.file_load.specs.Answers.{record_of_parts, opened}
+use Rattle.refusals.specs.declared.Refusal.{Refusal}
+use Rattle.refusals.specs.declared.Refusal.TheVariants.{Unsound, NoProgram, Damaged}
+use Rattle.refusals.specs.Numbers.{number_of}
+use Rattle.file_load.specs.Answers.{record_of_parts, parted, opened}
 use Rattle.file_load.specs.WordLaws.{Right, right}
 use Rattle.file_load.specs.TableLaws.{within, parts_are, found_names, found_values}
 
@@ -77,7 +79,7 @@ program_front s t =
 
 -- ---- a file that holds a program
 
-holds_go : (a b c : Bool) (r held : Editor) → pick a (Refused 12) (pick (not b) (Refused 13) (pick (not c) (Refused 1) (Holds r))) ≡ Holds held → (a ≡ false) × (b ≡ true) × (c ≡ true) × (held ≡ r)
+holds_go : (a b c : Bool) (r held : Editor) → ◌≡◌ {A = Result Editor Refusal} (pick a (Err NoProgram) (pick (not b) (Err Damaged) (pick (not c) (Err Unsound) (Ok r)))) (Ok held) → (a ≡ false) × (b ≡ true) × (c ≡ true) × (held ≡ r)
 holds_go true b c r held e = let z : ◌≡◌ {A = ℕ} 0 1 = cc in absurd (omega arith)
 holds_go false false c r held e = let z : ◌≡◌ {A = ℕ} 0 1 = cc in absurd (omega arith)
 holds_go false true false r held e = let z : ◌≡◌ {A = ℕ} 0 1 = cc in absurd (omega arith)
@@ -100,9 +102,9 @@ pub record Lies (file : List ℕ) (held : Editor) : Type 0 where
   pub value_size : length (parts_of file).values ≡ 8 * held.name_count
   pub line_size : length (joined (parts_of file).lines) ≡ held.used
 
-module _ (file : List ℕ) (held : Editor) (e : opened file ≡ Holds held) where
+module _ (file : List ℕ) (held : Editor) (e : opened file ≡ Ok held) where
   nothing_wrong : (no_head? file ≡ false) × (right_words? file ≡ true) × (sound_parts? (parts_of file) ≡ true) × (held ≡ record_of_parts (parts_of file))
-  unfolding opened unless_faulty
+  unfolding opened parted
   nothing_wrong = holds_go (no_head? file) (right_words? file) (sound_parts? (parts_of file)) (record_of_parts (parts_of file)) held e
 
   has_words : 14 ≤ length file
@@ -157,18 +159,18 @@ module _ (file : List ℕ) (held : Editor) (e : opened file ≡ Holds held) wher
 
 module _ {A : Type 0} (refuse : ℕ → A) (file : List ℕ) (accepted : A) where
   -- it holds a program
-  pub faultless : (held : Editor) → opened file ≡ Holds held → unless_faulty refuse file accepted ≡ accepted
+  pub faultless : (held : Editor) → opened file ≡ Ok held → unless_faulty refuse file accepted ≡ accepted
   unfolding unless_faulty
   faultless held e = let w = nothing_wrong file held e in rw (w.0, w.1, w.2)
 
   -- it is refused
-  pub faulty : (k : ℕ) → opened file ≡ Refused k → unless_faulty refuse file accepted ≡ refuse k
-  unfolding opened unless_faulty
-  faulty k e = go (no_head? file) (right_words? file) (sound_parts? (parts_of file)) e
+  pub faulty : (r : Refusal) → opened file ≡ Err r → unless_faulty refuse file accepted ≡ refuse (number_of r)
+  unfolding opened parted unless_faulty
+  faulty r e = go (no_head? file) (right_words? file) (sound_parts? (parts_of file)) e
     where
-      go : (a b c : Bool) → pick a (Refused 12) (pick (not b) (Refused 13) (pick (not c) (Refused 1) (Holds (record_of_parts (parts_of file))))) ≡ Refused k
-          → pick a (refuse 12) (pick (not b) (refuse 13) (pick (not c) (refuse 1) accepted)) ≡ refuse k
-      go true b c e = let same : ◌≡◌ {A = ℕ} 12 k = cc in ap refuse same
-      go false false c e = let same : ◌≡◌ {A = ℕ} 13 k = cc in ap refuse same
-      go false true false e = let same : ◌≡◌ {A = ℕ} 1 k = cc in ap refuse same
+      go : (a b c : Bool) → ◌≡◌ {A = Result Editor Refusal} (pick a (Err NoProgram) (pick (not b) (Err Damaged) (pick (not c) (Err Unsound) (Ok (record_of_parts (parts_of file)))))) (Err r)
+          → pick a (refuse 12) (pick (not b) (refuse 13) (pick (not c) (refuse 1) accepted)) ≡ refuse (number_of r)
+      go true b c e = let same : NoProgram ≡ r = cc in ap (λ (q : Refusal). refuse (number_of q)) same
+      go false false c e = let same : Damaged ≡ r = cc in ap (λ (q : Refusal). refuse (number_of q)) same
+      go false true false e = let same : Unsound ≡ r = cc in ap (λ (q : Refusal). refuse (number_of q)) same
       go false true true e = let z : ◌≡◌ {A = ℕ} 0 1 = cc in absurd (omega arith)

@@ -2,7 +2,7 @@
 use Prim.Native.Nat.{ℕ, ◌+◌, ◌-◌, ◌*◌, ◌/◌, ◌≤◌}
 use Rattle.std.proofs.Common.{arith, subst, ◌∙◌, eqb→eq, length-drop, take_all, length-take-le, drop-drop, le-leb, eq-eqb, ne_eqb}
 use Rattle.std.proofs.Math.Path.{◌≡◌, refl, sym, ap, ap₂}
-use Rattle.std.specs.Prelude.{Bool, ◌&&◌, List, T, leb, eqb, take, drop}
+use Rattle.std.specs.Prelude.{Bool, ◌&&◌, List, T, leb, eqb, take, drop, Option, Some, None, Result, Ok, Err}
 use Rattle.std.proofs.Math.Bool.{true, false, and-false}
 use Rattle.std.proofs.Math.ListN.{length}
 use Rattle.std.proofs.Math.Seq.{take-length}
@@ -13,11 +13,10 @@ use Rattle.paper.specs.Files.{word_at, head_size, Parts, without_direct, parts_o
 use Rattle.laws.specs.Tests.{as_T}
 use Rattle.laws.specs.Names.{sound_facts}
 use Rattle.store.specs.declared.Counts.{Counts}
-use Rattle.store.specs.declared.Program.{Program}
-use Rattle.store.specs.declared.Program.TheVariants.{Unsound, Sound}
 use Rattle.store.specs.Answers.{counts_of, program_answer}
-use Rattle.file_load.specs.declared.Opened.{Opened}
-use Rattle.file_load.specs.declared.Opened.TheVariants.{Refused, Holds}
+use Rattle.editor_edit.specs.declared.Editor.{Editor}
+use Rattle.refusals.specs.declared.Refusal.{Refusal}
+use Rattle.refusals.specs.declared.Refusal.TheVariants.{Unsound}
 use Rattle.file_load.specs.Answers.{record_of_parts, parted}
 use Rattle.file_load.specs.WordLaws.{Right}
 
@@ -116,7 +115,7 @@ module _ (file : List ℕ) (right : Right file) where
 
   -- ---- the answers
 
-  refused : sound_parts? found ≡ false → Refused 1 ≡ parted file
+  refused : sound_parts? found ≡ false → Err Unsound ≡ parted file
   unfolding parted
   refused e = sym (rw (parts_are, e))
 
@@ -126,7 +125,7 @@ module _ (file : List ℕ) (right : Right file) where
     lines_from_here = drop (14 + name_size + 1 + value_size) file
 
     -- values of no number of names
-    pub refused_uneven : (vb ≡ 8 * (vb / 8) → ⊥) → Refused 1 ≡ parted file
+    pub refused_uneven : (vb ≡ 8 * (vb / 8) → ⊥) → Err Unsound ≡ parted file
     refused_uneven h = refused (uneven found.names found.values lines_from_here (λ z. h (omega (arith, found_values))))
 
     module _ (even_so : vb ≡ 8 * (vb / 8)) (b : Bool) (tested : b ≡ sound_table (take (14 + nb - 14) (drop 14 file)) nb (vb / 8) && leb (8 * (vb / 8)) vb) where
@@ -140,36 +139,36 @@ module _ (file : List ℕ) (right : Right file) where
       all_is = even found.names found.values lines_from_here (vb / 8) (found_values ∙ sym ev ∙ even_so) ∙ ap (λ (x : Bool). x && sound_lines found.lines) (sym table_so)
 
       -- unsound names
-      pub refused_names : b ≡ false → Refused 1 ≡ parted file
+      pub refused_names : b ≡ false → Err Unsound ≡ parted file
       refused_names e = refused (all_is ∙ rw e)
 
       -- the lines, as a slice has them
-      module _ (a : Program) (is : a ≡ program_answer (take (length file - (14 + nb + 1 + vb)) (drop (14 + nb + 1 + vb) file))) where
+      module _ (a : Option Counts) (is : a ≡ program_answer (take (length file - (14 + nb + 1 + vb)) (drop (14 + nb + 1 + vb) file))) where
         answer_is : a ≡ program_answer lines_from_here
         answer_is =
             is
             ∙ ap program_answer (take_all (length file - (14 + nb + 1 + vb)) (drop (14 + nb + 1 + vb) file) (omega (arith, length-drop (14 + nb + 1 + vb) file)) ∙ ap₂ (λ (x y : ℕ). drop (14 + x + 1 + y) file) en ev)
 
         -- unsound lines
-        pub refused_lines : a ≡ Unsound → Refused 1 ≡ parted file
+        pub refused_lines : a ≡ None → Err Unsound ≡ parted file
         unfolding program_answer
         refused_lines e = refused (all_is ∙ go (sound_lines found.lines) (sym e ∙ answer_is))
           where
-            go : (x : Bool) → Unsound ≡ pick x (Sound (counts_of found.lines)) Unsound → (b && x) ≡ false
+            go : (x : Bool) → None ≡ pick x (Some (counts_of found.lines)) None → (b && x) ≡ false
             go true e = let z : ◌≡◌ {A = ℕ} 0 1 = cc in absurd (omega arith)
             go false e = and-false b
 
         -- a sound program
-        pub held : b ≡ true → (c : Counts) → a ≡ Sound c → Holds (record { used = c.used; lines = c.lines; greatest = c.greatest; name_count = vb / 8; name_bytes = nb }) ≡ parted file
+        pub held : b ≡ true → (c : Counts) → a ≡ Some c → Ok (record { used = c.used; lines = c.lines; greatest = c.greatest; name_count = vb / 8; name_bytes = nb }) ≡ parted file
         unfolding program_answer counts_of parted record_of_parts
         held t c e =
             let s = go (sound_lines found.lines) refl (sym e ∙ answer_is) in
             let names : length (names_in found.names) ≡ vb / 8 = counted_by found.names (vb / 8) (sym table_so ∙ t) in
             let good : (b && sound_lines found.lines) ≡ true = rw (t, s.0) in
             let all : sound_parts? found ≡ true = all_is ∙ good in
-            let make : Counts → ℕ → ℕ → Opened = λ k x y. Holds (record { used = k.used; lines = k.lines; greatest = k.greatest; name_count = x; name_bytes = y }) in
+            let make : Counts → ℕ → ℕ → Result Editor Refusal = λ k x y. Ok (record { used = k.used; lines = k.lines; greatest = k.greatest; name_count = x; name_bytes = y }) in
             ap (λ (k : Counts). make k (vb / 8) nb) s.1 ∙ ap₂ (make (counts_of found.lines)) (sym names) (en ∙ sym found_names) ∙ sym (rw (parts_are, all))
           where
-            go : (x : Bool) → sound_lines found.lines ≡ x → Sound c ≡ pick x (Sound (counts_of found.lines)) Unsound → (sound_lines found.lines ≡ true) × (c ≡ counts_of found.lines)
+            go : (x : Bool) → sound_lines found.lines ≡ x → Some c ≡ pick x (Some (counts_of found.lines)) None → (sound_lines found.lines ≡ true) × (c ≡ counts_of found.lines)
             go true h e = (h, (cc))
             go false h e = let z : ◌≡◌ {A = ℕ} 0 1 = cc in absurd (omega arith)

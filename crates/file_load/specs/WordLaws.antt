@@ -1,15 +1,16 @@
 -- The words of a file: what the tests of them say.
-use Rattle.std.specs.Prelude.{ℕ, zero, suc, ◌+◌, ◌-◌, ◌≤◌, ◌<◌, ◌≡◌, refl, Bool, true, false, not, ◌&&◌, List, [], ◌∷◌, leb, length, take, drop, get_or}
+use Rattle.std.specs.Prelude.{ℕ, zero, suc, ◌+◌, ◌-◌, ◌≤◌, ◌<◌, ◌≡◌, refl, Bool, true, false, not, ◌&&◌, List, [], ◌∷◌, leb, length, take, drop, get_or, Result, Err}
 use Rattle.std.proofs.Math.Numerals.{add-one}
 use Rattle.std.proofs.Common.{arith, ◌∙◌, leb→le, length-drop, take_all}
 use Rattle.std.proofs.Math.Path.{sym, ap}
 use Rattle.std.proofs.Math.Bool.{and-false}
 use Rattle.std.proofs.Math.Dec.{eqb, eqb→eq}
 use borrow.Author.Tests.{lt-leb, le-leb, le-ltb, lt-ltb, eq-eqb, ne_eqb}
-use Rattle.paper.specs.Files.{word_at, head_size, never_fall, no_head?, right_words?, unless_faulty}
+use Rattle.paper.specs.Files.{word_at, head_size, never_fall, no_head?, right_words?}
 use Rattle.laws.specs.Tests.{and_left, and_right, as_T, is_true}
-use Rattle.file_load.specs.declared.Opened.{Opened}
-use Rattle.file_load.specs.declared.Opened.TheVariants.{Refused}
+use Rattle.editor_edit.specs.declared.Editor.{Editor}
+use Rattle.refusals.specs.declared.Refusal.{Refusal}
+use Rattle.refusals.specs.declared.Refusal.TheVariants.{NoProgram, Damaged}
 use Rattle.file_load.specs.Answers.{parted, opened}
 
 -- ---- words that never fall
@@ -129,13 +130,13 @@ module _ (file : List ℕ) where
   -- ---- the answers to a whole file
 
   -- 12
-  pub opened_short : length file < 14 → Refused 12 ≡ opened file
-  unfolding opened unless_faulty no_head?
+  pub opened_short : length file < 14 → Err NoProgram ≡ opened file
+  unfolding opened no_head?
   opened_short h = sym (rw (lt-ltb (length file) 14 h))
 
   -- 12, of the first word
-  pub opened_first : (word_at file 0 ≡ 0 → ⊥) → 14 ≤ length file → Refused 12 ≡ opened file
-  unfolding opened unless_faulty no_head?
+  pub opened_first : (word_at file 0 ≡ 0 → ⊥) → 14 ≤ length file → Err NoProgram ≡ opened file
+  unfolding opened no_head?
   opened_first n h = sym (rw (le-ltb (length file) 14 h, ne_eqb (word_at file 0) 0 n))
 
   head_there : word_at file 0 ≡ 0 → 14 ≤ length file → no_head? file ≡ false
@@ -143,11 +144,11 @@ module _ (file : List ℕ) where
   head_there e h = rw (le-ltb (length file) 14 h, eq-eqb (word_at file 0) 0 e)
 
   -- 13
-  pub opened_wrong : word_at file 0 ≡ 0 → 14 ≤ length file → right_words? file ≡ false → Refused 13 ≡ opened file
-  unfolding opened unless_faulty
+  pub opened_wrong : word_at file 0 ≡ 0 → 14 ≤ length file → right_words? file ≡ false → Err Damaged ≡ opened file
+  unfolding opened
   opened_wrong e h w = sym (rw (head_there e h, w))
 
   -- the tables decide
-  pub opened_right : word_at file 0 ≡ 0 → 14 ≤ length file → right_words? file ≡ true → (r : Opened) → r ≡ parted file → r ≡ opened file
-  unfolding opened unless_faulty parted
+  pub opened_right : word_at file 0 ≡ 0 → 14 ≤ length file → right_words? file ≡ true → (r : Result Editor Refusal) → r ≡ parted file → r ≡ opened file
+  unfolding opened
   opened_right e h w r q = q ∙ sym (rw (head_there e h, w))

@@ -1,36 +1,22 @@
 // The reader of saved program files: what is wrong with a file, where its program lies in it, and the program copied to lent buffers.
 #![tactic(auto)]
 
-ghost use Rattle.std.specs.Prelude.{◌≡◌, true, ◌≤◌, length};
+ghost use Rattle.std.specs.Prelude.{◌≡◌, true, Ok, ◌≤◌, length};
 ghost use Rattle.paper.specs.Files.{word_at, never_fall, right_words?, load as load-call};
 ghost use Rattle.editor_edit.specs.States.{state};
-ghost use Rattle.file_load.specs.Answers.{opened, parted, placed, loaded, unloaded};
-ghost use Rattle.file_load.specs.declared.Opened.TheVariants.{Holds};
+ghost use Rattle.file_load.specs.Answers.{opened, parted, placed, loaded};
+ghost use Rattle.editor_edit.specs.declared.Editor.{Editor};
 
 use buffers::{byte_at, copy};
 use editor_edit::Editor;
-use store::{Program, program_counts, room_of};
+use refusals::Refusal;
+use store::{program_counts, room_of};
 
 // How many bytes the words take.
 pub const HEAD: usize = 14;
 
 // How many words follow the first.
 const LATER_WORDS: usize = 6;
-
-// What is found in a file: the number of the refusal that it gets, or the record of the program that it holds. The program's names lie after the words, its
-// values after them and a zero byte, and its lines after these.
-#[derive(Clone, Copy)]
-pub enum Opened {
-    Refused(u8),
-    Holds(Editor),
-}
-
-// What reading a file answers: the number, and the record afterwards.
-#[derive(Clone, Copy)]
-pub struct Loaded {
-    pub number: u8,
-    pub editor: Editor,
-}
 
 // A word of a file, counted from 0.
 pub fn word(file: &[u8], i: usize) -> usize
@@ -46,12 +32,10 @@ pub fn word(file: &[u8], i: usize) -> usize
 fn words_never_fall(file: &[u8]) -> bool
     ensures { result ≡ never_fall file.now 0 6 }
 {
-    let mut i: usize = 0;
-    while i < LATER_WORDS {
+    for i in 0..LATER_WORDS {
         if word(file, i + 1) < word(file, i) {
             return false;
         }
-        i += 1;
     }
     true
 }
@@ -76,8 +60,8 @@ fn words_right(file: &[u8]) -> bool
     block[names_end - from] == 0
 }
 
-// The record of the program in a file whose words are right, or the refusal with 1 of its tables.
-fn tables(file: &[u8]) -> Opened
+// The record of the program in a file whose words are right, if its tables are sound.
+fn tables(file: &[u8]) -> Result<Editor, Refusal>
     requires { (14 ≤ length file.now) × (right_words? file.now ≡ true) }
     ensures { result ≡ parted file.now }
 {
@@ -87,44 +71,32 @@ fn tables(file: &[u8]) -> Opened
     let lines_at = names_end + 1 + value_bytes;
     let name_count = value_bytes / 8;
     if value_bytes != 8 * name_count {
-        return Opened::Refused(1);
+        return Err(Refusal::Unsound);
     }
     if !names_sound::sound(&file[HEAD..names_end], name_bytes, name_count, value_bytes) {
-        return Opened::Refused(1);
+        return Err(Refusal::Unsound);
     }
-    match program_counts(&file[lines_at..]) {
-        Program::Unsound => Opened::Refused(1),
-        Program::Sound(counts) => Opened::Holds(Editor {
-            used: counts.used,
-            lines: counts.lines,
-            greatest: counts.greatest,
-            name_count,
-            name_bytes,
-        }),
-    }
+    let counts = program_counts(&file[lines_at..]).ok_or(Refusal::Unsound)?;
+    let names = Editor {
+        name_count,
+        name_bytes,
+        ..Editor::default()
+    };
+    Ok(names.with_counts(counts))
 }
 
-// What is found in a file: 12, 13, 1, in this order, or the record of its program.
-pub fn open(file: &[u8]) -> Opened
+// The record of the program that a file holds: its names lie after the words, its values after them and a zero byte, and its lines after these. Or why it holds
+// none, with 12, 13, 1, in this order.
+pub fn open(file: &[u8]) -> Result<Editor, Refusal>
     ensures { result ≡ opened file.now }
 {
-    if file.len() < HEAD {
-        return Opened::Refused(12);
-    }
-    if word(file, 0) != 0 {
-        return Opened::Refused(12);
+    if file.len() < HEAD || word(file, 0) != 0 {
+        return Err(Refusal::NoProgram);
     }
     if !words_right(file) {
-        return Opened::Refused(13);
+        return Err(Refusal::Damaged);
     }
     tables(file)
-}
-
-// A refusal: the record is as it was.
-pub fn not_loaded(number: u8, e: Editor) -> Loaded
-    ensures { result ≡ unloaded number e }
-{
-    Loaded { number, editor: e }
 }
 
 // Copies the program that a file holds to the fronts of lent buffers, or refuses with 8 where one is too small.
@@ -134,40 +106,34 @@ fn place(
     names: &mut [u8],
     values: &mut [u8],
     store: &mut [u8],
-    e: Editor,
-) -> Loaded
-    requires { opened file.now ≡ Holds held }
-    ensures { loaded result names.new values.new store.new ≡ placed file.now (state names.old values.old store.old e) }
+) -> Result<Editor, Refusal>
+    requires { opened file.now ≡ Ok held }
+    ensures { (e : Editor) → loaded e result names.new values.new store.new ≡ placed file.now (state names.old values.old store.old e) }
 {
     let names_end = HEAD + held.name_bytes;
     let values_at = names_end + 1;
     let value_bytes = 8 * held.name_count;
     let lines_at = values_at + value_bytes;
     let lines_end = lines_at + held.used;
-    if names.len() < held.name_bytes {
-        return not_loaded(8, e);
-    }
-    if values.len() < value_bytes {
-        return not_loaded(8, e);
-    }
-    if room_of(store) < held.used {
-        return not_loaded(8, e);
+    if names.len() < held.name_bytes || values.len() < value_bytes || room_of(store) < held.used {
+        return Err(Refusal::NoRoom);
     }
     copy(names, 0, &file[HEAD..names_end]);
     copy(values, 0, &file[values_at..lines_at]);
     copy(store, 0, &file[lines_at..lines_end]);
-    Loaded {
-        number: 0,
-        editor: held,
-    }
+    Ok(held)
 }
 
-// Reads a file into lent buffers, whatever they and the record held, or refuses it with 12, 13, 1 or 8 and changes nothing.
-pub fn load(file: &[u8], names: &mut [u8], values: &mut [u8], store: &mut [u8], e: Editor) -> Loaded
-    ensures { loaded result names.new values.new store.new ≡ load-call file.now (state names.old values.old store.old e) }
+// Reads a file into lent buffers, whatever they held, and returns the record of its program; or refuses it with 12, 13, 1 or 8 and changes nothing. The caller's
+// record is then as it was.
+pub fn load(
+    file: &[u8],
+    names: &mut [u8],
+    values: &mut [u8],
+    store: &mut [u8],
+) -> Result<Editor, Refusal>
+    ensures { (e : Editor) → loaded e result names.new values.new store.new ≡ load-call file.now (state names.old values.old store.old e) }
 {
-    match open(file) {
-        Opened::Refused(number) => not_loaded(number, e),
-        Opened::Holds(held) => place(file, held, names, values, store, e),
-    }
+    let held = open(file)?;
+    place(file, held, names, values, store)
 }
