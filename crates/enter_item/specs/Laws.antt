@@ -1,5 +1,5 @@
 -- How the promises of readers make the promise of the reader that calls them.
-use Rattle.std.specs.Prelude.{ℕ, zero, suc, pred, ◌+◌, ◌-◌, ◌≡◌, refl, Bool, true, false, not, List, [], ◌∷◌, ◌++◌, eqb, length, drop}
+use Rattle.std.specs.Prelude.{ℕ, zero, suc, pred, ◌+◌, ◌-◌, ◌≡◌, refl, Bool, true, false, not, List, [], ◌∷◌, ◌++◌, eqb, length, drop, Ok, Err}
 use Rattle.std.proofs.Common.{add-zero, arith, subst, sym, ap, ◌∙◌, append-nil, length-append}
 use Rattle.std.proofs.lemmas.List.Edits.{sets}
 use Rattle.paper.specs.Bytes.{pick, blank?}
@@ -17,11 +17,12 @@ use Rattle.enter_item.specs.Draft.{draft, still}
 use Rattle.enter_item.specs.NameLaws.{new_append, new_none}
 use Rattle.enter_item.specs.DraftLaws.{draft_append, still_append, still_more, still_none}
 use Rattle.enter_item.specs.ClassLaws.{in_range_by_class}
-use Rattle.enter_item.specs.Says.{Env, Mem, known, items_at, taken, Asks, Next, item_of, Marks, Wrote, Took, Got, Stop, Says, Counts}
+use Rattle.enter_item.specs.Says.{Env, Mem, Answer, refused, known, items_at, taken, Asks, Next, item_of, Marks, Wrote, Took, Got, Stop, Says, Counts}
 use Rattle.enter_item.specs.ExpectLaws.{no_done}
 use Rattle.enter_item.specs.declared.Spot.{Spot}
-use Rattle.enter_item.specs.declared.Step.{Step}
-use Rattle.enter_item.specs.declared.Step.TheVariants.{Done, Refused}
+use Rattle.refusals.specs.Numbers.{number_of}
+use Rattle.refusals.specs.declared.Refusal.TheVariants.{NoReading}
+use Rattle.refusals.specs.declared.RefusedAt.{RefusedAt}
 
 -- ---- bytes written one after another
 
@@ -138,24 +139,24 @@ stop_first {fs} {E} {q} gs a = record {
 -- ---- what a reader says
 
 -- a reader, and then the rest
-pub says_then : {fs gs : List ℕ} {E : Env} {q q₁ : Spot} {m m₁ m₂ : Mem} {r : Step} → Got fs E q m q₁ m₁ → Says gs E q₁ m₁ m₂ r → Says (fs ++ gs) E q m m₂ r
-says_then a b = record { got = λ z e. got_then a (b.got z e); stop = λ k p e. stop_then a (b.stop k p e) }
+pub says_then : {fs gs : List ℕ} {E : Env} {q q₁ : Spot} {m m₁ m₂ : Mem} {r : Answer} → Got fs E q m q₁ m₁ → Says gs E q₁ m₁ m₂ r → Says (fs ++ gs) E q m m₂ r
+says_then a b = record { got = λ z e. got_then a (b.got z e); stop = λ x e. stop_then a (b.stop x e) }
 
-pub says_done : {fs : List ℕ} {E : Env} {q q' : Spot} {m m' : Mem} → Got fs E q m q' m' → Says fs E q m m' (Done q')
+pub says_done : {fs : List ℕ} {E : Env} {q q' : Spot} {m m' : Mem} → Got fs E q m q' m' → Says fs E q m m' (Ok q')
 says_done {fs} {E} {q} {q'} {m} {m'} a = record {
   got = λ z e. let h : q' ≡ z = cc in subst (λ (x : Spot). Got fs E q m x m') h a;
-  stop = λ k p e. no_done e;
+  stop = λ x e. no_done e;
 }
 
-pub says_stop : {fs : List ℕ} {E : Env} {q : Spot} {m m' : Mem} {k p : ℕ} → Stop fs E q m k p m' → Says fs E q m m' (Refused k p)
-says_stop {fs} {E} {q} {m} {m'} {k} {p} a = record {
+pub says_stop : {fs : List ℕ} {E : Env} {q : Spot} {m m' : Mem} {x : RefusedAt} → Stop fs E q m (number_of x.refusal) x.place m' → Says fs E q m m' (Err x)
+says_stop {fs} {E} {q} {m} {m'} {x} a = record {
   got = λ z e. no_done (sym e);
-  stop = λ k' p' e. let h : k ≡ k' = cc in let i : p ≡ p' = cc in subst (λ (x : ℕ). Stop fs E q m k' x m') i (subst (λ (x : ℕ). Stop fs E q m x p m') h a);
+  stop = λ y e. let h : x ≡ y = cc in subst (λ (z : RefusedAt). Stop fs E q m (number_of z.refusal) z.place m') h a;
 }
 
 -- a refusal of the first reader is the refusal of the whole
-pub says_first : {fs : List ℕ} {E : Env} {q : Spot} {m m' : Mem} {r : Step} {k p : ℕ} (gs : List ℕ) → Says fs E q m m' r → r ≡ Refused k p → Says (fs ++ gs) E q m m' (Refused k p)
-says_first {k = k} {p = p} gs a e = says_stop (stop_first gs (a.stop k p e))
+pub says_first : {fs : List ℕ} {E : Env} {q : Spot} {m m' : Mem} {r : Answer} {x : RefusedAt} (gs : List ℕ) → Says fs E q m m' r → r ≡ Err x → Says (fs ++ gs) E q m m' (Err x)
+says_first {x = x} gs a e = says_stop (stop_first gs (a.stop x e))
 
 -- ---- one frame
 
@@ -258,18 +259,18 @@ unfolding look_in_range look_item
 row_refuse f k i l = ap (if_in_range (not (out_of_range? i.token))) l ∙ if_refuse (not (out_of_range? i.token)) k
 
 -- an item is taken, and then the frames that its row wants are read
-pub takes : {E : Env} {q q₁ : Spot} {m m₁ m₂ : Mem} {e : Gives} {i : Item} {r : Step} (f c : ℕ) (p : List ℕ) → look f c ≡ take e p → eqb c number ≡ false → class i.token ≡ c
+pub takes : {E : Env} {q q₁ : Spot} {m m₁ m₂ : Mem} {e : Gives} {i : Item} {r : Answer} (f c : ℕ) (p : List ℕ) → look f c ≡ take e p → eqb c number ≡ false → class i.token ≡ c
     → Took E false q m e i false q₁ m₁ → Says p E q₁ m₁ m₂ r → Says (f ∷ []) E q m m₂ r
 takes {E} {q} {q₁} {m} {m₁} {m₂} {e} {i} {r} f c p l z h t b =
     let w = row_take f c e p i h l z in
-    record { got = λ x y. took_got w t (b.got x y); stop = λ k x y. took_stop w t (b.stop k x y) }
+    record { got = λ x y. took_got w t (b.got x y); stop = λ x y. took_stop w t (b.stop x y) }
 
 -- an item is taken, and nothing is wanted
 pub takes_last : {E : Env} {q q₁ : Spot} {m m₁ : Mem} {e : Gives} {i : Item} (f c : ℕ) → look f c ≡ take e [] → eqb c number ≡ false → class i.token ≡ c
-    → Took E false q m e i false q₁ m₁ → Says (f ∷ []) E q m m₁ (Done q₁)
+    → Took E false q m e i false q₁ m₁ → Says (f ∷ []) E q m m₁ (Ok q₁)
 takes_last f c l z h t = takes f c [] l z h t (says_done (got_none t.pass.asks))
 
-pub leaves : {E : Env} {q : Spot} {t : Token} {a e : ℕ} {m : Mem} (f : ℕ) → Asks E q m → Next E false q.at t a e → look f (class t) ≡ leave → Says (f ∷ []) E q m m (Done q)
+pub leaves : {E : Env} {q : Spot} {t : Token} {a e : ℕ} {m : Mem} (f : ℕ) → Asks E q m → Next E false q.at t a e → look f (class t) ≡ leave → Says (f ∷ []) E q m m (Ok q)
 unfolding tokens_of
 leaves {E} {q} {t} {a} {e} {m} f g s l =
     let i = item_of E t a e in
@@ -282,27 +283,27 @@ leaves {E} {q} {t} {a} {e} {m} f g s l =
       plain = still_none;
     })
 
-refused_at : {E : Env} {q : Spot} {t : Token} {a e p : ℕ} (m : Mem) (f k : ℕ) → Next E false q.at t a e → look_in_range f (item_of E t a e) ≡ refuse k → p ≡ E.from + a → Stop (f ∷ []) E q m k p m
+pub refused_at : {E : Env} {q : Spot} {t : Token} {a e p : ℕ} (m : Mem) (f k : ℕ) → Next E false q.at t a e → look_in_range f (item_of E t a e) ≡ refuse k → p ≡ E.from + a → Stop (f ∷ []) E q m k p m
 unfolding tokens_of
 refused_at {E} {q} {t} {a} {e} {p} m f k s l w =
     record { ts = []; item = item_of E t a e; rest = s.rest; ran = ap (read look_in_range (f ∷ [])) s.here ∙ read_refuse f k (item_of E t a e) s.rest l; place = w; marks = marks_none E q m }
 
-pub refuses : {E : Env} {q : Spot} {t : Token} {a e p : ℕ} (f : ℕ) (m : Mem) → Next E false q.at t a e → look f (class t) ≡ refuse 4 → p ≡ E.from + a → Says (f ∷ []) E q m m (Refused 4 p)
+pub refuses : {E : Env} {q : Spot} {t : Token} {a e p : ℕ} (f : ℕ) (m : Mem) → Next E false q.at t a e → look f (class t) ≡ refuse 4 → p ≡ E.from + a → Says (f ∷ []) E q m m (refused NoReading p)
 refuses {E} {q} {t} {a} {e} {p} f m s l w = says_stop (refused_at m f 4 s (row_refuse f 4 (item_of E t a e) l) w)
 
 read_both : (f g : ℕ) (e : Gives) (p u : List ℕ) (i : Item) (is : List Item) → look_in_range f i ≡ take e (p ++ u) → look_in_range g i ≡ take e p
     → read look_in_range (f ∷ []) (i ∷ is) ≡ read look_in_range (g ∷ u) (i ∷ is)
 read_both f g e p u i is h k = read_take f e (p ++ u) i is h ∙ sym (read_front g e p u i is k)
 
-says_same : {fs gs : List ℕ} {E : Env} {q : Spot} {m m' : Mem} {r : Step} → read look_in_range fs (items_at E false q.at) ≡ read look_in_range gs (items_at E false q.at)
+says_same : {fs gs : List ℕ} {E : Env} {q : Spot} {m m' : Mem} {r : Answer} → read look_in_range fs (items_at E false q.at) ≡ read look_in_range gs (items_at E false q.at)
     → Says gs E q m m' r → Says fs E q m m' r
 says_same same a = record {
   got = λ x y. let b = a.got x y in record { ts = b.ts; ran = same ∙ b.ran; wrote = b.wrote; asks = b.asks; ahead = b.ahead; plain = b.plain };
-  stop = λ k x y. let b = a.stop k x y in record { ts = b.ts; item = b.item; rest = b.rest; ran = same ∙ b.ran; place = b.place; marks = b.marks };
+  stop = λ x y. let b = a.stop x y in record { ts = b.ts; item = b.item; rest = b.rest; ran = same ∙ b.ran; place = b.place; marks = b.marks };
 }
 
 -- two frames that take an item of a class in the same way, but for what follows
-pub alike : {E : Env} {q : Spot} {t : Token} {a x : ℕ} {m m' : Mem} {r : Step} (f g c : ℕ) (e : Gives) (p u : List ℕ) → look f c ≡ take e (p ++ u) → look g c ≡ take e p → eqb c number ≡ false
+pub alike : {E : Env} {q : Spot} {t : Token} {a x : ℕ} {m m' : Mem} {r : Answer} (f g c : ℕ) (e : Gives) (p u : List ℕ) → look f c ≡ take e (p ++ u) → look g c ≡ take e p → eqb c number ≡ false
     → Next E false q.at t a x → class t ≡ c → Says (g ∷ u) E q m m' r → Says (f ∷ []) E q m m' r
 alike {E} {q} {t} {a} {x} {m} {m'} {r} f g c e p u lf lg z s h b =
     let i = item_of E t a x in
@@ -312,13 +313,13 @@ alike {E} {q} {t} {a} {x} {m} {m'} {r} f g c e p u lf lg z s h b =
     b
 
 -- a constant: in range it is taken, else refused with 5
-pub counts : {E : Env} {q : Spot} {t : Token} {a e : ℕ} {m m' : Mem} {r : Step} (f : ℕ) → look f number ≡ take itself [] → Next E false q.at t a e → class t ≡ number
+pub counts : {E : Env} {q : Spot} {t : Token} {a e : ℕ} {m m' : Mem} {r : Answer} (f : ℕ) → look f number ≡ take itself [] → Next E false q.at t a e → class t ≡ number
     → Counts E false t a e q m m' r → Says (f ∷ []) E q m m' r
 unfolding given
 counts {E} {q} {t} {a} {e} {m} {m'} {r} f l s h x = record {
   got = λ q' y. let z = x.inside q' y in took_got (row_near f itself [] (item_of E t a e) h l z.near) z.took (got_none z.took.pass.asks);
-  stop = λ k p y. let z = x.outside k p y in
-      subst (λ (n : Mem). Stop (f ∷ []) E q m k p n) (sym z.kept)
-      (subst (λ (n : ℕ). Stop (f ∷ []) E q m n p m) (sym z.number)
+  stop = λ k y. let z = x.outside k y in
+      subst (λ (n : Mem). Stop (f ∷ []) E q m (number_of k.refusal) k.place n) (sym z.kept)
+      (subst (λ (n : ℕ). Stop (f ∷ []) E q m n k.place m) (sym z.number)
       (refused_at m f 5 s (row_far f itself [] (item_of E t a e) h l z.far) z.place));
 }

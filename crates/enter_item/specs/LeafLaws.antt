@@ -1,5 +1,5 @@
 -- Variables, constants and quoted strings: what is written of them.
-use Rattle.std.specs.Prelude.{ℕ, suc, ◌+◌, ◌*◌, ◌-◌, ◌%◌, ◌^◌, ◌≤◌, ◌<◌, ◌≡◌, refl, Bool, true, false, List, [], ◌∷◌, ◌++◌, eqb, length, take, drop, set}
+use Rattle.std.specs.Prelude.{ℕ, suc, ◌+◌, ◌*◌, ◌-◌, ◌%◌, ◌^◌, ◌≤◌, ◌<◌, ◌≡◌, refl, Bool, true, false, List, [], ◌∷◌, ◌++◌, eqb, length, take, drop, set, Option, Some, None, Ok}
 use Rattle.std.proofs.Common.{mod-eq_of_lt, arith, subst, sym, ap, ◌∙◌, append-nil, append_assoc, ne_eqb, lt-ltb, le-ltb, length-append, length-drop, drop-drop, length-take-le}
 use Rattle.std.proofs.lemmas.List.Edits.{sets}
 use Rattle.std.proofs.Math.Seq.{length-sets, take-length}
@@ -13,10 +13,9 @@ use Rattle.paper.specs.Grammar.{itself, given}
 use Rattle.paper.specs.Line.{number_bytes, variable_bytes, begins?}
 use Rattle.laws.specs.Names.{names_added, name_added, add_append, closed?, closed_append, closed_names, plain_name, names_of_more, length_marked}
 use Rattle.buffers.specs.Sets.{written as read_back}
-use Rattle.constant_bytes.specs.Numerals.{Written, digits_in, up, down, six_if, zeros_if, six_of, numeral_six, token_of_six}
+use Rattle.constant_bytes.specs.Numerals.{Written, digits_in, up, down, six_if, six_of, numeral_six, token_of_six}
 use Rattle.constant_bytes.specs.Laws.{six_token}
 use Rattle.constant_bytes.specs.declared.Numeral.{Numeral}
-use Rattle.constant_bytes.specs.declared.Six.{Six}
 use Rattle.enter_scan.specs.Sees.{Sees, token_at}
 use Rattle.enter_scan.proofs.ScanLaws.{rest_part}
 use Rattle.enter_scan.specs.declared.Item.{Item as Found}
@@ -25,12 +24,14 @@ use Rattle.names_numbered.specs.declared.Numbered.{Numbered}
 use Rattle.enter_item.specs.Draft.{low, lows, written, after, draft}
 use Rattle.enter_item.specs.NameLaws.{new_is}
 use Rattle.enter_item.specs.KindLaws.{name_length, array?, numeral_of, quoted_length, IsName, is_name, is_number, is_quoted}
-use Rattle.enter_item.specs.Says.{Env, env, Mem, mem, spot, known, Asks, item_of, Wrote, Took, VariableWritten, Counts}
+use Rattle.enter_item.specs.Says.{Env, env, Mem, mem, refused, spot, known, Asks, item_of, Wrote, Took, VariableWritten, Outside, Counts}
 use Rattle.enter_item.specs.SeesLaws.{next_of}
 use Rattle.enter_item.specs.TookLaws.{calm?, calm_end, next_calm, passed_bytes}
 use Rattle.enter_item.specs.ExpectLaws.{no_done}
 use Rattle.enter_item.specs.declared.Spot.{Spot}
-use Rattle.enter_item.specs.declared.Step.TheVariants.{Done, Refused}
+use Rattle.refusals.specs.Numbers.{number_of as refusal_number}
+use Rattle.refusals.specs.declared.Refusal.TheVariants.{OutOfRange}
+use Rattle.refusals.specs.declared.RefusedAt.{RefusedAt}
 
 -- ---- names
 
@@ -240,14 +241,14 @@ six_length v u d = go (eqb v 0)
     go true = refl
     go false = refl
 
-if_length : (b : Bool) (l : List ℕ) → length l ≡ 6 → length (six_if b l).bytes ≡ 6
-unfolding six_if zeros_if zero_bytes
-if_length true l h = h
-if_length false l h = refl
+if_length : (b : Bool) (l x : List ℕ) → length l ≡ 6 → six_if b l ≡ Some x → length x ≡ 6
+unfolding six_if
+if_length true l x h e = let i : l ≡ x = cc in ap length (sym i) ∙ h
+if_length false l x h e = let z : ◌≡◌ {A = ℕ} 0 1 = cc in absurd (omega arith)
 
-bytes_length : (s : List ℕ) (n : Numeral) → length (numeral_six s n).bytes ≡ 6
+bytes_length : (s : List ℕ) (n : Numeral) (x : List ℕ) → numeral_six s n ≡ Some x → length x ≡ 6
 unfolding numeral_six six_of
-bytes_length s n = if_length _ (six (value 0 (digits_in s n)) (up n) (down n)) (six_length (value 0 (digits_in s n)) (up n) (down n))
+bytes_length s n x e = if_length _ (six (value 0 (digits_in s n)) (up n) (down n)) x (six_length (value 0 (digits_in s n)) (up n) (down n)) e
 
 constant_draft : (ks : List (List ℕ)) (t : Token) (b : List ℕ) → t ≡ constant b → draft ks (t ∷ []) ≡ 0x0e ∷ b
 unfolding draft written begins?
@@ -269,58 +270,61 @@ far_token : (t : Token) → t ≡ out_of_range → out_of_range? t ≡ true
 unfolding out_of_range?
 far_token t e = ap out_of_range? e
 
-six_in : (x : Six) → x.in_range ≡ true → token_of_six x ≡ constant x.bytes
+six_in : (x : Option (List ℕ)) (b : List ℕ) → x ≡ Some b → token_of_six x ≡ constant b
 unfolding token_of_six
-six_in x h = rw h
+six_in x b h = rw h
 
-six_out : (x : Six) → x.in_range ≡ false → token_of_six x ≡ out_of_range
+six_out : (x : Option (List ℕ)) → x ≡ None → token_of_six x ≡ out_of_range
 unfolding token_of_six
 six_out x h = rw h
 
 -- a number's token is that of its six bytes
-number_token : {s : List ℕ} {at : ℕ} {b : Bool} {it : Found} {x : Six} → Sees s at b it → class (token_at s b it) ≡ 3 → x ≡ numeral_six (drop it.at s) (numeral_of it.kind) → token_at s b it ≡ token_of_six x
+number_token : {s : List ℕ} {at : ℕ} {b : Bool} {it : Found} {x : Option (List ℕ)} → Sees s at b it → class (token_at s b it) ≡ 3 → x ≡ numeral_six (drop it.at s) (numeral_of it.kind) → token_at s b it ≡ token_of_six x
 number_token {s} {at} {b} {it} {x} v h e =
     let y = is_number it.kind (drop it.at s) (it.end - it.at) b v.holds (sym v.classed ∙ h) in
     y.token ∙ sym (six_token (drop it.at s) (numeral_of it.kind)) ∙ ap token_of_six (sym e)
 
 -- in range: its six bytes were written
-pub counts_inside : {s names : List ℕ} {o : ℕ} {q : Spot} {m : Mem} {it : Found} {x : Six} {l₁ new : List ℕ} (b : Bool) → Asks (env s o names) q m → Sees s q.at b it → class (token_at s b it) ≡ 3
-    → x ≡ numeral_six (drop it.at s) (numeral_of it.kind) → x.in_range ≡ true → l₁ ≡ set m.line q.written 0x0e → new ≡ sets l₁ (q.written + 1) x.bytes
-    → Counts (env s o names) b (token_at s b it) it.at it.end q m (mem new m.fresh) (Done (spot it.end (q.written + 7) q.named))
+pub counts_inside : {s names : List ℕ} {o : ℕ} {q : Spot} {m : Mem} {it : Found} {x : Option (List ℕ)} {six l₁ new : List ℕ} (b : Bool) → Asks (env s o names) q m → Sees s q.at b it → class (token_at s b it) ≡ 3
+    → x ≡ numeral_six (drop it.at s) (numeral_of it.kind) → x ≡ Some six → l₁ ≡ set m.line q.written 0x0e → new ≡ sets l₁ (q.written + 1) six
+    → Counts (env s o names) b (token_at s b it) it.at it.end q m (mem new m.fresh) (Ok (spot it.end (q.written + 7) q.named))
 unfolding given
-counts_inside {s} {names} {o} {q} {m} {it} {x} {l₁} {new} b g v h e r p₁ p₂ =
+counts_inside {s} {names} {o} {q} {m} {it} {x} {six} {l₁} {new} b g v h e r p₁ p₂ =
     let E = env s o names in
     let tk = token_at s b it in
-    let t : tk ≡ constant x.bytes = number_token v h e ∙ six_in x r in
+    let t : tk ≡ constant six = number_token v h e ∙ six_in x six r in
     let y = next_of v o names in
     let cm : calm? (class tk) ≡ true = ap calm? h in
-    let len : length x.bytes ≡ 6 = ap (λ (z : Six). length z.bytes) e ∙ bytes_length (drop it.at s) (numeral_of it.kind) in
+    let len : length six ≡ 6 = bytes_length (drop it.at s) (numeral_of it.kind) six (sym e ∙ r) in
     let w1 : q.written + 1 ≡ suc q.written = omega arith in
-    let wrote : new ≡ sets m.line q.written (0x0e ∷ x.bytes) = p₂ ∙ ap (λ (l : List ℕ). sets l (q.written + 1) x.bytes) p₁ ∙ ap (λ (n : ℕ). sets (set m.line q.written 0x0e) n x.bytes) w1 in
+    let wrote : new ≡ sets m.line q.written (0x0e ∷ six) = p₂ ∙ ap (λ (l : List ℕ). sets l (q.written + 1) six) p₁ ∙ ap (λ (n : ℕ). sets (set m.line q.written 0x0e) n six) w1 in
     let mv : it.at < it.end = v.moves (calm_end (class tk) cm) in
-    let few : length (0x0e ∷ x.bytes) ≤ 7 * (it.end - it.at) = omega (arith, len) in
+    let few : length (0x0e ∷ six) ≤ 7 * (it.end - it.at) = omega (arith, len) in
     let here = next_calm y cm in
-    let stands : spot it.end (q.written + length (0x0e ∷ x.bytes)) q.named ≡ spot it.end (q.written + 7) q.named =
-    let z : q.written + length (0x0e ∷ x.bytes) ≡ q.written + 7 = omega (arith, len) in ap (λ (n : ℕ). spot it.end n q.named) z in
+    let stands : spot it.end (q.written + length (0x0e ∷ six)) q.named ≡ spot it.end (q.written + 7) q.named =
+    let z : q.written + length (0x0e ∷ six) ≡ q.written + 7 = omega (arith, len) in ap (λ (n : ℕ). spot it.end n q.named) z in
     let took : Took E b q m itself (item_of E tk it.at it.end) false (spot it.end (q.written + 7) q.named) (mem new m.fresh) =
     subst (λ (z : Spot). Took E b q m itself (item_of E tk it.at it.end) false z (mem new m.fresh)) stands
     (record {
-      pass = passed_bytes itself (0x0e ∷ x.bytes) g y here mv (λ ks. constant_draft ks tk x.bytes t) (λ ks. constant_after ks tk x.bytes t) wrote few;
-      plain = constant_plain tk x.bytes t;
+      pass = passed_bytes itself (0x0e ∷ six) g y here mv (λ ks. constant_draft ks tk six t) (λ ks. constant_after ks tk six t) wrote few;
+      plain = constant_plain tk six t;
     }) in
     record {
       inside = λ z f.
           let i : spot it.end (q.written + 7) q.named ≡ z = cc in
-          record { near = constant_near tk x.bytes t; took = subst (λ (u : Spot). Took E b q m itself (item_of E tk it.at it.end) false u (mem new m.fresh)) i took };
-      outside = λ k p f. no_done f;
+          record { near = constant_near tk six t; took = subst (λ (u : Spot). Took E b q m itself (item_of E tk it.at it.end) false u (mem new m.fresh)) i took };
+      outside = λ k f. no_done f;
     }
 
--- out of range: refusal 5
-pub counts_outside : {s names : List ℕ} {o p : ℕ} {q : Spot} {it : Found} {x : Six} (b : Bool) (m : Mem) → Sees s q.at b it → class (token_at s b it) ≡ 3
-    → x ≡ numeral_six (drop it.at s) (numeral_of it.kind) → x.in_range ≡ false → p ≡ o + it.at → Counts (env s o names) b (token_at s b it) it.at it.end q m m (Refused 5 p)
+-- out of range: refused at its place
+pub counts_outside : {s names : List ℕ} {o p : ℕ} {q : Spot} {it : Found} {x : Option (List ℕ)} (b : Bool) (m : Mem) → Sees s q.at b it → class (token_at s b it) ≡ 3
+    → x ≡ numeral_six (drop it.at s) (numeral_of it.kind) → x ≡ None → p ≡ o + it.at → Counts (env s o names) b (token_at s b it) it.at it.end q m m (refused OutOfRange p)
 counts_outside {s} {names} {o} {p} {q} {it} {x} b m v h e r w = record {
   inside = λ z f. no_done (sym f);
-  outside = λ k z f. let i : 5 ≡ k = cc in let j : p ≡ z = cc in record { number = sym i; far = far_token (token_at s b it) (number_token v h e ∙ six_out x r); place = sym j ∙ w; kept = refl };
+  outside = λ k f.
+      let i : record { refusal = OutOfRange; place = p } ≡ k = cc in
+      subst (λ (z : RefusedAt). Outside (env s o names) (token_at s b it) it.at m (refusal_number z.refusal) z.place m) i
+      (record { number = refl; far = far_token (token_at s b it) (number_token v h e ∙ six_out x r); place = w; kept = refl });
 }
 
 -- ---- the parts of the text that are handed on
@@ -343,5 +347,5 @@ number_written {s} {at} {b} {it} {n} v h e =
     let y = is_number it.kind (drop it.at s) (it.end - it.at) b v.holds (sym v.classed ∙ h) in
     subst (λ (l : List ℕ). Written l n) (sym (rest_part s it.at)) (subst (λ (z : Numeral). Written (drop it.at s) z) (sym e) y.written)
 
-pub six_part : {n : Numeral} {x : Six} (s : List ℕ) (it : Found) → n ≡ numeral_of it.kind → x ≡ numeral_six (take (length s - it.at) (drop it.at s)) n → x ≡ numeral_six (drop it.at s) (numeral_of it.kind)
+pub six_part : {n : Numeral} {x : Option (List ℕ)} (s : List ℕ) (it : Found) → n ≡ numeral_of it.kind → x ≡ numeral_six (take (length s - it.at) (drop it.at s)) n → x ≡ numeral_six (drop it.at s) (numeral_of it.kind)
 six_part {n} {x} s it e f = f ∙ ap (λ (l : List ℕ). numeral_six l n) (rest_part s it.at) ∙ ap (numeral_six (drop it.at s)) e

@@ -1,5 +1,5 @@
 -- What a reader asks and what it says: the run of its frames over the items from its place on, what it wrote, and where it stands then.
-use Rattle.std.specs.Prelude.{ℕ, ◌+◌, ◌*◌, ◌-◌, ◌≤◌, ◌<◌, ◌≡◌, Bool, true, false, List, [], ◌∷◌, ◌++◌, length, take, drop, set}
+use Rattle.std.specs.Prelude.{ℕ, ◌+◌, ◌*◌, ◌-◌, ◌≤◌, ◌<◌, ◌≡◌, Bool, true, false, List, [], ◌∷◌, ◌++◌, length, take, drop, set, Result, Ok, Err}
 use Rattle.std.proofs.lemmas.List.Edits.{sets}
 use Rattle.paper.specs.Classes.{line_end, remark}
 use Rattle.paper.specs.Tokens.{Token, class, out_of_range?}
@@ -11,9 +11,10 @@ use Rattle.paper.specs.Line.{variable_bytes, begins?}
 use Rattle.paper.specs.WellFormed.{tokens_of}
 use Rattle.laws.specs.Names.{names_added, closed?}
 use Rattle.enter_item.specs.Draft.{lows, draft, still}
+use Rattle.refusals.specs.Numbers.{number_of as refusal_number}
+use Rattle.refusals.specs.declared.Refusal.{Refusal}
+use Rattle.refusals.specs.declared.RefusedAt.{RefusedAt}
 use Rattle.enter_item.specs.declared.Spot.{Spot}
-use Rattle.enter_item.specs.declared.Step.{Step}
-use Rattle.enter_item.specs.declared.Step.TheVariants.{Done, Refused}
 
 -- what does not change: the part of the text and where it stands in it, and the bytes of the names known before the line
 pub record Env : Type 0 where
@@ -31,6 +32,13 @@ pub record Mem : Type 0 where
 
 abbrev pub mem : List ℕ → List ℕ → Mem
 mem a b = record { line = a; fresh = b }
+
+-- what a reader answers: where it stands after what it read; or a refusal and its place in the whole text
+abbrev pub Answer : Type 0
+Answer = Result Spot RefusedAt
+
+abbrev pub refused : Refusal → ℕ → Answer
+refused k p = Err (record { refusal = k; place = p })
 
 abbrev pub spot : ℕ → ℕ → ℕ → Spot
 spot a w n = record { at = a; written = w; named = n }
@@ -115,9 +123,9 @@ pub record Stop (fs : List ℕ) (E : Env) (q : Spot) (m : Mem) (k p : ℕ) (m' :
   pub marks : Marks E q m (tokens_of ts) m'
 
 -- what a reader of the frames fs says
-pub record Says (fs : List ℕ) (E : Env) (q : Spot) (m m' : Mem) (r : Step) : Type 0 where
-  pub got : (q' : Spot) → r ≡ Done q' → Got fs E q m q' m'
-  pub stop : (k p : ℕ) → r ≡ Refused k p → Stop fs E q m k p m'
+pub record Says (fs : List ℕ) (E : Env) (q : Spot) (m m' : Mem) (r : Answer) : Type 0 where
+  pub got : (q' : Spot) → r ≡ Ok q' → Got fs E q m q' m'
+  pub stop : (x : RefusedAt) → r ≡ Err x → Stop fs E q m (refusal_number x.refusal) x.place m'
 
 -- one item of the class c is expected, and written as the operator b
 pub record Hit (c b : ℕ) (E : Env) (q : Spot) (old new : List ℕ) (q' : Spot) : Type 0 where
@@ -140,9 +148,9 @@ pub record Miss (c : ℕ) (E : Env) (q : Spot) (old new : List ℕ) (k p : ℕ) 
   pub place : p ≡ E.from + a
   pub kept : new ≡ old
 
-pub record Expects (c b : ℕ) (E : Env) (q : Spot) (old new : List ℕ) (r : Step) : Type 0 where
-  pub hit : (q' : Spot) → r ≡ Done q' → Hit c b E q old new q'
-  pub miss : (k p : ℕ) → r ≡ Refused k p → Miss c E q old new k p
+pub record Expects (c b : ℕ) (E : Env) (q : Spot) (old new : List ℕ) (r : Answer) : Type 0 where
+  pub hit : (q' : Spot) → r ≡ Ok q' → Hit c b E q old new q'
+  pub miss : (x : RefusedAt) → r ≡ Err x → Miss c E q old new (refusal_number x.refusal) x.place
 
 -- The token of the variable with a number was written to a place of the line, and has so many bytes.
 pub record VariableWritten (number : ℕ) (old : List ℕ) (at : ℕ) (new : List ℕ) (r : ℕ) : Type 0 where
@@ -162,6 +170,6 @@ pub record Outside (E : Env) (t : Token) (a : ℕ) (m : Mem) (k p : ℕ) (m' : M
   pub place : p ≡ E.from + a
   pub kept : m' ≡ m
 
-pub record Counts (E : Env) (first : Bool) (t : Token) (a e : ℕ) (q : Spot) (m m' : Mem) (r : Step) : Type 0 where
-  pub inside : (q' : Spot) → r ≡ Done q' → Inside E first t a e q m q' m'
-  pub outside : (k p : ℕ) → r ≡ Refused k p → Outside E t a m k p m'
+pub record Counts (E : Env) (first : Bool) (t : Token) (a e : ℕ) (q : Spot) (m m' : Mem) (r : Answer) : Type 0 where
+  pub inside : (q' : Spot) → r ≡ Ok q' → Inside E first t a e q m q' m'
+  pub outside : (x : RefusedAt) → r ≡ Err x → Outside E t a m (refusal_number x.refusal) x.place m'

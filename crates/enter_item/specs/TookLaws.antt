@@ -1,5 +1,5 @@
 -- Single items: passed, and written as their rows give them.
-use Rattle.std.specs.Prelude.{ℕ, ◌+◌, ◌*◌, ◌-◌, ◌≤◌, ◌<◌, ◌≡◌, refl, Bool, true, false, ◌||◌, List, [], ◌∷◌, eqb, leb, ltb, length, set}
+use Rattle.std.specs.Prelude.{ℕ, ◌+◌, ◌*◌, ◌-◌, ◌≤◌, ◌<◌, ◌≡◌, refl, Bool, true, false, ◌||◌, List, [], ◌∷◌, eqb, leb, ltb, length, set, Ok, Err}
 use Rattle.std.proofs.Common.{add-zero, arith, subst, sym, ap, ◌∙◌, leb-true, ne_eqb, lt-ltb}
 use Rattle.std.proofs.lemmas.List.Edits.{sets}
 use Rattle.paper.specs.Bytes.{pick}
@@ -15,11 +15,11 @@ use Rattle.enter_item.specs.Draft.{written, after, draft}
 use Rattle.enter_item.specs.NameLaws.{new_same}
 use Rattle.tokens.specs.Same.{no_bool}
 use Rattle.enter_item.specs.ClassLaws.{own_of, operator_by_class, small_operator}
-use Rattle.enter_item.specs.Says.{Env, Mem, mem, spot, known, items_at, Asks, Next, item_of, Wrote, Passed, Took, Says, Hit, Expects}
-use Rattle.enter_item.specs.Laws.{takes_last, refuses}
+use Rattle.enter_item.specs.Says.{Env, Mem, mem, Answer, spot, known, items_at, Asks, Next, item_of, Wrote, Passed, Took, Stop, Says, Hit, Expects}
+use Rattle.enter_item.specs.Laws.{takes_last, says_stop, refused_at, row_refuse}
 use Rattle.enter_item.specs.declared.Spot.{Spot}
-use Rattle.enter_item.specs.declared.Step.{Step}
-use Rattle.enter_item.specs.declared.Step.TheVariants.{Refused}
+use Rattle.refusals.specs.Numbers.{number_of}
+use Rattle.refusals.specs.declared.RefusedAt.{RefusedAt}
 
 -- a class whose item is no end and no REM or DATA, and after which no statement position comes
 abbrev pub calm? : ℕ → Bool
@@ -184,27 +184,27 @@ pub hit_put : {c b : ℕ} {E : Env} {q q' : Spot} {m : Mem} {new : List ℕ} →
     → Took E false q m (put b) (item_of E h.t h.a h.e) false q' (mem new m.fresh)
 hit_put {c} {b} k g h = took_put c b k g h.next h.class h.wrote h.stands
 
-pub missed : {c b : ℕ} {E : Env} {q : Spot} {m : Mem} {new : List ℕ} {r₁ : Step} {k p : ℕ} (f : ℕ) → ((d : ℕ) → (d ≡ c → ⊥) → look f d ≡ refuse 4)
-    → Expects c b E q m.line new r₁ → r₁ ≡ Refused k p → Says (f ∷ []) E q m (mem new m.fresh) (Refused k p)
-missed {c} {b} {E} {q} {m} {new} {r₁} {k} {p} f l x e =
-    let h = x.miss k p e in
-    subst (λ (n : List ℕ). Says (f ∷ []) E q m (mem n m.fresh) (Refused k p)) (sym h.kept)
-    (subst (λ (n : ℕ). Says (f ∷ []) E q m m (Refused n p)) (sym h.number) (refuses f m h.next (l _ h.class) h.place))
+pub missed : {c b : ℕ} {E : Env} {q : Spot} {m : Mem} {new : List ℕ} {r₁ : Answer} {x : RefusedAt} (f : ℕ) → ((d : ℕ) → (d ≡ c → ⊥) → look f d ≡ refuse 4)
+    → Expects c b E q m.line new r₁ → r₁ ≡ Err x → Says (f ∷ []) E q m (mem new m.fresh) (Err x)
+missed {c} {b} {E} {q} {m} {new} {r₁} {x} f l h e =
+    let y = h.miss x e in
+    subst (λ (n : List ℕ). Says (f ∷ []) E q m (mem n m.fresh) (Err x)) (sym y.kept)
+    (says_stop (subst (λ (n : ℕ). Stop (f ∷ []) E q m n x.place m) (sym y.number) (refused_at m f 4 y.next (row_refuse f 4 (item_of E y.t y.a y.e) (l _ y.class)) y.place)))
 
 -- a frame that wants the symbol, and nothing after it
-expects : {c b : ℕ} {E : Env} {q : Spot} {m : Mem} {new : List ℕ} {r : Step} (f : ℕ) (g : Gives) → look f c ≡ take g [] → sign? c ≡ true → ((d : ℕ) → (d ≡ c → ⊥) → look f d ≡ refuse 4)
+expects : {c b : ℕ} {E : Env} {q : Spot} {m : Mem} {new : List ℕ} {r : Answer} (f : ℕ) (g : Gives) → look f c ≡ take g [] → sign? c ≡ true → ((d : ℕ) → (d ≡ c → ⊥) → look f d ≡ refuse 4)
     → ((q' : Spot) (h : Hit c b E q m.line new q') → Took E false q m g (item_of E h.t h.a h.e) false q' (mem new m.fresh))
     → Expects c b E q m.line new r → Says (f ∷ []) E q m (mem new m.fresh) r
 expects {c} {b} {E} {q} {m} {new} {r} f g l k o t x = record {
   got = λ q' e. let h = x.hit q' e in (takes_last f c l (sign c k).range h.class (t q' h)).got q' refl;
-  stop = λ n p e. (missed f o x e).stop n p refl;
+  stop = λ y e. (missed f o x e).stop y refl;
 }
 
-pub expects_put : {c b : ℕ} {E : Env} {q : Spot} {m : Mem} {new : List ℕ} {r : Step} (f : ℕ) → look f c ≡ take (put b) [] → sign? c ≡ true → ((d : ℕ) → (d ≡ c → ⊥) → look f d ≡ refuse 4) → Asks E q m
+pub expects_put : {c b : ℕ} {E : Env} {q : Spot} {m : Mem} {new : List ℕ} {r : Answer} (f : ℕ) → look f c ≡ take (put b) [] → sign? c ≡ true → ((d : ℕ) → (d ≡ c → ⊥) → look f d ≡ refuse 4) → Asks E q m
     → Expects c b E q m.line new r → Says (f ∷ []) E q m (mem new m.fresh) r
 expects_put {b = b} f l k o g x = expects f (put b) l k o (λ q' h. hit_put k g h) x
 
 -- the same, where no other symbol has the class
-pub expects_own : {c b : ℕ} {E : Env} {q : Spot} {m : Mem} {new : List ℕ} {r : Step} (f : ℕ) → look f c ≡ take itself [] → sign? c ≡ true → ((d : ℕ) → (d ≡ c → ⊥) → look f d ≡ refuse 4)
+pub expects_own : {c b : ℕ} {E : Env} {q : Spot} {m : Mem} {new : List ℕ} {r : Answer} (f : ℕ) → look f c ≡ take itself [] → sign? c ≡ true → ((d : ℕ) → (d ≡ c → ⊥) → look f d ≡ refuse 4)
     → ((t : Token) → class t ≡ c → b ≡ own_of t) → Asks E q m → Expects c b E q m.line new r → Says (f ∷ []) E q m (mem new m.fresh) r
 expects_own {c} f l k o s g x = expects f itself l k o (λ q' h. took_own c k g h.next h.class (s h.t h.class) h.wrote h.stands) x

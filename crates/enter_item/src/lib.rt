@@ -18,6 +18,7 @@ ghost use Rattle.enter_item.specs.TookLaws.{shifted};
 
 use enter_scan::Item;
 use names_numbered::Numbered;
+use refusals::{Refusal, RefusedAt};
 use tokens::{OperatorToken, TO_PREFIX, TO_STRINGS, class};
 
 // How much scratch the readers have for a line: as many bytes as a stored line may have.
@@ -33,19 +34,12 @@ const FIRST_LONG: usize = 128;
 
 const LONG_FORM: u8 = 0;
 
-// Where a reader stands: its place in the part, how many bytes of the line are written, and how many bytes of new names.
+// Where a reader stands, which it answers where it does not refuse: its place in the part, how many bytes of the line are written, and how many bytes of new names.
 #[derive(Clone, Copy)]
 pub struct Spot {
     pub at: usize,
     pub written: usize,
     pub named: usize,
-}
-
-// What a reader answers: where it stands after what it read; or a refusal's number and its place in the whole text.
-#[derive(Clone, Copy)]
-pub enum Step {
-    Done(Spot),
-    Refused(u8, usize),
 }
 
 // The next item, its class, and the number of its own token if it is a word or a symbol.
@@ -122,7 +116,7 @@ pub fn string_operator(t: u8) -> u8
     shifted(t, TO_STRINGS)
 }
 
-// An item of a class, written as an operator; or refusal 4.
+// Where a reader stands after an item of a class, which is written as an operator; at another item a refusal at its place: no reading.
 pub fn expect(
     part: &[u8],
     offset: usize,
@@ -130,23 +124,23 @@ pub fn expect(
     line: &mut [u8],
     wanted: u8,
     operator: OperatorToken,
-) -> Step
+) -> Result<Spot, RefusedAt>
     requires { (q.at ≤ length part.now) × (offset + length part.now ≤ 120) × (q.written ≤ 1000) }
     ensures { (n : List ℕ) → Expects wanted operator.0 (env part.now offset n) q line.old line.new result }
 {
-    let at = q.at;
-    let seen = see(part, at, false);
+    let seen = see(part, q.at, false);
     let it = seen.item;
-    let end = it.end;
     let place = offset + it.at;
-    if seen.class == wanted {
-        Step::Done(token(line, q, end, operator.0))
-    } else {
-        Step::Refused(4, place)
+    if seen.class != wanted {
+        return Err(RefusedAt {
+            refusal: Refusal::NoReading,
+            place,
+        });
     }
+    Ok(token(line, q, it.end, operator.0))
 }
 
-// A constant: its six bytes, or refusal 5.
+// Where a reader stands after a constant, whose six bytes are written; of one out of range a refusal at its place.
 pub fn constant(
     part: &[u8],
     offset: usize,
@@ -155,28 +149,24 @@ pub fn constant(
     line: &mut [u8],
     names: &[u8],
     fresh: &mut [u8],
-) -> Step
+) -> Result<Spot, RefusedAt>
     requires { (Asks (env part.now offset names.now) q (mem line.old fresh.old)) × ((b : Bool) × ((Sees part.now q.at b it) × (class (token_at part.now b it) ≡ 3))) }
     ensures { (b : Bool) → Sees part.now q.at b it → class (token_at part.now b it) ≡ 3 → Counts (env part.now offset names.now) b (token_at part.now b it) it.at it.end q (mem line.old fresh.old) (mem line.new fresh.new) result }
 {
-    let at = it.at;
-    let end = it.end;
-    let written = q.written;
-    let kind = it.kind;
-    let place = offset + at;
-    let six = constant_bytes::six_bytes(&part[at..], kinds::numeral_of(kind));
-    if six.in_range {
-        let bytes = six.bytes;
-        buffers::put(line, written, OperatorToken::NUMBER.0);
-        buffers::copy(line, written + 1, &bytes);
-        Step::Done(Spot {
-            at: end,
-            written: written + 7,
-            named: q.named,
-        })
-    } else {
-        Step::Refused(5, place)
-    }
+    let place = offset + it.at;
+    let Some(six) = constant_bytes::six_bytes(&part[it.at..], kinds::numeral_of(it.kind)) else {
+        return Err(RefusedAt {
+            refusal: Refusal::OutOfRange,
+            place,
+        });
+    };
+    buffers::put(line, q.written, OperatorToken::NUMBER.0);
+    buffers::copy(line, q.written + 1, &six);
+    Ok(Spot {
+        at: it.end,
+        written: q.written + 7,
+        named: q.named,
+    })
 }
 
 // A quoted string: its length and its bytes.

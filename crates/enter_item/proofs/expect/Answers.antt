@@ -14,7 +14,7 @@ pub token-requires : goal.token-requires
 token-requires c = c.requires.2
 
 pub returns-then-seen-wanted : goal.returns-then-seen-wanted
-returns-then-seen-wanted c = let see = c.see-seen in let token = c.token in λ n. expect_hit (see.ensures.next _ n) (sym see.ensures.class ∙ c.if-seen-wanted.true) token.ensures.0 token.ensures.1
+returns-then-seen-wanted c = let see = c.see-seen in λ n. expect_miss (see.ensures.next _ n) (λ e. c.if-seen-wanted.true (see.ensures.class ∙ e)) refl
 
-pub returns-else-seen-wanted : goal.returns-else-seen-wanted
-returns-else-seen-wanted c = let see = c.see-seen in λ n. expect_miss (see.ensures.next _ n) (λ e. c.if-seen-wanted.false (see.ensures.class ∙ e)) refl
+pub returns : goal.returns
+returns c = let see = c.see-seen in let token = c.token in λ n. expect_hit (see.ensures.next _ n) (sym see.ensures.class ∙ c.if-seen-wanted.false) token.ensures.0 token.ensures.1
