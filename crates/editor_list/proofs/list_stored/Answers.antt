@@ -8,13 +8,13 @@ returns-then-place-eq0 c =
     let args = c.args in
     not_stored (state args.names.now args.values.now args.store.now args.e) c.requires.0 args.place.number args.place c.requires.1 args.out.now c.if-place-eq0.true
 
-pub overflow_add-end : goal.overflow_add-end
-overflow_add-end c =
+pub overflow_add-line : goal.overflow_add-line
+overflow_add-line c =
     let args = c.args in
     omega (arith, lies_there (state args.names.now args.values.now args.store.now args.e) c.requires.0 args.place.number args.place c.requires.1)
 
-pub slice_bounds-list-end : goal.slice_bounds-list-end
-slice_bounds-list-end c =
+pub slice_bounds-line-end : goal.slice_bounds-line-end
+slice_bounds-line-end c =
     let args = c.args in
     omega (arith, lies_there (state args.names.now args.values.now args.store.now args.e) c.requires.0 args.place.number args.place c.requires.1)
 
