@@ -6,37 +6,8 @@ ghost use Rattle.std.proofs.Math.Seq.{paste};
 ghost use Rattle.std.proofs.lemmas.List.Edits.{sets};
 ghost use Rattle.store_gap.specs.Moves.{bytes_moved};
 
-// Moves `n` bytes at `from` down to `at`, the first of them first.
-fn move_down(s: &mut [u8], at: usize, from: usize, n: usize) -> usize
-    requires { (at ≤ from) × (from + n ≤ length s.old) }
-    ensures { (result ≡ n) × (s.new ≡ paste s.old at (drop from s.old) result) }
-{
-    let mut closed: usize = 0;
-    let mut i: usize = 0;
-    while i < n {
-        s[at + i] = s[from + i];
-        closed += 1;
-        i += 1;
-    }
-    closed
-}
-
-// Moves `n` bytes at `from` up to `at`, the last of them first.
-fn move_up(s: &mut [u8], at: usize, from: usize, n: usize) -> usize
-    requires { (from ≤ at) × (at + n ≤ length s.old) }
-    ensures { (result ≡ n) × (s.new ≡ paste s.old at (drop from s.old) result) }
-{
-    let mut opened: usize = 0;
-    let mut i = n;
-    while 0 < i {
-        i -= 1;
-        s[at + i] = s[from + i];
-        opened += 1;
-    }
-    opened
-}
-
 // How many bytes move where `new` bytes take the place of `old` ones at `at`: those after these, up to `used`, and none when the two counts are equal.
+#[tactic(auto, using(crate::specs::Moves::moves_none, crate::specs::Moves::moves_tail))]
 fn to_move(at: usize, old: usize, new: usize, used: usize) -> usize
     requires { at + old ≤ used }
     ensures { (result ≡ bytes_moved at old new used) × (result ≤ used - (at + old)) }
@@ -52,12 +23,9 @@ pub fn resize(s: &mut [u8], at: usize, old: usize, new: usize, used: usize) -> u
 {
     let from = at + old;
     let to = at + new;
-    let n = to_move(at, old, new, used);
-    if new < old {
-        move_down(s, to, from, n)
-    } else {
-        move_up(s, to, from, n)
-    }
+    let moved = to_move(at, old, new, used);
+    s.copy_within(from..from + moved, to);
+    moved
 }
 
 // Carries `n` bytes at `from` down to `to`: the gap between the two closes.
