@@ -7,19 +7,18 @@ use Rattle.paper.specs.Items.{Item}
 use Rattle.paper.specs.Machine.{take}
 use Rattle.paper.specs.Frames.{want_operand, want_more_terms}
 use Rattle.paper.specs.Grammar.{Gives, itself, look}
-use Rattle.enter_item.specs.Says.{Env, Mem, Asks, Took, Got, Says}
+use Rattle.enter_item.specs.Says.{Env, Mem, Answer, Asks, Took, Got, Says}
 use Rattle.enter_item.specs.Tests.{joins?}
 use Rattle.enter_item.specs.Laws.{says_then, takes}
 use Rattle.enter_item.specs.TookLaws.{sign}
 use Rattle.enter_item.specs.Rows.{more_row, joins_sign}
 use Rattle.enter_item.specs.declared.Spot.{Spot}
-use Rattle.enter_item.specs.declared.Step.{Step}
 
 -- the frames fs were wanted at q₀, and so much was read that the same frames are wanted at q
 pub record Onward (fs : List ℕ) (E : Env) (q₀ : Spot) (m₀ : Mem) (q : Spot) (m : Mem) : Type 0 where
   pub asks : Asks E q m
   pub ahead : q₀.at ≤ q.at
-  pub goes : (n : Mem) (r : Step) → Says fs E q m n r → Says fs E q₀ m₀ n r
+  pub goes : (n : Mem) (r : Answer) → Says fs E q m n r → Says fs E q₀ m₀ n r
 
 pub onward_first : {fs : List ℕ} {E : Env} {q : Spot} {m : Mem} → Asks E q m → Onward fs E q m q m
 onward_first a = record { asks = a; ahead = omega arith; goes = λ n r b. b }

@@ -9,9 +9,10 @@ ghost use Rattle.enter_item.specs.Sees.{Shows};
 ghost use Rattle.enter_item.specs.Tests.{joins?};
 
 use enter_item::{
-    LINE_ROOM, NAMES_ROOM, Seen, Spot, Step, compares, constant, expect, prefix_operator, quoted,
-    see, string_operator, token, variable,
+    LINE_ROOM, NAMES_ROOM, Seen, Spot, compares, constant, expect, prefix_operator, quoted, see,
+    string_operator, token, variable,
 };
+use refusals::{Refusal, RefusedAt};
 use tokens::{OperatorToken, class};
 
 // Whether an item of a class joins terms.
@@ -37,26 +38,18 @@ fn expression(
     line: &mut [u8; LINE_ROOM],
     names: &[u8],
     fresh: &mut [u8; NAMES_ROOM],
-) -> Step
+) -> Result<Spot, RefusedAt>
     requires { Asks (env part.now offset names.now) q (mem line.old fresh.old) }
     ensures { Says (want_operand ∷ want_more_terms ∷ []) (env part.now offset names.now) q (mem line.old fresh.old) (mem line.new fresh.new) result }
 {
     let mut p = q;
     loop {
-        match term(part, offset, p, line, names, fresh) {
-            Step::Done(next) => {
-                let at = next.at;
-                let seen = see(part, at, false);
-                let it = seen.item;
-                let end = it.end;
-                if joins(seen.class) {
-                    p = token(line, next, end, seen.own);
-                } else {
-                    return Step::Done(next);
-                }
-            }
-            Step::Refused(k, place) => return Step::Refused(k, place),
+        let next = term(part, offset, p, line, names, fresh)?;
+        let seen = see(part, next.at, false);
+        if !joins(seen.class) {
+            return Ok(next);
         }
+        p = token(line, next, seen.item.end, seen.own);
     }
 }
 
@@ -69,21 +62,19 @@ fn enclosed(
     line: &mut [u8; LINE_ROOM],
     names: &[u8],
     fresh: &mut [u8; NAMES_ROOM],
-) -> Step
+) -> Result<Spot, RefusedAt>
     requires { Asks (env part.now offset names.now) q (mem line.old fresh.old) }
     ensures { Says (want_operand ∷ want_more_terms ∷ want_close ∷ []) (env part.now offset names.now) q (mem line.old fresh.old) (mem line.new fresh.new) result }
 {
-    match expression(part, offset, q, line, names, fresh) {
-        Step::Done(p) => expect(
-            part,
-            offset,
-            p,
-            line,
-            class::CLOSE_SIGN,
-            OperatorToken::CLOSE,
-        ),
-        Step::Refused(k, p) => Step::Refused(k, p),
-    }
+    let p = expression(part, offset, q, line, names, fresh)?;
+    expect(
+        part,
+        offset,
+        p,
+        line,
+        class::CLOSE_SIGN,
+        OperatorToken::CLOSE,
+    )
 }
 
 // One or two subscripts and the closing parenthesis.
@@ -95,14 +86,12 @@ fn subscripts(
     line: &mut [u8; LINE_ROOM],
     names: &[u8],
     fresh: &mut [u8; NAMES_ROOM],
-) -> Step
+) -> Result<Spot, RefusedAt>
     requires { Asks (env part.now offset names.now) q (mem line.old fresh.old) }
     ensures { Says (want_operand ∷ want_more_terms ∷ want_second ∷ []) (env part.now offset names.now) q (mem line.old fresh.old) (mem line.new fresh.new) result }
 {
-    match expression(part, offset, q, line, names, fresh) {
-        Step::Done(p) => second(part, offset, p, line, names, fresh),
-        Step::Refused(k, p) => Step::Refused(k, p),
-    }
+    let p = expression(part, offset, q, line, names, fresh)?;
+    second(part, offset, p, line, names, fresh)
 }
 
 // After a subscript: a comma and a second one, or the closing parenthesis.
@@ -114,7 +103,7 @@ fn second(
     line: &mut [u8; LINE_ROOM],
     names: &[u8],
     fresh: &mut [u8; NAMES_ROOM],
-) -> Step
+) -> Result<Spot, RefusedAt>
     requires { Asks (env part.now offset names.now) q (mem line.old fresh.old) }
     ensures { Says (want_second ∷ []) (env part.now offset names.now) q (mem line.old fresh.old) (mem line.new fresh.new) result }
 {
@@ -129,8 +118,11 @@ fn second(
             let p = token(line, q, end, OperatorToken::INNER_COMMA.0);
             enclosed(part, offset, p, line, names, fresh)
         }
-        class::CLOSE_SIGN => Step::Done(token(line, q, end, seen.own)),
-        _ => Step::Refused(4, place),
+        class::CLOSE_SIGN => Ok(token(line, q, end, seen.own)),
+        _ => Err(RefusedAt {
+            refusal: Refusal::NoReading,
+            place,
+        }),
     }
 }
 
@@ -143,21 +135,19 @@ fn argument(
     line: &mut [u8; LINE_ROOM],
     names: &[u8],
     fresh: &mut [u8; NAMES_ROOM],
-) -> Step
+) -> Result<Spot, RefusedAt>
     requires { Asks (env part.now offset names.now) q (mem line.old fresh.old) }
     ensures { Says (want_function_open ∷ want_operand ∷ want_more_terms ∷ want_close ∷ []) (env part.now offset names.now) q (mem line.old fresh.old) (mem line.new fresh.new) result }
 {
-    match expect(
+    let p = expect(
         part,
         offset,
         q,
         line,
         class::OPEN_SIGN,
         OperatorToken::FUNCTION_OPEN,
-    ) {
-        Step::Done(p) => enclosed(part, offset, p, line, names, fresh),
-        Step::Refused(k, p) => Step::Refused(k, p),
-    }
+    )?;
+    enclosed(part, offset, p, line, names, fresh)
 }
 
 // The argument of a function of a string.
@@ -169,31 +159,27 @@ fn string_argument(
     line: &mut [u8; LINE_ROOM],
     names: &[u8],
     fresh: &mut [u8; NAMES_ROOM],
-) -> Step
+) -> Result<Spot, RefusedAt>
     requires { Asks (env part.now offset names.now) q (mem line.old fresh.old) }
     ensures { Says (want_function_open ∷ want_string ∷ want_close ∷ []) (env part.now offset names.now) q (mem line.old fresh.old) (mem line.new fresh.new) result }
 {
-    match expect(
+    let p = expect(
         part,
         offset,
         q,
         line,
         class::OPEN_SIGN,
         OperatorToken::FUNCTION_OPEN,
-    ) {
-        Step::Done(p) => match string(part, offset, p, line, names, fresh) {
-            Step::Done(r) => expect(
-                part,
-                offset,
-                r,
-                line,
-                class::CLOSE_SIGN,
-                OperatorToken::CLOSE,
-            ),
-            Step::Refused(k, z) => Step::Refused(k, z),
-        },
-        Step::Refused(k, p) => Step::Refused(k, p),
-    }
+    )?;
+    let r = string(part, offset, p, line, names, fresh)?;
+    expect(
+        part,
+        offset,
+        r,
+        line,
+        class::CLOSE_SIGN,
+        OperatorToken::CLOSE,
+    )
 }
 
 // An array's subscripts.
@@ -205,21 +191,19 @@ fn element(
     line: &mut [u8; LINE_ROOM],
     names: &[u8],
     fresh: &mut [u8; NAMES_ROOM],
-) -> Step
+) -> Result<Spot, RefusedAt>
     requires { Asks (env part.now offset names.now) q (mem line.old fresh.old) }
     ensures { Says (want_array_open ∷ want_operand ∷ want_more_terms ∷ want_second ∷ []) (env part.now offset names.now) q (mem line.old fresh.old) (mem line.new fresh.new) result }
 {
-    match expect(
+    let p = expect(
         part,
         offset,
         q,
         line,
         class::OPEN_SIGN,
         OperatorToken::ARRAY_OPEN,
-    ) {
-        Step::Done(p) => subscripts(part, offset, p, line, names, fresh),
-        Step::Refused(k, p) => Step::Refused(k, p),
-    }
+    )?;
+    subscripts(part, offset, p, line, names, fresh)
 }
 
 // A string's subscripts, or nothing.
@@ -231,7 +215,7 @@ fn substring(
     line: &mut [u8; LINE_ROOM],
     names: &[u8],
     fresh: &mut [u8; NAMES_ROOM],
-) -> Step
+) -> Result<Spot, RefusedAt>
     requires { Asks (env part.now offset names.now) q (mem line.old fresh.old) }
     ensures { Says (want_substring ∷ []) (env part.now offset names.now) q (mem line.old fresh.old) (mem line.new fresh.new) result }
 {
@@ -245,7 +229,7 @@ fn substring(
             let p = token(line, q, end, OperatorToken::SUBSTRING_OPEN.0);
             subscripts(part, offset, p, line, names, fresh)
         }
-        _ => Step::Done(q),
+        _ => Ok(q),
     }
 }
 
@@ -258,7 +242,7 @@ fn comparison(
     line: &mut [u8; LINE_ROOM],
     names: &[u8],
     fresh: &mut [u8; NAMES_ROOM],
-) -> Step
+) -> Result<Spot, RefusedAt>
     requires { Asks (env part.now offset names.now) q (mem line.old fresh.old) }
     ensures { Says (want_string_comparison ∷ []) (env part.now offset names.now) q (mem line.old fresh.old) (mem line.new fresh.new) result }
 {
@@ -271,7 +255,10 @@ fn comparison(
         let p = token(line, q, end, string_operator(seen.own));
         string(part, offset, p, line, names, fresh)
     } else {
-        Step::Refused(4, place)
+        Err(RefusedAt {
+            refusal: Refusal::NoReading,
+            place,
+        })
     }
 }
 
@@ -284,14 +271,12 @@ fn compared(
     line: &mut [u8; LINE_ROOM],
     names: &[u8],
     fresh: &mut [u8; NAMES_ROOM],
-) -> Step
+) -> Result<Spot, RefusedAt>
     requires { Asks (env part.now offset names.now) q (mem line.old fresh.old) }
     ensures { Says (want_string ∷ want_string_comparison ∷ []) (env part.now offset names.now) q (mem line.old fresh.old) (mem line.new fresh.new) result }
 {
-    match string(part, offset, q, line, names, fresh) {
-        Step::Done(p) => comparison(part, offset, p, line, names, fresh),
-        Step::Refused(k, p) => Step::Refused(k, p),
-    }
+    let p = string(part, offset, q, line, names, fresh)?;
+    comparison(part, offset, p, line, names, fresh)
 }
 
 // A string: quoted, a variable or a part of one, or what a function gives.
@@ -303,7 +288,7 @@ fn string(
     line: &mut [u8; LINE_ROOM],
     names: &[u8],
     fresh: &mut [u8; NAMES_ROOM],
-) -> Step
+) -> Result<Spot, RefusedAt>
     requires { Asks (env part.now offset names.now) q (mem line.old fresh.old) }
     ensures { Says (want_string ∷ []) (env part.now offset names.now) q (mem line.old fresh.old) (mem line.new fresh.new) result }
 {
@@ -314,7 +299,7 @@ fn string(
     let place = offset + it.at;
     let found = seen.class;
     match found {
-        class::QUOTED => Step::Done(quoted(part, offset, it, q, line, names, fresh)),
+        class::QUOTED => Ok(quoted(part, offset, it, q, line, names, fresh)),
         class::STRING_VARIABLE => {
             let p = variable(part, offset, it, q, line, names, fresh);
             substring(part, offset, p, line, names, fresh)
@@ -323,7 +308,10 @@ fn string(
             let p = token(line, q, end, seen.own);
             argument(part, offset, p, line, names, fresh)
         }
-        _ => Step::Refused(4, place),
+        _ => Err(RefusedAt {
+            refusal: Refusal::NoReading,
+            place,
+        }),
     }
 }
 
@@ -337,7 +325,7 @@ fn operand(
     line: &mut [u8; LINE_ROOM],
     names: &[u8],
     fresh: &mut [u8; NAMES_ROOM],
-) -> Step
+) -> Result<Spot, RefusedAt>
     requires { (Asks (env part.now offset names.now) q (mem line.old fresh.old)) × (Shows part.now q.at false seen) × (seen.class ≡ plus_minus → ⊥) × (seen.class ≡ not_word → ⊥) }
     ensures { Says (want_operand ∷ []) (env part.now offset names.now) q (mem line.old fresh.old) (mem line.new fresh.new) result }
 {
@@ -347,7 +335,7 @@ fn operand(
     let found = seen.class;
     match found {
         class::NUMBER => constant(part, offset, it, q, line, names, fresh),
-        class::NUMERIC_VARIABLE => Step::Done(variable(part, offset, it, q, line, names, fresh)),
+        class::NUMERIC_VARIABLE => Ok(variable(part, offset, it, q, line, names, fresh)),
         class::ARRAY => {
             let p = variable(part, offset, it, q, line, names, fresh);
             element(part, offset, p, line, names, fresh)
@@ -367,7 +355,10 @@ fn operand(
         class::QUOTED => compared(part, offset, q, line, names, fresh),
         class::STRING_VARIABLE => compared(part, offset, q, line, names, fresh),
         class::STRING_FUNCTION => compared(part, offset, q, line, names, fresh),
-        _ => Step::Refused(4, place),
+        _ => Err(RefusedAt {
+            refusal: Refusal::NoReading,
+            place,
+        }),
     }
 }
 
@@ -380,7 +371,7 @@ pub fn term(
     line: &mut [u8; LINE_ROOM],
     names: &[u8],
     fresh: &mut [u8; NAMES_ROOM],
-) -> Step
+) -> Result<Spot, RefusedAt>
     requires { Asks (env part.now offset names.now) q (mem line.old fresh.old) }
     ensures { Says (want_operand ∷ []) (env part.now offset names.now) q (mem line.old fresh.old) (mem line.new fresh.new) result }
 {

@@ -1,44 +1,41 @@
 use native.Mathlib.Omega.{arith}
-use mathlib.Core.Path.{◌≡◌, refl, sym, ap, ◌∙◌}
+use mathlib.Core.Path.{refl, sym, ap, ◌∙◌}
 use mathlib.Core.Bool.{false}
-use mathlib.Core.List.{List, [], ◌∷◌}
-use lib.ListN.{length}
+use mathlib.Core.List.{[], ◌∷◌}
 use Rattle.paper.specs.Classes.{quoted as quoted-class, string_variable, string_function, numeric_variable, array, open_sign, close_sign, comma, plus_minus, not_word, function_of_string, function_of_number}
 use Rattle.paper.specs.Frames.{want_operand, want_more_terms, want_array_open, want_second, want_close, want_function_open, want_string, want_substring, want_string_comparison}
+use Rattle.std.proofs.lemmas.Result.{err_from_is_err_and}
 use Rattle.paper.specs.Grammar.{look, itself}
 use Rattle.enter_item.specs.ClassLaws.{closing}
-use Rattle.enter_item.specs.Says.{env, mem}
 use Rattle.enter_item.specs.Laws.{says_then, says_first, takes, takes_last, leaves, refuses, alike, counts}
 use Rattle.enter_item.specs.TookLaws.{shifted, took_put, took_own, took_prefix, took_compare, hit_put, expects_put, expects_own, sign}
 use Rattle.enter_item.specs.Rows.{operand_sign, operand_not, operand_number, operand_numeric, operand_array, operand_open, operand_of_string, operand_of_number, operand_quoted, operand_string, operand_function, operand_else, string_quoted, string_string, string_function_row, string_else, close_row, close_else, function_open_row, function_open_else, array_open_row, array_open_else, second_comma, second_close, second_else, substring_open, substring_else, more_else, joins_sign, compare_row, compare_else, compares_sign}
-use Rattle.enter_term.specs.Onward.{Onward, onward_first, onward_takes, onward_joins}
-use borrow.Author.Rules.{rules}
-use Prim.Native.Nat.{ℕ, ◌+◌, ◌*◌, ◌-◌, ◌<◌}
+use Rattle.enter_term.specs.Onward.{onward_first, onward_takes, onward_joins}
 use Rattle.enter_term.proofs.+terms.Goals as goal
 
 pub argument-expect-requires : goal.argument-expect-requires
 argument-expect-requires t c = let pre = c.requires in (pre.within, pre.short, omega (arith, pre.few, pre.short, pre.within))
 
 pub argument-enclosed-requires : goal.argument-enclosed-requires
-argument-enclosed-requires t c = let p = c.in-Done.is in let expect = c.expect.ensures in let pre = c.requires in let took = hit_put refl pre ((expect _).hit _ (p)) in (omega (arith, took.pass.ahead, took.pass.asks.within), took.pass.asks)
+argument-enclosed-requires t c = let p = c.in_ok-p.was in let expect = c.expect.ensures in let pre = c.requires in let took = hit_put refl pre ((expect _).hit _ (p)) in (omega (arith, took.pass.ahead, took.pass.asks.within), took.pass.asks)
 
-pub argument-returns-in-Done : goal.argument-returns-in-Done
-argument-returns-in-Done t c = says_then ((expects_put want_function_open function_open_row refl function_open_else c.requires (c.expect.ensures _)).got _ c.in-Done.is) c.enclosed.ensures
+pub argument-returns : goal.argument-returns
+argument-returns t c = says_then ((expects_put want_function_open function_open_row refl function_open_else c.requires (c.expect.ensures _)).got _ c.in_ok-p.was) c.enclosed.ensures
 
-pub argument-returns-in-Refused : goal.argument-returns-in-Refused
-argument-returns-in-Refused t c = says_first (want_operand ∷ want_more_terms ∷ want_close ∷ []) (expects_put want_function_open function_open_row refl function_open_else c.requires (c.expect.ensures _)) c.in-Refused.is
+pub argument-returns-in_err-p : goal.argument-returns-in_err-p
+argument-returns-in_err-p t c = let e = err_from_is_err_and c.from_residual.result c.from_residual.ensures.1 in rw (e.1, e.2) (says_first (want_operand ∷ want_more_terms ∷ want_close ∷ []) (expects_put want_function_open function_open_row refl function_open_else c.requires (c.expect.ensures _)) c.in_err-p.was)
 
 pub compared-string-requires : goal.compared-string-requires
 compared-string-requires t c = (omega arith, c.requires)
 
 pub compared-comparison-requires : goal.compared-comparison-requires
-compared-comparison-requires t c = let p = c.in-Done.is in let string = c.string.ensures in (omega (arith, (string.got _ p).ahead, (string.got _ p).asks.within), (string.got _ p).asks)
+compared-comparison-requires t c = let p = c.in_ok-p.was in let string = c.string.ensures in (omega (arith, (string.got _ p).ahead, (string.got _ p).asks.within), (string.got _ p).asks)
 
-pub compared-returns-in-Done : goal.compared-returns-in-Done
-compared-returns-in-Done t c = says_then (c.string.ensures.got _ c.in-Done.is) c.comparison.ensures
+pub compared-returns : goal.compared-returns
+compared-returns t c = says_then (c.string.ensures.got _ c.in_ok-p.was) c.comparison.ensures
 
-pub compared-returns-in-Refused : goal.compared-returns-in-Refused
-compared-returns-in-Refused t c = says_first (want_string_comparison ∷ []) c.string.ensures c.in-Refused.is
+pub compared-returns-in_err-p : goal.compared-returns-in_err-p
+compared-returns-in_err-p t c = let e = err_from_is_err_and c.from_residual.result c.from_residual.ensures.1 in rw (e.1, e.2) (says_first (want_string_comparison ∷ []) c.string.ensures c.in_err-p.was)
 
 pub comparison-see-seen-requires : goal.comparison-see-seen-requires
 comparison-see-seen-requires t c = c.requires.within
@@ -62,25 +59,25 @@ pub element-expect-requires : goal.element-expect-requires
 element-expect-requires t c = let pre = c.requires in (pre.within, pre.short, omega (arith, pre.few, pre.short, pre.within))
 
 pub element-subscripts-requires : goal.element-subscripts-requires
-element-subscripts-requires t c = let p = c.in-Done.is in let expect = c.expect.ensures in let pre = c.requires in let took = hit_put refl pre ((expect _).hit _ (p)) in (omega (arith, took.pass.ahead, took.pass.asks.within), took.pass.asks)
+element-subscripts-requires t c = let p = c.in_ok-p.was in let expect = c.expect.ensures in let pre = c.requires in let took = hit_put refl pre ((expect _).hit _ (p)) in (omega (arith, took.pass.ahead, took.pass.asks.within), took.pass.asks)
 
-pub element-returns-in-Done : goal.element-returns-in-Done
-element-returns-in-Done t c = says_then ((expects_put want_array_open array_open_row refl array_open_else c.requires (c.expect.ensures _)).got _ c.in-Done.is) c.subscripts.ensures
+pub element-returns : goal.element-returns
+element-returns t c = says_then ((expects_put want_array_open array_open_row refl array_open_else c.requires (c.expect.ensures _)).got _ c.in_ok-p.was) c.subscripts.ensures
 
-pub element-returns-in-Refused : goal.element-returns-in-Refused
-element-returns-in-Refused t c = says_first (want_operand ∷ want_more_terms ∷ want_second ∷ []) (expects_put want_array_open array_open_row refl array_open_else c.requires (c.expect.ensures _)) c.in-Refused.is
+pub element-returns-in_err-p : goal.element-returns-in_err-p
+element-returns-in_err-p t c = let e = err_from_is_err_and c.from_residual.result c.from_residual.ensures.1 in rw (e.1, e.2) (says_first (want_operand ∷ want_more_terms ∷ want_second ∷ []) (expects_put want_array_open array_open_row refl array_open_else c.requires (c.expect.ensures _)) c.in_err-p.was)
 
 pub enclosed-expression-requires : goal.enclosed-expression-requires
 enclosed-expression-requires t c = (omega arith, c.requires)
 
 pub enclosed-expect-requires : goal.enclosed-expect-requires
-enclosed-expect-requires t c = let p = c.in-Done.is in let expression = c.expression.ensures in ((expression.got _ p).asks.within, (expression.got _ p).asks.short, omega (arith, (expression.got _ p).asks.few, (expression.got _ p).asks.short, (expression.got _ p).asks.within))
+enclosed-expect-requires t c = let p = c.in_ok-p.was in let expression = c.expression.ensures in ((expression.got _ p).asks.within, (expression.got _ p).asks.short, omega (arith, (expression.got _ p).asks.few, (expression.got _ p).asks.short, (expression.got _ p).asks.within))
 
-pub enclosed-returns-in-Done : goal.enclosed-returns-in-Done
-enclosed-returns-in-Done t c = let p = c.in-Done.is in let expression = c.expression.ensures in says_then (expression.got _ p) (expects_own want_close close_row refl close_else closing (expression.got _ p).asks (c.expect.ensures _))
+pub enclosed-returns : goal.enclosed-returns
+enclosed-returns t c = let p = c.in_ok-p.was in let expression = c.expression.ensures in says_then (expression.got _ p) (expects_own want_close close_row refl close_else closing (expression.got _ p).asks (c.expect.ensures _))
 
-pub enclosed-returns-in-Refused : goal.enclosed-returns-in-Refused
-enclosed-returns-in-Refused t c = says_first (want_close ∷ []) c.expression.ensures c.in-Refused.is
+pub enclosed-returns-in_err-p : goal.enclosed-returns-in_err-p
+enclosed-returns-in_err-p t c = let e = err_from_is_err_and c.from_residual.result c.from_residual.ensures.1 in rw (e.1, e.2) (says_first (want_close ∷ []) c.expression.ensures c.in_err-p.was)
 
 pub expression-loop-next-init : goal.expression-loop-next-init
 expression-loop-next-init t c = onward_first c.requires
@@ -89,22 +86,22 @@ pub expression-term-requires : goal.expression-term-requires
 expression-term-requires t c = let loop = c.loop-next.invariant in (omega (arith, loop.ahead, loop.asks.within), loop.asks)
 
 pub expression-see-seen-requires : goal.expression-see-seen-requires
-expression-see-seen-requires t c = (c.term.ensures.got _ c.in-Done.is).asks.within
+expression-see-seen-requires t c = (c.term.ensures.got _ c.in_ok-next.was).asks.within
 
 pub expression-token-p-requires : goal.expression-token-p-requires
-expression-token-p-requires t c = let next = c.in-Done.is in let term = c.term.ensures.got in omega (arith, (term _ next).asks.few, (term _ next).asks.short, (term _ next).asks.within)
+expression-token-p-requires t c = let next = c.in_ok-next.was in let term = c.term.ensures.got in omega (arith, (term _ next).asks.few, (term _ next).asks.short, (term _ next).asks.within)
 
 pub expression-loop-next-smaller : goal.expression-loop-next-smaller
-expression-loop-next-smaller t c = let token = c.token-p.ensures in let if1 = c.if-joins.true in let joins = c.joins.ensures in let see = c.see-seen in let next = c.in-Done.is in let term = c.term.ensures.got in let took = took_own see.result.class (joins_sign see.result.class (sym (joins) ∙ if1)) (term _ (next)).asks (see.ensures.next _ _) (sym see.ensures.class) see.ensures.own token.0 token.1 in omega (arith, (term _ next).ahead, took.pass.ahead, took.pass.asks.within)
+expression-loop-next-smaller t c = let token = c.token-p.ensures in let if1 = c.if-not-joins.false in let joins = c.joins.ensures in let see = c.see-seen in let next = c.in_ok-next.was in let term = c.term.ensures.got in let took = took_own see.result.class (joins_sign see.result.class (sym (joins) ∙ if1)) (term _ (next)).asks (see.ensures.next _ _) (sym see.ensures.class) see.ensures.own token.0 token.1 in omega (arith, (term _ next).ahead, took.pass.ahead, took.pass.asks.within)
 
 pub expression-loop-next-preserved : goal.expression-loop-next-preserved
-expression-loop-next-preserved t c = let token = c.token-p in let if1 = c.if-joins.true in let joins = c.joins.ensures in let see = c.see-seen in let next = c.in-Done.is in let term = c.term in let loop = c.loop-next.invariant in onward_joins see.result.class (sym joins ∙ if1) (sym see.ensures.class) loop (term.ensures.got _ next) (took_own see.result.class (joins_sign see.result.class (sym joins ∙ if1)) (term.ensures.got _ next).asks (see.ensures.next _ _) (sym see.ensures.class) see.ensures.own token.ensures.0 token.ensures.1)
+expression-loop-next-preserved t c = let token = c.token-p in let if1 = c.if-not-joins.false in let joins = c.joins.ensures in let see = c.see-seen in let next = c.in_ok-next.was in let term = c.term in let loop = c.loop-next.invariant in onward_joins see.result.class (sym joins ∙ if1) (sym see.ensures.class) loop (term.ensures.got _ next) (took_own see.result.class (joins_sign see.result.class (sym joins ∙ if1)) (term.ensures.got _ next).asks (see.ensures.next _ _) (sym see.ensures.class) see.ensures.own token.ensures.0 token.ensures.1)
 
-pub expression-returns-else-joins : goal.expression-returns-else-joins
-expression-returns-else-joins t c = let see = c.see-seen in let next = c.in-Done.is in let term = c.term.ensures.got in c.loop-next.invariant.goes _ _ (says_then (term _ next) (leaves want_more_terms (term _ next).asks (see.ensures.next _ _) (ap (look want_more_terms) (sym see.ensures.class) ∙ more_else see.result.class (sym c.joins.ensures ∙ c.if-joins.false))))
+pub expression-returns-then-not-joins : goal.expression-returns-then-not-joins
+expression-returns-then-not-joins t c = let see = c.see-seen in let next = c.in_ok-next.was in let term = c.term.ensures.got in c.loop-next.invariant.goes _ _ (says_then (term _ next) (leaves want_more_terms (term _ next).asks (see.ensures.next _ _) (ap (look want_more_terms) (sym see.ensures.class) ∙ more_else see.result.class (sym c.joins.ensures ∙ c.if-not-joins.true))))
 
-pub expression-returns-in-Refused : goal.expression-returns-in-Refused
-expression-returns-in-Refused t c = c.loop-next.invariant.goes _ _ (says_first (want_more_terms ∷ []) c.term.ensures c.in-Refused.is)
+pub expression-returns-in_err-next : goal.expression-returns-in_err-next
+expression-returns-in_err-next t c = let e = err_from_is_err_and c.from_residual.result c.from_residual.ensures.1 in rw (e.1, e.2) (c.loop-next.invariant.goes _ _ (says_first (want_more_terms ∷ []) c.term.ensures c.in_err-next.was))
 
 pub operand-overflow_add-place : goal.operand-overflow_add-place
 operand-overflow_add-place t c = let pre = c.requires in omega (arith, (pre.1.next 0 []).spans, (pre.1.next 0 []).within, pre.0.short)
@@ -239,31 +236,31 @@ pub string_argument-expect-requires : goal.string_argument-expect-requires
 string_argument-expect-requires t c = let pre = c.requires in (pre.within, pre.short, omega (arith, pre.few, pre.short, pre.within))
 
 pub string_argument-string-requires : goal.string_argument-string-requires
-string_argument-string-requires t c = let p = c.in-Done.is in let expect = c.expect.ensures in let pre = c.requires in let took = hit_put refl pre ((expect _).hit _ (p)) in (omega (arith, took.pass.ahead, took.pass.asks.within), took.pass.asks)
+string_argument-string-requires t c = let p = c.in_ok-p.was in let expect = c.expect.ensures in let pre = c.requires in let took = hit_put refl pre ((expect _).hit _ (p)) in (omega (arith, took.pass.ahead, took.pass.asks.within), took.pass.asks)
 
-pub string_argument-expect-requires-in-Done-string : goal.string_argument-expect-requires-in-Done-string
-string_argument-expect-requires-in-Done-string t c = let r = c.in-Done-string.is in let string = c.string.ensures in ((string.got _ r).asks.within, (string.got _ r).asks.short, omega (arith, (string.got _ r).asks.few, (string.got _ r).asks.short, (string.got _ r).asks.within))
+pub string_argument-expect-requires-2 : goal.string_argument-expect-requires-2
+string_argument-expect-requires-2 t c = let r = c.in_ok-r.was in let string = c.string.ensures in ((string.got _ r).asks.within, (string.got _ r).asks.short, omega (arith, (string.got _ r).asks.few, (string.got _ r).asks.short, (string.got _ r).asks.within))
 
-pub string_argument-returns-in-Done-string : goal.string_argument-returns-in-Done-string
-string_argument-returns-in-Done-string t c = let r = c.in-Done-string.is in let string = c.string.ensures in says_then ((expects_put want_function_open function_open_row refl function_open_else c.requires (c.expect.ensures _)).got _ c.in-Done.is) (says_then (string.got _ r) (expects_own want_close close_row refl close_else closing (string.got _ r).asks (c.expect-in-Done-string.ensures _)))
+pub string_argument-returns : goal.string_argument-returns
+string_argument-returns t c = let r = c.in_ok-r.was in let string = c.string.ensures in says_then ((expects_put want_function_open function_open_row refl function_open_else c.requires (c.expect.ensures _)).got _ c.in_ok-p.was) (says_then (string.got _ r) (expects_own want_close close_row refl close_else closing (string.got _ r).asks (c.expect-2.ensures _)))
 
-pub string_argument-returns-in-Refused-string : goal.string_argument-returns-in-Refused-string
-string_argument-returns-in-Refused-string t c = says_then ((expects_put want_function_open function_open_row refl function_open_else c.requires (c.expect.ensures _)).got _ c.in-Done.is) (says_first (want_close ∷ []) c.string.ensures c.in-Refused-string.is)
+pub string_argument-returns-in_err-r : goal.string_argument-returns-in_err-r
+string_argument-returns-in_err-r t c = let e = err_from_is_err_and c.from_residual-in_err-r.result c.from_residual-in_err-r.ensures.1 in rw (e.1, e.2) (says_then ((expects_put want_function_open function_open_row refl function_open_else c.requires (c.expect.ensures _)).got _ c.in_ok-p.was) (says_first (want_close ∷ []) c.string.ensures c.in_err-r.was))
 
-pub string_argument-returns-in-Refused : goal.string_argument-returns-in-Refused
-string_argument-returns-in-Refused t c = says_first (want_string ∷ want_close ∷ []) (expects_put want_function_open function_open_row refl function_open_else c.requires (c.expect.ensures _)) c.in-Refused.is
+pub string_argument-returns-in_err-p : goal.string_argument-returns-in_err-p
+string_argument-returns-in_err-p t c = let e = err_from_is_err_and c.from_residual.result c.from_residual.ensures.1 in rw (e.1, e.2) (says_first (want_string ∷ want_close ∷ []) (expects_put want_function_open function_open_row refl function_open_else c.requires (c.expect.ensures _)) c.in_err-p.was)
 
 pub subscripts-expression-requires : goal.subscripts-expression-requires
 subscripts-expression-requires t c = (omega arith, c.requires)
 
 pub subscripts-second-requires : goal.subscripts-second-requires
-subscripts-second-requires t c = let p = c.in-Done.is in let expression = c.expression.ensures in (omega (arith, (expression.got _ p).ahead, (expression.got _ p).asks.within), (expression.got _ p).asks)
+subscripts-second-requires t c = let p = c.in_ok-p.was in let expression = c.expression.ensures in (omega (arith, (expression.got _ p).ahead, (expression.got _ p).asks.within), (expression.got _ p).asks)
 
-pub subscripts-returns-in-Done : goal.subscripts-returns-in-Done
-subscripts-returns-in-Done t c = says_then (c.expression.ensures.got _ c.in-Done.is) c.second.ensures
+pub subscripts-returns : goal.subscripts-returns
+subscripts-returns t c = says_then (c.expression.ensures.got _ c.in_ok-p.was) c.second.ensures
 
-pub subscripts-returns-in-Refused : goal.subscripts-returns-in-Refused
-subscripts-returns-in-Refused t c = says_first (want_second ∷ []) c.expression.ensures c.in-Refused.is
+pub subscripts-returns-in_err-p : goal.subscripts-returns-in_err-p
+subscripts-returns-in_err-p t c = let e = err_from_is_err_and c.from_residual.result c.from_residual.ensures.1 in rw (e.1, e.2) (says_first (want_second ∷ []) c.expression.ensures c.in_err-p.was)
 
 pub substring-see-seen-requires : goal.substring-see-seen-requires
 substring-see-seen-requires t c = c.requires.within
