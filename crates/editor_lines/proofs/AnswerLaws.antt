@@ -3,7 +3,6 @@ use Prim.Native.Nat.{ℕ}
 use mathlib.Core.Path.{◌≡◌, sym, ap, ◌∙◌}
 use mathlib.Core.List.{List}
 use lib.Dec.{T}
-use lib.ListN.{take}
 use Rattle.paper.specs.Bytes.{joined}
 use Rattle.paper.specs.Items.{span}
 use Rattle.paper.specs.Line.{line_number}
@@ -58,20 +57,20 @@ module _ (names values store : List ℕ) (e : Editor) (kept : Counts) (is : kept
 
   -- ---- keeping a wrong line
 
-  module _ (o : T (sound_state S)) (line : List ℕ) (size : ℕ) (wrong : RefusedItem) (part : List ℕ) (p : part ≡ take size line) where
+  module _ (o : T (sound_state S)) (line : List ℕ) (wrong : RefusedItem) where
     -- the place of its number
-    pub place_kept : (q : Place) → Lies q (line_number (take size line)) S → q ≡ place_of (line_number part) found
-    place_kept q h = lies_counted S kept is (line_number (take size line)) q h ∙ ap (λ (l : List ℕ). place_of (line_number l) found) (sym p)
+    pub place_kept : (q : Place) → Lies q (line_number line) S → q ≡ place_of (line_number line) found
+    place_kept q h = lies_counted S kept is (line_number line) q h
 
-    module _ (r : Option Counts) (store' : List ℕ) (a : r ≡ stored_answer store (put_line part found)) (z : store' ≡ stored_bytes store (put_line part found)) where
+    module _ (r : Option Counts) (store' : List ℕ) (a : r ≡ stored_answer store (put_line line found)) (z : store' ≡ stored_bytes store (put_line line found)) where
       abbrev with_kept : List (List ℕ)
-      with_kept = put_line (take size line) (lines_of S)
+      with_kept = put_line line (lines_of S)
 
-      same_kept : put_line part found ≡ with_kept
-      same_kept = ap (put_line part) (lines_kept S kept is) ∙ ap (λ (l : List ℕ). put_line l (lines_of S)) p
+      same_kept : put_line line found ≡ with_kept
+      same_kept = ap (put_line line) (lines_kept S kept is)
 
       -- 8
-      pub kept_8 : (x : Entered) → r ≡ None → x ≡ refusing (no_place NoRoom) e → entered x names values store' ≡ keep_line S (take size line) (span wrong.place wrong.end)
+      pub kept_8 : (x : Entered) → r ≡ None → x ≡ refusing (no_place NoRoom) e → entered x names values store' ≡ keep_line S line (span wrong.place wrong.end)
       unfolding stored_bytes keep_line refusal too_long
       kept_8 x g q =
           let no = stored_no_room store with_kept (ap (stored_answer store) (sym same_kept) ∙ sym a ∙ g) in
@@ -80,7 +79,7 @@ module _ (names values store : List ℕ) (e : Editor) (kept : Counts) (is : kept
 
       -- 4
       pub kept_4 : (after : Counts) (x : Editor) → r ≡ Some after → x ≡ counting e after
-          → entered (record { added = Err (record { refusal = NoReading; place = wrong.place; end = wrong.end }); editor = x }) names values store' ≡ keep_line S (take size line) (span wrong.place wrong.end)
+          → entered (record { added = Err (record { refusal = NoReading; place = wrong.place; end = wrong.end }); editor = x }) names values store' ≡ keep_line S line (span wrong.place wrong.end)
       unfolding stored_bytes keep_line counts_of too_long
       kept_4 after x g q =
           let yes = stored_done store with_kept after (ap (stored_answer store) (sym same_kept) ∙ sym a ∙ g) in

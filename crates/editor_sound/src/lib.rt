@@ -5,15 +5,13 @@ ghost use Rattle.std.specs.Prelude.{◌≡◌};
 ghost use Rattle.paper.specs.Calls.{sound_state};
 ghost use Rattle.editor_edit.specs.States.{state};
 
-use editor_edit::{Editor, store_counts};
+use editor_edit::Editor;
+use store::Counts;
 
 // Whether tables and store are sound, and the record agrees with the store.
 pub fn sound(names: &[u8], values: &[u8], store: &[u8], e: Editor) -> bool
     ensures { result ≡ sound_state (state names.now values.now store.now e) }
 {
-    if names_sound::sound(names, e.name_bytes, e.name_count, values.len()) {
-        store::sound(store, store_counts(e))
-    } else {
-        false
-    }
+    names_sound::sound(names, e.name_bytes, e.name_count, values.len())
+        && store::sound(store, Counts::from(e))
 }

@@ -1,3 +1,4 @@
+use mathlib.Core.Path.{◌∙◌}
 use Rattle.editor_edit.specs.States.{state}
 use Rattle.editor_sound.specs.Tests.{store_decides, unsound_tables}
 use Rattle.editor_sound.proofs.sound.Goals as goal
@@ -5,9 +6,9 @@ use Rattle.editor_sound.proofs.sound.Goals as goal
 pub returns-then-sound : goal.returns-then-sound
 returns-then-sound c =
     let args = c.args in
-    store_decides (state args.names.now args.values.now args.store.now args.e) _ c.sound.ensures c.if-sound.true _ c.store_counts.ensures _ c.sound-then-sound.ensures
+    store_decides (state args.names.now args.values.now args.store.now args.e) _ c.sound.ensures c.if-sound.true _ c.from.ensures _ c.sound-then-sound.ensures
 
 pub returns-else-sound : goal.returns-else-sound
 returns-else-sound c =
     let args = c.args in
-    unsound_tables (state args.names.now args.values.now args.store.now args.e) _ c.sound.ensures c.if-sound.false
+    c.if-sound.false ∙ unsound_tables (state args.names.now args.values.now args.store.now args.e) _ c.sound.ensures c.if-sound.false
