@@ -9,6 +9,7 @@ pub fn carry_lines(store: &mut [u8], used: usize, numbers: &[u8]) -> usize
     requires { (used ≤ length store.old) × T (every whole_line? (lines_in (take used store.old))) × AllPortable numbers.now (lines_in (take used store.old)) }
     ensures { AllCarried numbers.now (lines_in (take used store.old)) store.old result store.new }
 {
+    // Stays a loop by hand: the bytes that it writes hold the lines that it has still to read.
     let mut from: usize = 0;
     let mut to: usize = 0;
     while from < used {

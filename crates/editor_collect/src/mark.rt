@@ -39,12 +39,12 @@ pub fn mark_lines(lines: &[u8], names: &[u8], size: usize, marks: &mut [u8]) -> 
     list_kinds(buffers::front(names, size), &mut kinds);
     let mut frames = [0u8; DEEPEST];
     let mut rest = lines;
-    while 0 < rest.len() {
-        let n = heads::size(rest);
-        if !mark_line(&rest[..n], &kinds, marks, &mut frames) {
+    while !rest.is_empty() {
+        let (line, after) = rest.split_at(heads::size(rest));
+        if !mark_line(line, &kinds, marks, &mut frames) {
             return false;
         }
-        rest = &rest[n..];
+        rest = after;
     }
     true
 }

@@ -5,7 +5,9 @@ use native.Mathlib.Omega.{arith}
 use mathlib.Core.Path.{◌≡◌, refl, sym, ap, ap₂, ◌∙◌}
 use mathlib.Core.Bool.{true, false}
 use mathlib.Core.List.{List, [], ◌∷◌, ◌++◌}
+use Rattle.std.specs.Prelude.{Ok, Err}
 use lib.Dec.{T, ltb}
+use Rattle.std.specs.Int.{w16, to_le_bytes}
 use lib.ListN.{length, take, get_or, set, length-append}
 use lib.Seq.{sets, length-take-le}
 use borrow.Author.Tests.{lt-ltb, le-ltb}
@@ -20,15 +22,15 @@ use Rattle.buffers.specs.Sets.{sets_append, overwrites}
 use Rattle.editor_edit.specs.declared.Editor.{Editor}
 use Rattle.editor_edit.specs.States.{state}
 use Rattle.editor_edit.specs.Sound.{table_sound, values_fit, store_sound}
-use Rattle.file_save.specs.declared.Saved.{Saved}
-use Rattle.file_save.specs.Answers.{unsaved, saved, Fitting}
+use Rattle.refusals.specs.declared.Refusal.TheVariants.{Unsound, NoRoom}
+use Rattle.file_save.specs.Answers.{saved, Fitting}
 
 -- ---- words
 
 -- one
-pub word_written : (o o' o'' : List ℕ) (at n : ℕ) → o' ≡ set o at (n % 256) → o'' ≡ set o' (at + 1) (n / 256) → o'' ≡ sets o at (word_bytes n)
+pub word_is : (n : ℕ) → n ≤ 65535 → to_le_bytes w16 n ≡ word_bytes n
 unfolding word_bytes
-word_written o o' o'' at n e f = f ∙ ap₂ (λ (l : List ℕ) (k : ℕ). set l k (n / 256)) e (add-one at)
+word_is n h = let high : n / 256 % 256 ≡ n / 256 = omega arith in rw high
 
 -- the writer's
 saved_words_are : (e : Editor) → saved_words (state [] [] [] e)
@@ -110,9 +112,9 @@ module _ (names values store : List ℕ) (e : Editor) (out : List ℕ) where
   lent = state names values store e
 
   -- 1
-  pub saved_1 : (r : Saved) → false ≡ sound_state lent → r ≡ unsaved 1 → saved r out ≡ save lent out
+  pub saved_1 : false ≡ sound_state lent → saved (Err Unsound) out ≡ save lent out
   unfolding save not_saved
-  saved_1 r t q = rw q (sym (rw (sym t)))
+  saved_1 t = sym (rw (sym t))
 
   module _ (sound : T (sound_state lent)) where
     -- what a sound program's counts are
@@ -126,23 +128,23 @@ module _ (names values store : List ℕ) (e : Editor) (out : List ℕ) where
     pub fitting : e.name_bytes + 8 * e.name_count + e.used ≤ 65272 → Fitting names values store e
     fitting h = record { within_names = counts_within.0; within_values = counts_within.1; within_store = counts_within.2; in_words = h }
 
-    saved_8 : (r : Saved) → too_long? lent out ≡ true → r ≡ unsaved 8 → saved r out ≡ save lent out
+    saved_8 : too_long? lent out ≡ true → saved (Err NoRoom) out ≡ save lent out
     unfolding save not_saved
-    saved_8 r t q = rw q (sym (rw (is_true (sound_state lent) sound, t)))
+    saved_8 t = sym (rw (is_true (sound_state lent) sound, t))
 
     -- 8: the words are too great
-    pub saved_8_words : (r : Saved) → 65272 < e.name_bytes + 8 * e.name_count + e.used → r ≡ unsaved 8 → saved r out ≡ save lent out
+    pub saved_8_words : 65272 < e.name_bytes + 8 * e.name_count + e.used → saved (Err NoRoom) out ≡ save lent out
     unfolding too_long? saved_words
-    saved_8_words r h q = saved_8 r (rw (lt-ltb 65535 (get_or (saved_words lent) 6 0) (omega (arith, ap length end_line_is)))) q
+    saved_8_words h = saved_8 (rw (lt-ltb 65535 (get_or (saved_words lent) 6 0) (omega (arith, ap length end_line_is))))
 
     module _ (fits : Fitting names values store e) where
       small : ltb 65535 (get_or (saved_words lent) 6 0) ≡ false
       small = le-ltb 65535 (get_or (saved_words lent) 6 0) (omega (arith, last_word names values store e fits, fits.in_words))
 
       -- 8: the buffer is too short
-      pub saved_8_buffer : (r : Saved) → length out < e.name_bytes + 8 * e.name_count + e.used + 21 → r ≡ unsaved 8 → saved r out ≡ save lent out
+      pub saved_8_buffer : length out < e.name_bytes + 8 * e.name_count + e.used + 21 → saved (Err NoRoom) out ≡ save lent out
       unfolding too_long?
-      saved_8_buffer r h q = saved_8 r (rw (small, lt-ltb (length out) (length (saved_file lent)) (omega (arith, file_size names values store e fits)))) q
+      saved_8_buffer h = saved_8 (rw (small, lt-ltb (length out) (length (saved_file lent)) (omega (arith, file_size names values store e fits))))
 
       -- the words, and then the block, are the file
       whole : (o o' : List ℕ) → o ≡ sets out 0 (words_bytes (saved_words lent)) → o' ≡ sets o 14 (saved_block lent) → length (saved_file lent) ≤ length out → o' ≡ overwritten (saved_file lent) out
@@ -154,7 +156,7 @@ module _ (names values store : List ℕ) (e : Editor) (out : List ℕ) where
 
       -- 0: the words are written, and then the block
       pub saved_0 : e.name_bytes + 8 * e.name_count + e.used + 21 ≤ length out → (o o' : List ℕ) → o ≡ sets out 0 (words_bytes (saved_words (state [] [] [] e))) → o' ≡ sets o 14 (saved_block lent)
-          → saved (record { number = 0; written = e.name_bytes + 8 * e.name_count + e.used + 21 }) o' ≡ save lent out
+          → saved (Ok (e.name_bytes + 8 * e.name_count + e.used + 21)) o' ≡ save lent out
       unfolding save too_long? saved_words
       saved_0 h o o' eo eb =
           let size = file_size names values store e fits in

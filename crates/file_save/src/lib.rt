@@ -5,18 +5,12 @@ ghost use Rattle.std.specs.Prelude.{◌≡◌, [], ◌+◌, ◌*◌, ◌≤◌, 
 ghost use Rattle.std.proofs.lemmas.List.Edits.{sets};
 ghost use Rattle.paper.specs.Files.{word_bytes, words_bytes, saved_words, saved_block, save as save-call};
 ghost use Rattle.editor_edit.specs.States.{state};
-ghost use Rattle.file_save.specs.Answers.{unsaved, saved, Fitting};
+ghost use Rattle.file_save.specs.Answers.{saved, Fitting};
 
 use buffers::{copy, front, put};
 use editor_edit::Editor;
 use editor_sound::sound;
-
-// What writing a file answers: number and bytes written.
-#[derive(Clone, Copy)]
-pub struct Saved {
-    pub number: u8,
-    pub written: usize,
-}
+use refusals::Refusal;
 
 // How many bytes the words take.
 const HEAD: usize = 14;
@@ -30,20 +24,12 @@ const OTHERS: usize = 21;
 // The most bytes that names, values and stored lines may have in all: with them the last word is 65,535.
 const MOST: usize = 65272;
 
-// A refusal: nothing is written.
-pub fn not_saved(number: u8) -> Saved
-    ensures { result ≡ unsaved number }
-{
-    Saved { number, written: 0 }
-}
-
 // Puts a number to a place as two bytes, low byte first.
 fn put_word(out: &mut [u8], at: usize, n: usize)
     requires { (at ≤ 12) × (n ≤ 65535) }
     ensures { out.new ≡ sets out.old at (word_bytes n) }
 {
-    put(out, at, (n % 256) as u8);
-    put(out, at + 1, (n / 256) as u8);
+    copy(out, at, &(n as u16).to_le_bytes());
 }
 
 // Puts the words of a program's file to the front.
@@ -82,25 +68,24 @@ fn put_block(names: &[u8], values: &[u8], store: &[u8], e: Editor, out: &mut [u8
     copy(out, lines_at + used, &end_line);
 }
 
-// Writes the file of a program to the front of a lent buffer, or refuses with 1 or 8 and writes nothing.
-pub fn save(names: &[u8], values: &[u8], store: &[u8], e: Editor, out: &mut [u8]) -> Saved
+// Writes the file of a program to the front of a lent buffer and returns how many bytes it has, or refuses with 1 or 8 and writes nothing.
+pub fn save(
+    names: &[u8],
+    values: &[u8],
+    store: &[u8],
+    e: Editor,
+    out: &mut [u8],
+) -> Result<usize, Refusal>
     ensures { saved result out.new ≡ save-call (state names.now values.now store.now e) out.old }
 {
     if !sound(names, values, store, e) {
-        return not_saved(1);
+        return Err(Refusal::Unsound);
     }
-    if MOST < e.name_bytes {
-        return not_saved(8);
-    }
-    let size = e.name_bytes + 8 * e.name_count + e.used;
-    if MOST < size {
-        return not_saved(8);
-    }
-    let written = size + OTHERS;
-    if out.len() < written {
-        return not_saved(8);
+    let size = e.name_bytes.saturating_add(8 * e.name_count + e.used);
+    if MOST < size || out.len() < size + OTHERS {
+        return Err(Refusal::NoRoom);
     }
     put_words(out, e);
     put_block(names, values, store, e, out);
-    Saved { number: 0, written }
+    Ok(size + OTHERS)
 }

@@ -1,16 +1,15 @@
 use Prim.Native.Nat.{ℕ}
-use mathlib.Core.Path.{sym, ap, ◌∙◌}
+use mathlib.Core.Path.{sym, ◌∙◌}
 use lib.ListN.{length-replicate}
 use lib.Seq.{length-take-le}
 use Rattle.paper.specs.Calls.{names_of, lines_of}
 use Rattle.editor_edit.specs.States.{state}
-use Rattle.editor_collect.specs.Answers.{outcome}
 use Rattle.editor_collect.proofs.Collects.{refused_unsound, own_names, lent, whole_lines, refused_lines, tabled, portable, collects}
 use Rattle.editor_collect.proofs.collect.Goals as goal
 
 pub returns-then-not-sound : goal.returns-then-not-sound
 unfolding names_of lines_of
-returns-then-not-sound c = ap (λ z. outcome z c.args.names.now c.args.values.now c.args.store.now) c.refused.ensures ∙ refused_unsound (state c.args.names.now c.args.values.now c.args.store.now c.args.e) c.sound.ensures (c.if-not-sound.true)
+returns-then-not-sound c = refused_unsound (state c.args.names.now c.args.values.now c.args.store.now c.args.e) c.sound.ensures (c.if-not-sound.true)
 
 pub slice_bounds-mark_lines-end : goal.slice_bounds-mark_lines-end
 unfolding names_of lines_of
@@ -26,7 +25,7 @@ mark_lines-requires c = (whole_lines (state c.args.names.now c.args.values.now c
 
 pub returns-then-not-mark_lines : goal.returns-then-not-mark_lines
 unfolding names_of lines_of
-returns-then-not-mark_lines c = ap (λ z. outcome z c.args.names.now c.args.values.now c.args.store.now) c.refused-then-not-mark_lines.ensures ∙ refused_lines (state c.args.names.now c.args.values.now c.args.store.now c.args.e) c.sound.ensures (c.if-not-sound.false) c.mark_lines.ensures.0 (c.if-not-mark_lines.true)
+returns-then-not-mark_lines c = refused_lines (state c.args.names.now c.args.values.now c.args.store.now c.args.e) c.sound.ensures (c.if-not-sound.false) c.mark_lines.ensures.0 (c.if-not-mark_lines.true)
 
 pub keep_marked-left-requires : goal.keep_marked-left-requires
 unfolding names_of lines_of

@@ -1,5 +1,8 @@
-use Rattle.file_save.proofs.WriteLaws.{word_written}
+use lib.Seq.{sets}
+use mathlib.Core.Path.{ap, ◌∙◌}
+use native.Mathlib.Omega.{arith}
+use Rattle.file_save.proofs.WriteLaws.{word_is}
 use Rattle.file_save.proofs.put_word.Goals as goal
 
 pub returns : goal.returns
-returns c = word_written _ _ _ c.args.at c.args.n c.put.ensures c.put-2.ensures
+returns c = c.copy.ensures ∙ ap (sets c.args.out.now c.args.at) (c.to_le_bytes.ensures ∙ word_is c.args.n (omega arith))
