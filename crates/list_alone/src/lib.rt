@@ -8,8 +8,6 @@ ghost use Rattle.names_kinds.specs.Kinds.{Kinds};
 ghost use Rattle.list_pieces.specs.Rest.{Numbered, Head};
 ghost use Rattle.list_check.specs.Walks.{Listed};
 
-use list_check::Walk;
-
 // As long as the deepest stack of frames that a line of 255 bytes can need: no piece needs more than eight frames for each of its bytes.
 pub const DEEPEST: usize = 2056;
 
@@ -22,14 +20,12 @@ fn is_formed(line: &[u8], kinds: &[u8], frames: &mut [u8]) -> bool
     let mut end: usize = 3;
     let mut depth: usize = 1;
     while at < line.len() {
-        match list_check::check_next(line, at, end, kinds, frames, depth) {
-            Walk::On(n, e, d) => {
-                at += n;
-                end = e;
-                depth = d;
-            }
-            Walk::Stops => return false,
-        }
+        let Some(next) = list_check::check_next(line, at, end, kinds, frames, depth) else {
+            return false;
+        };
+        at += next.size;
+        end = next.end;
+        depth = next.depth;
     }
     if end != at {
         return false;

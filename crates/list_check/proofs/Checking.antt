@@ -19,10 +19,8 @@ use Rattle.laws.specs.Constants.{six_long}
 use Rattle.paper.specs.Grammar.{Gives, given, look}
 use Rattle.list_pieces.specs.declared.Piece.{Piece}
 use Rattle.list_pieces.specs.declared.Piece.TheVariants as Piece'
-use Rattle.list_check.specs.declared.Fit.{Fit}
-use Rattle.list_check.specs.declared.Fit.TheVariants.{Fits, Fails}
-use Rattle.grammar.specs.declared.Step.{Step}
-use Rattle.grammar.specs.declared.Step.TheVariants as Step'
+use Rattle.std.specs.Prelude.{Option, Some, None}
+use Rattle.grammar.specs.declared.Taken.{Taken}
 use Rattle.list_pieces.specs.Pieces.{piece_at, tokens_of_piece, size_of, end_after, Holds}
 use Rattle.list_pieces.specs.Rest.{Takes, Rest, Numbered}
 use Rattle.grammar.specs.Stack.{stack, gives_of, Steps}
@@ -43,24 +41,24 @@ some l at h = omega (arith, length-drop at l)
 
 module _ {ns : List (List ℕ)} {l : List ℕ} {at end : ℕ} {c : Piece} {old : List ℕ} {depth : ℕ} {new : List ℕ} (i : At ns l at end c old depth new) where
   -- nothing that is right stands there
-  pub fail : (Here ns at end (drop at l) (stack old depth) c → ⊥) → Passes ns l at end c old depth Fails new
+  pub fail : (Here ns at end (drop at l) (stack old depth) c → ⊥) → Passes ns l at end c old depth None new
   fail n = record {
     fits = λ k q. (let z : ◌≡◌ {A = ℕ} 0 1 = cc in absurd (omega arith));
     fails = λ q r. n (rest_here ns at end (drop at l) (stack old depth) c (some l at i.inside) i.stands r);
   }
 
   -- the piece is cut off
-  pub fail_short : length l - at < size_of c → Passes ns l at end c old depth Fails new
+  pub fail_short : length l - at < size_of c → Passes ns l at end c old depth None new
   fail_short k = fail (λ x. omega (arith, x.long, length-drop at l, i.inside))
 
   -- what is right about a piece is not
-  pub fail_holds : (Holds ns (drop at l) c → ⊥) → Passes ns l at end c old depth Fails new
+  pub fail_holds : (Holds ns (drop at l) c → ⊥) → Passes ns l at end c old depth None new
   fail_holds n = fail (λ x. n x.holds)
 
   -- the piece is right, and the stack takes its tokens
   pub pass : (n : ℕ) → Holds ns (drop at l) c → size_of c ≤ length l - at → n ≤ depth + 8 * size_of c
       → (Takes (stack old depth) (all ns at end (drop at l) c) → Takes (stack new n) (later ns at end (drop at l) c)) → (Takes (stack new n) (later ns at end (drop at l) c) → Takes (stack old depth) (all ns at end (drop at l) c))
-      → Passes ns l at end c old depth (Fits n) new
+      → Passes ns l at end c old depth (Some n) new
   pass n o s f down up =
       let u : List ℕ = drop at l in
       let m : drop (size_of c) u ≡ drop (at + size_of c) l = drop-drop (size_of c) at l in
@@ -82,23 +80,23 @@ module _ {ns : List (List ℕ)} {l : List ℕ} {at end : ℕ} {c : Piece} {old :
 
   -- ---- pieces of one token that is no operator
 
-  module _ (t : Token) (p : Plain t) (r : as_read t ≡ t) (o : tokens_of_piece ns (drop at l) c ≡ t ∷ []) {k : ℕ} (ek : k ≡ class t) {x : Step} (st : Steps old depth k x new) where
+  module _ (t : Token) (p : Plain t) (r : as_read t ≡ t) (o : tokens_of_piece ns (drop at l) c ≡ t ∷ []) {k : ℕ} (ek : k ≡ class t) {x : Option Taken} (st : Steps old depth k x new) where
     all_is : all ns at end (drop at l) c ≡ t ∷ later ns at end (drop at l) c
     all_is = ap (λ (ts : List Token). ts ++ (later ns at end (drop at l) c)) o
 
     class_is : class (as_read t) ≡ k
     class_is = ap class r ∙ sym ek
 
-    pub pass_one : (g n : ℕ) → x ≡ Step'.Took g n → Holds ns (drop at l) c → size_of c ≤ length l - at → 1 ≤ size_of c → Passes ns l at end c old depth (Fits n) new
-    pass_one g n q hold size pos =
-        let w = st.takes g n q in
-        let v : step look (stack old depth) (class (as_read t)) ≡ took (gives_of g) (stack new n) = ap (step look (stack old depth)) class_is ∙ w.0 in
-        let own : given (gives_of g) (as_read t) ≡ t = ap (given (gives_of g)) r ∙ p.moves_not (gives_of g) (step_given (stack old depth) (class t) (gives_of g) (stack new n) (ap (step look (stack old depth)) (sym ek) ∙ w.0)) in
-        pass n hold size (omega (arith, w.1))
-        (λ a. (taken (stack old depth) (stack new n) (gives_of g) t (later ns at end (drop at l) c) v (subst (Takes (stack old depth)) all_is a)).1)
-        (λ a. subst (Takes (stack old depth)) (sym all_is) (takes (stack old depth) (stack new n) (gives_of g) t (later ns at end (drop at l) c) v own a))
+    pub pass_one : (got : Taken) → x ≡ Some got → Holds ns (drop at l) c → size_of c ≤ length l - at → 1 ≤ size_of c → Passes ns l at end c old depth (Some got.depth) new
+    pass_one got q hold size pos =
+        let w = st.takes got q in
+        let v : step look (stack old depth) (class (as_read t)) ≡ took (gives_of got.gives) (stack new got.depth) = ap (step look (stack old depth)) class_is ∙ w.0 in
+        let own : given (gives_of got.gives) (as_read t) ≡ t = ap (given (gives_of got.gives)) r ∙ p.moves_not (gives_of got.gives) (step_given (stack old depth) (class t) (gives_of got.gives) (stack new got.depth) (ap (step look (stack old depth)) (sym ek) ∙ w.0)) in
+        pass got.depth hold size (omega (arith, w.1))
+        (λ a. (taken (stack old depth) (stack new got.depth) (gives_of got.gives) t (later ns at end (drop at l) c) v (subst (Takes (stack old depth)) all_is a)).1)
+        (λ a. subst (Takes (stack old depth)) (sym all_is) (takes (stack old depth) (stack new got.depth) (gives_of got.gives) t (later ns at end (drop at l) c) v own a))
 
-    pub fail_one : x ≡ Step'.Refused → Passes ns l at end c old depth Fails new
+    pub fail_one : x ≡ None → Passes ns l at end c old depth None new
     fail_one q =
         fail (λ y. untaken (stack old depth) t (later ns at end (drop at l) c)
         (λ g gs z. st.refuses q g gs (ap (step look (stack old depth)) (sym class_is) ∙ z)) (subst (Takes (stack old depth)) all_is y.taken))
@@ -123,31 +121,31 @@ raw_end_on fs gs e v =
 
 -- ---- raw text and its end
 
-module _ {old mid : List ℕ} {depth : ℕ} {x : Step} (a : Steps old depth raw_text x mid) where
-  text_on : (g d : ℕ) → x ≡ Step'.Took g d → (b : List ℕ) → TakesOn (stack old depth) (stack mid d) (raw b)
-  text_on g d q b = plain_on (stack old depth) (stack mid d) (gives_of g) (raw b) (a_raw_plain b) (raw_text_read b) (ap (step look (stack old depth)) (raw_text_class b) ∙ (a.takes g d q).0)
+module _ {old mid : List ℕ} {depth : ℕ} {x : Option Taken} (a : Steps old depth raw_text x mid) where
+  text_on : (got : Taken) → x ≡ Some got → (b : List ℕ) → TakesOn (stack old depth) (stack mid got.depth) (raw b)
+  text_on got q b = plain_on (stack old depth) (stack mid got.depth) (gives_of got.gives) (raw b) (a_raw_plain b) (raw_text_read b) (ap (step look (stack old depth)) (raw_text_class b) ∙ (a.takes got q).0)
 
-module _ {old mid new : List ℕ} {depth : ℕ} {x : Step} (a : Steps old depth raw_text x mid) where
-  both : (g d : ℕ) → x ≡ Step'.Took g d → {y : Step} → Steps mid d raw_end y new → (h n : ℕ) → y ≡ Step'.Took h n
-      → (n ≤ depth + 16) × ((b : List ℕ) (ts : List Token) → (Takes (stack old depth) (raw b ∷ operator 0x9b ∷ ts) → Takes (stack new n) ts) × (Takes (stack new n) ts → Takes (stack old depth) (raw b ∷ operator 0x9b ∷ ts)))
-  both g d q z h n r =
-      let v = a.takes g d q in
-      let w = z.takes h n r in
-      let k = raw_end_on (stack mid d) (stack new n) (gives_of h) w.0 in (
+module _ {old mid new : List ℕ} {depth : ℕ} {x : Option Taken} (a : Steps old depth raw_text x mid) where
+  both : (got : Taken) → x ≡ Some got → {y : Option Taken} → Steps mid got.depth raw_end y new → (last : Taken) → y ≡ Some last
+      → (last.depth ≤ depth + 16) × ((b : List ℕ) (ts : List Token) → (Takes (stack old depth) (raw b ∷ operator 0x9b ∷ ts) → Takes (stack new last.depth) ts) × (Takes (stack new last.depth) ts → Takes (stack old depth) (raw b ∷ operator 0x9b ∷ ts)))
+  both got q z last r =
+      let v = a.takes got q in
+      let w = z.takes last r in
+      let k = raw_end_on (stack mid got.depth) (stack new last.depth) (gives_of last.gives) w.0 in (
         omega (arith, v.1, w.1),
-        λ b ts. (λ t. k.down ts ((text_on a g d q b).down (operator 0x9b ∷ ts) t), λ t. (text_on a g d q b).up (operator 0x9b ∷ ts) (k.up ts t)),
+        λ b ts. (λ t. k.down ts ((text_on a got q b).down (operator 0x9b ∷ ts) t), λ t. (text_on a got q b).up (operator 0x9b ∷ ts) (k.up ts t)),
       )
 
-  pub raw_taken : (g d : ℕ) → x ≡ Step'.Took g d → {y : Step} → Steps mid d raw_end y new → (h n : ℕ) → y ≡ Step'.Took h n → Ended old depth (Fits n) new
-  raw_taken g d q z h n r = record {
+  pub raw_taken : (got : Taken) → x ≡ Some got → {y : Option Taken} → Steps mid got.depth raw_end y new → (last : Taken) → y ≡ Some last → Ended old depth (Some last.depth) new
+  raw_taken got q z last r = record {
     fits = λ k s.
-        (let m : n ≡ k = cc in
+        (let m : last.depth ≡ k = cc in
         subst (λ (j : ℕ). (j ≤ depth + 16) × ((b : List ℕ) (ts : List Token) → (Takes (stack old depth) (raw b ∷ operator 0x9b ∷ ts) → Takes (stack new j) ts) × (Takes (stack new j) ts → Takes (stack old depth) (raw b ∷ operator 0x9b ∷ ts)))) m
-        (both g d q z h n r));
+        (both got q z last r));
     fails = λ s b ts t. (let m : ◌≡◌ {A = ℕ} 0 1 = cc in absurd (omega arith));
   }
 
-  pub raw_refused : x ≡ Step'.Refused → Ended old depth Fails new
+  pub raw_refused : x ≡ None → Ended old depth None new
   raw_refused q = record {
     fits = λ n s. (let m : ◌≡◌ {A = ℕ} 0 1 = cc in absurd (omega arith));
     fails = λ s b ts t.
@@ -155,44 +153,44 @@ module _ {old mid new : List ℕ} {depth : ℕ} {x : Step} (a : Steps old depth 
         (λ e gs z. a.refuses q e gs (ap (step look (stack old depth)) (sym (ap class (raw_text_read b) ∙ raw_text_class b)) ∙ z)) t;
   }
 
-  pub end_refused : (g d : ℕ) → x ≡ Step'.Took g d → {y : Step} → Steps mid d raw_end y new → y ≡ Step'.Refused → Ended old depth Fails new
-  end_refused g d q z r = record {
+  pub end_refused : (got : Taken) → x ≡ Some got → {y : Option Taken} → Steps mid got.depth raw_end y new → y ≡ None → Ended old depth None new
+  end_refused got q z r = record {
     fits = λ n s. (let m : ◌≡◌ {A = ℕ} 0 1 = cc in absurd (omega arith));
     fails = λ s b ts t.
-        untaken (stack mid d) (operator 0x9b) ts
-        (λ e gs u. z.refuses r e gs (ap (step look (stack mid d)) (sym (ap class raw_end_read ∙ raw_end_class)) ∙ u)) ((text_on a g d q b).down (operator 0x9b ∷ ts) t);
+        untaken (stack mid got.depth) (operator 0x9b) ts
+        (λ e gs u. z.refuses r e gs (ap (step look (stack mid got.depth)) (sym (ap class raw_end_read ∙ raw_end_class)) ∙ u)) ((text_on a got q b).down (operator 0x9b ∷ ts) t);
   }
 
 -- ---- REM and DATA
 
 module _ {ns : List (List ℕ)} {l : List ℕ} {at end k n : ℕ} {old mid : List ℕ} {depth : ℕ} {new : List ℕ} (i : At ns l at end (Piece'.Text k n) old depth new) {c : ℕ} (ek : c ≡ (word_of statements k).class)
-    {x : Step} (a : Steps old depth c x mid) where
-  word_on : (g d : ℕ) → x ≡ Step'.Took g d → TakesOn (stack old depth) (stack mid d) (statement k)
+    {x : Option Taken} (a : Steps old depth c x mid) where
+  word_on : (got : Taken) → x ≡ Some got → TakesOn (stack old depth) (stack mid got.depth) (statement k)
   unfolding class as_read
-  word_on g d q = plain_on (stack old depth) (stack mid d) (gives_of g) (statement k) (a_statement_plain k) refl (ap (step look (stack old depth)) (sym ek) ∙ (a.takes g d q).0)
+  word_on got q = plain_on (stack old depth) (stack mid got.depth) (gives_of got.gives) (statement k) (a_statement_plain k) refl (ap (step look (stack old depth)) (sym ek) ∙ (a.takes got q).0)
 
-  pub pass_text : (g d : ℕ) → x ≡ Step'.Took g d → {y : Fit} → Ended mid d y new → 3 ≤ length l - at → n ≤ length l - at - 3 → Passes ns l at end (Piece'.Text k n) old depth y new
+  pub pass_text : (got : Taken) → x ≡ Some got → {y : Option ℕ} → Ended mid got.depth y new → 3 ≤ length l - at → n ≤ length l - at - 3 → Passes ns l at end (Piece'.Text k n) old depth y new
   unfolding tokens_of_piece size_of
-  pass_text g d q {y} z h m = go y refl
+  pass_text got q {y} z h m = go y refl
     where
-      w : TakesOn (stack old depth) (stack mid d) (statement k)
-      w = word_on g d q
+      w : TakesOn (stack old depth) (stack mid got.depth) (statement k)
+      w = word_on got q
 
-      go : (r : Fit) → y ≡ r → Passes ns l at end (Piece'.Text k n) old depth r new
-      go (Fits j) e =
+      go : (r : Option ℕ) → y ≡ r → Passes ns l at end (Piece'.Text k n) old depth r new
+      go (Some j) e =
           let v = z.fits j e in
-          pass i j (omega (arith, length-drop at l, i.inside)) (omega arith) (omega (arith, v.0, (a.takes g d q).1))
+          pass i j (omega (arith, length-drop at l, i.inside)) (omega arith) (omega (arith, v.0, (a.takes got q).1))
           (λ t. (v.1 _ _).0 (w.down _ t)) (λ t. w.up _ ((v.1 _ _).1 t))
-      go Fails e = fail i (λ t. z.fails e _ _ (w.down _ t.taken))
+      go None e = fail i (λ t. z.fails e _ _ (w.down _ t.taken))
 
-  pub fail_text : x ≡ Step'.Refused → Passes ns l at end (Piece'.Text k n) old depth Fails new
+  pub fail_text : x ≡ None → Passes ns l at end (Piece'.Text k n) old depth None new
   unfolding tokens_of_piece class as_read
   fail_text q = fail i (λ t. untaken (stack old depth) (statement k) _ (λ e gs z. a.refuses q e gs (ap (step look (stack old depth)) ek ∙ z)) t.taken)
 
 -- ---- operators
 
 module _ {ns : List (List ℕ)} {l : List ℕ} {at end k : ℕ} {old : List ℕ} {depth : ℕ} {new : List ℕ} (i : At ns l at end (Piece'.Operator k) old depth new) {r c : ℕ} (er : r ≡ read_as k) (ec : c ≡ operator_class r)
-    {x : Step} (a : Steps old depth c x new) where
+    {x : Option Taken} (a : Steps old depth c x new) where
   read_class : class (as_read (operator k)) ≡ c
   unfolding class as_read
   read_class = ap operator_class (sym er) ∙ sym ec
@@ -200,25 +198,25 @@ module _ {ns : List (List ℕ)} {l : List ℕ} {at end k : ℕ} {old : List ℕ}
   read_below : r < 128
   read_below = subst (λ (z : ℕ). z < 128) (sym er) (read_low k (operator_below at end (drop at l) k i.stands))
 
-  pub pass_operator : (g d : ℕ) → x ≡ Step'.Took g d → (j : ℕ) → (r < 128 → operator j ≡ given (gives_of g) (operator r)) → j ≡ k → Passes ns l at end (Piece'.Operator k) old depth (Fits d) new
+  pub pass_operator : (got : Taken) → x ≡ Some got → (j : ℕ) → (r < 128 → operator j ≡ given (gives_of got.gives) (operator r)) → j ≡ k → Passes ns l at end (Piece'.Operator k) old depth (Some got.depth) new
   unfolding tokens_of_piece size_of as_read
-  pass_operator g d q j e f =
-      let w = a.takes g d q in
-      let own : given (gives_of g) (operator (read_as k)) ≡ operator k = ap (λ (z : ℕ). given (gives_of g) (operator z)) (sym er) ∙ sym (e read_below) ∙ ap operator f in
-      let t = takes_on (stack old depth) (stack new d) (gives_of g) (operator k) (ap (step look (stack old depth)) read_class ∙ w.0) own in
-      pass i d tt (omega (arith, i.inside)) (omega (arith, w.1)) (λ u. t.down _ u) (λ u. t.up _ u)
+  pass_operator got q j e f =
+      let w = a.takes got q in
+      let own : given (gives_of got.gives) (operator (read_as k)) ≡ operator k = ap (λ (z : ℕ). given (gives_of got.gives) (operator z)) (sym er) ∙ sym (e read_below) ∙ ap operator f in
+      let t = takes_on (stack old depth) (stack new got.depth) (gives_of got.gives) (operator k) (ap (step look (stack old depth)) read_class ∙ w.0) own in
+      pass i got.depth tt (omega (arith, i.inside)) (omega (arith, w.1)) (λ u. t.down _ u) (λ u. t.up _ u)
 
-  pub fail_given : (g d : ℕ) → x ≡ Step'.Took g d → (j : ℕ) → (r < 128 → operator j ≡ given (gives_of g) (operator r)) → (j ≡ k → ⊥) → Passes ns l at end (Piece'.Operator k) old depth Fails new
+  pub fail_given : (got : Taken) → x ≡ Some got → (j : ℕ) → (r < 128 → operator j ≡ given (gives_of got.gives) (operator r)) → (j ≡ k → ⊥) → Passes ns l at end (Piece'.Operator k) old depth None new
   unfolding tokens_of_piece as_read
-  fail_given g d q j e f =
-      let w = a.takes g d q in
+  fail_given got q j e f =
+      let w = a.takes got q in
       fail i (λ t.
-      let o = (taken (stack old depth) (stack new d) (gives_of g) (operator k) _ (ap (step look (stack old depth)) read_class ∙ w.0) t.taken).0 in
-      let m : operator j ≡ operator k = e read_below ∙ ap (λ (z : ℕ). given (gives_of g) (operator z)) er ∙ o in
+      let o = (taken (stack old depth) (stack new got.depth) (gives_of got.gives) (operator k) _ (ap (step look (stack old depth)) read_class ∙ w.0) t.taken).0 in
+      let m : operator j ≡ operator k = e read_below ∙ ap (λ (z : ℕ). given (gives_of got.gives) (operator z)) er ∙ o in
       let z : j ≡ k = cc in
       f z)
 
-  pub fail_operator : x ≡ Step'.Refused → Passes ns l at end (Piece'.Operator k) old depth Fails new
+  pub fail_operator : x ≡ None → Passes ns l at end (Piece'.Operator k) old depth None new
   unfolding tokens_of_piece
   fail_operator q = fail i (λ t. untaken (stack old depth) (operator k) _ (λ e gs z. a.refuses q e gs (ap (step look (stack old depth)) (sym read_class) ∙ z)) t.taken)
 
@@ -254,7 +252,7 @@ string_holds ns l at k e i r s h = (
 )
 
 pub fail_string : {ns : List (List ℕ)} {l : List ℕ} {at end k : ℕ} {old : List ℕ} {depth : ℕ} {new : List ℕ} → At ns l at end (Piece'.Quoted k) old depth new → {e : ℕ} → e ≡ at + 2 + run string_byte? (drop (at + 2) l) → 2 + k ≤ length l - at → e - (at + 2) < k
-    → Passes ns l at end (Piece'.Quoted k) old depth Fails new
+    → Passes ns l at end (Piece'.Quoted k) old depth None new
 fail_string {l = l} {at = at} {k = k} i r s h =
     fail_holds i (λ t. omega (
       arith,
@@ -280,7 +278,7 @@ wrong_so true r e h = absurd (subst T (sym h) tt)
 wrong_so false r e h = not_T r (sym e)
 
 pub fail_wrong : {ns : List (List ℕ)} {l : List ℕ} {at end : ℕ} {old : List ℕ} {depth : ℕ} {new : List ℕ} → At ns l at end Piece'.Constant old depth new → {b : Bool} → b ≡ right_constant? (take 6 (drop (at + 1) l)) → not b ≡ true
-    → Passes ns l at end Piece'.Constant old depth Fails new
+    → Passes ns l at end Piece'.Constant old depth None new
 fail_wrong {l = l} {at = at} i {b} r e =
     fail_holds i (λ t. T_not (right_constant? (take 6 (drop (at + 1) l))) (wrong_so b _ r e) (subst (λ (z : List ℕ). T (right_constant? z)) (six_there l at) t))
 

@@ -1,5 +1,5 @@
 -- From the check of a piece to how a walk goes on after it.
-use Prim.Native.Nat.{ℕ, ◌+◌, ◌%◌, ◌≤◌, ◌<◌, ◌^◌}
+use Prim.Native.Nat.{ℕ, ◌%◌, ◌<◌, ◌^◌}
 use native.Mathlib.Omega.{arith}
 use mathlib.Core.Path.{◌≡◌, refl, subst, sym, ap, ◌∙◌}
 use mathlib.Core.Bool.{Bool, true, false}
@@ -10,12 +10,9 @@ use lib.ListN.{length, drop}
 use Rattle.names_kinds.specs.Kinds.{kind_at, kind_there, kind_some}
 use Rattle.list_pieces.specs.declared.Piece.{Piece}
 use Rattle.list_pieces.specs.Pieces.{piece_at, size_of, end_after}
-use Rattle.list_check.specs.declared.Fit.{Fit}
-use Rattle.list_check.specs.declared.Fit.TheVariants.{Fits, Fails}
-use Rattle.list_check.specs.declared.Walk.{Walk}
-use Rattle.list_check.specs.declared.Walk.TheVariants.{On, Stops}
-use Rattle.list_check.specs.Passes.{Onward, Passes, Checked}
-use Rattle.list_check.specs.Walks.{Small, gone, Goes}
+use Rattle.std.specs.Prelude.{Option, Some, None}
+use Rattle.list_check.specs.Passes.{Passes, Checked}
+use Rattle.list_check.specs.Walks.{Goes}
 
 -- ---- kinds
 
@@ -44,43 +41,26 @@ module _ (ns : List (List ℕ)) (i : ℕ) where
 
 -- ---- how a walk goes on
 
-pub gone_on : {f : Fit} {d n e s x : ℕ} → f ≡ Fits d → n ≡ s → e ≡ x → On n e d ≡ gone f s x
-unfolding gone
-gone_on {f} {d} {n} {e} {s} {x} p q r = let z : gone f s x ≡ On s x d = ap (λ (g : Fit). gone g s x) p in cc
-
-pub gone_off : {f : Fit} (s x : ℕ) → f ≡ Fails → Stops ≡ gone f s x
-unfolding gone
-gone_off {f} s x p = sym (ap (λ (g : Fit). gone g s x) p)
-
-module _ (ns : List (List ℕ)) (l : List ℕ) (at end : ℕ) (c k : Piece) (old : List ℕ) (depth : ℕ) (f : Fit) (new : List ℕ) (here : c ≡ piece_at at end (drop at l)) (told : c ≡ k) (a : Checked ns l at k old depth f new) where
-  is : k ≡ piece_at at end (drop at l)
-  is = sym told ∙ here
-
+module _ (ns : List (List ℕ)) (l : List ℕ) (at end : ℕ) (c : Piece) (old : List ℕ) (depth : ℕ) (f : Option ℕ) (new : List ℕ) (here : c ≡ piece_at at end (drop at l)) (a : Checked ns l at c old depth f new) where
   passes : Passes ns l at end (piece_at at end (drop at l)) old depth f new
-  passes = subst (λ (p : Piece). Passes ns l at end p old depth f new) is (a end (sym is))
+  passes = subst (λ (p : Piece). Passes ns l at end p old depth f new) here (a end (sym here))
 
   -- a piece that fits is within the line
-  pub small_piece : length l < 2 ^ 64 → Small k f
-  small_piece h d e = let s : size_of k ≡ size_of (piece_at at end (drop at l)) = ap size_of is in omega (arith, (passes.fits d e).within)
+  pub small_piece : length l < 2 ^ 64 → (d : ℕ) → f ≡ Some d → size_of c < 2 ^ 64
+  small_piece h d e = let s : size_of c ≡ size_of (piece_at at end (drop at l)) = ap size_of here in omega (arith, (passes.fits d e).within)
 
   -- the walk goes on as the check says
-  pub goes_on : {w : Walk} → w ≡ gone f (size_of k) (end_after end (drop at l) k) → Goes ns l at end old depth w new
-  unfolding gone
-  goes_on {w} e = go f refl passes
-    where
-      same : w ≡ gone f (size_of (piece_at at end (drop at l))) (end_after end (drop at l) (piece_at at end (drop at l)))
-      same = e ∙ ap (λ (p : Piece). gone f (size_of p) (end_after end (drop at l) p)) is
+  pub goes_on : (d : ℕ) → f ≡ Some d → {n e : ℕ} → n ≡ size_of c → e ≡ end_after end (drop at l) c → Goes ns l at end old depth (Some (record { size = n; end = e; depth = d })) new
+  goes_on d q {n} {e} p r = record {
+    on = λ k z.
+        (let s : k ≡ record { size = n; end = e; depth = d } = cc in
+        rw s (p ∙ ap size_of here, r ∙ ap (end_after end (drop at l)) here, passes.fits d q));
+    stops = λ z. (let m : ◌≡◌ {A = ℕ} 0 1 = cc in absurd (omega arith));
+  }
 
-      go : (g : Fit) → f ≡ g → Passes ns l at end (piece_at at end (drop at l)) old depth f new → Goes ns l at end old depth w new
-      go (Fits d) q p =
-          let on : w ≡ On (size_of (piece_at at end (drop at l))) (end_after end (drop at l) (piece_at at end (drop at l))) d = same ∙ ap (λ (g : Fit). gone g (size_of (piece_at at end (drop at l))) (end_after end (drop at l) (piece_at at end (drop at l)))) q in
-          record {
-            on = λ n x y z. (cc, cc, (let m : d ≡ y = cc in p.fits y (q ∙ ap Fits m)));
-            stops = λ z. (let m : ◌≡◌ {A = ℕ} 0 1 = cc in absurd (omega arith));
-          }
-      go Fails q p =
-          let off : w ≡ Stops = same ∙ ap (λ (g : Fit). gone g (size_of (piece_at at end (drop at l))) (end_after end (drop at l) (piece_at at end (drop at l)))) q in
-          record {
-            on = λ n x y z. (let m : ◌≡◌ {A = ℕ} 0 1 = cc in absurd (omega arith));
-            stops = λ z. p.fails q;
-          }
+  -- or it stops
+  pub goes_off : f ≡ None → Goes ns l at end old depth None new
+  goes_off q = record {
+    on = λ k z. (let m : ◌≡◌ {A = ℕ} 0 1 = cc in absurd (omega arith));
+    stops = λ z. passes.fails q;
+  }

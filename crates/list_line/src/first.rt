@@ -6,7 +6,6 @@ ghost use Rattle.list_head.specs.Heads.{lawful_for};
 ghost use Rattle.list_line.specs.Listed.{capped, measured};
 
 use list_alone::DEEPEST;
-use list_check::Fit;
 
 // The sum of two lengths, or the first that is longer than the room.
 fn longer(total: usize, more: usize, room: usize) -> usize
@@ -42,16 +41,11 @@ fn measure_body(
     let mut total = longer(0, list_head::write_head(line, direct, none), room);
     while at < line.len() {
         let piece = list_pieces::piece_at(line, at, end);
-        match list_check::check_piece(line, at, piece, names, size, frames, depth) {
-            Fit::Fits(d) => {
-                let text = list_text::write_piece(line, at, piece, names, size, none, 0);
-                total = longer(total, text, room);
-                end = list_pieces::end_after(line, at, end, piece);
-                at += list_pieces::size_of(piece);
-                depth = d;
-            }
-            Fit::Fails => return None,
-        }
+        depth = list_check::check_piece(line, at, piece, names, size, frames, depth)?;
+        let text = list_text::write_piece(line, at, piece, names, size, none, 0);
+        total = longer(total, text, room);
+        end = list_pieces::end_after(line, at, end, piece);
+        at += list_pieces::size_of(piece);
     }
     if end != at {
         return None;

@@ -1,6 +1,5 @@
 -- The invariant: over any names with these kinds, the line is well-formed exactly if the rest is.
 use native.Mathlib.Omega.{arith}
-use Prim.Native.Nat.{◌-◌}
 use mathlib.Core.Path.{refl, sym, ◌∙◌}
 use lib.ListN.{drop}
 use Rattle.paper.specs.Line.{lawful_number?}
@@ -15,19 +14,19 @@ pub check_next-requires : goal.check_next-requires
 check_next-requires c = (c.loop-at-test.true, omega (arith, (c.loop-at.invariant.1 c.requires.1.names c.requires.1.numbered c.requires.1.kinds).shallow, c.loop-at.invariant.0, c.requires.2, c.requires.0.sized, c.shared_slice_known-1.given 2, c.loop-at-test.true), c.requires.1)
 
 pub overflow_add-at : goal.overflow_add-at
-overflow_add-at c = omega (arith, ((c.check_next.ensures c.requires.1.names c.requires.1.numbered c.requires.1.kinds).on _ _ _ c.in-On.is).0, ((c.check_next.ensures c.requires.1.names c.requires.1.numbered c.requires.1.kinds).on _ _ _ c.in-On.is).2.within, c.requires.0.sized, c.shared_slice_known-1.given 2)
+overflow_add-at c = omega (arith, ((c.check_next.ensures c.requires.1.names c.requires.1.numbered c.requires.1.kinds).on _ c.in-Some.is).0, ((c.check_next.ensures c.requires.1.names c.requires.1.numbered c.requires.1.kinds).on _ c.in-Some.is).2.within, c.requires.0.sized, c.shared_slice_known-1.given 2)
 
 pub loop-at-smaller : goal.loop-at-smaller
-loop-at-smaller c = omega (arith, ((c.check_next.ensures c.requires.1.names c.requires.1.numbered c.requires.1.kinds).on _ _ _ c.in-On.is).0, piece_some c.loop-at.at c.loop-at.end (drop c.loop-at.at c.args.line.now) _ refl, ((c.check_next.ensures c.requires.1.names c.requires.1.numbered c.requires.1.kinds).on _ _ _ c.in-On.is).2.within, c.loop-at-test.true)
+loop-at-smaller c = omega (arith, ((c.check_next.ensures c.requires.1.names c.requires.1.numbered c.requires.1.kinds).on _ c.in-Some.is).0, piece_some c.loop-at.at c.loop-at.end (drop c.loop-at.at c.args.line.now) _ refl, ((c.check_next.ensures c.requires.1.names c.requires.1.numbered c.requires.1.kinds).on _ c.in-Some.is).2.within, c.loop-at-test.true)
 
 pub loop-at-preserved : goal.loop-at-preserved
-loop-at-preserved c = (c.check_next.auto.frames ∙ c.loop-at.invariant.0, λ ns nd ks. fitting_step (c.loop-at.invariant.1 ns nd ks) ((c.check_next.ensures ns nd ks).on _ _ _ c.in-On.is).2 ((c.check_next.ensures ns nd ks).on _ _ _ c.in-On.is).1 ((c.check_next.ensures ns nd ks).on _ _ _ c.in-On.is).0)
+loop-at-preserved c = (c.check_next.auto.frames ∙ c.loop-at.invariant.0, λ ns nd ks. fitting_step (c.loop-at.invariant.1 ns nd ks) ((c.check_next.ensures ns nd ks).on _ c.in-Some.is).2 ((c.check_next.ensures ns nd ks).on _ c.in-Some.is).1 ((c.check_next.ensures ns nd ks).on _ c.in-Some.is).0)
 
-pub shape_of-frames-in-Stops : goal.shape_of-frames-in-Stops
-shape_of-frames-in-Stops c = c.check_next.auto.frames ∙ c.loop-at.invariant.0
+pub shape_of-frames-in_default : goal.shape_of-frames-in_default
+shape_of-frames-in_default c = c.check_next.auto.frames ∙ c.loop-at.invariant.0
 
-pub returns-in-Stops : goal.returns-in-Stops
-returns-in-Stops c = λ ns nd ks. sym (fitting_fails (c.loop-at.invariant.1 ns nd ks) ((c.check_next.ensures ns nd ks).stops c.in-Stops.is))
+pub returns-in_default : goal.returns-in_default
+returns-in_default c = λ ns nd ks. sym (fitting_fails (c.loop-at.invariant.1 ns nd ks) ((c.check_next.ensures ns nd ks).stops c.in_default.is))
 
 pub shape_of-frames-then-end-at : goal.shape_of-frames-then-end-at
 shape_of-frames-then-end-at c = c.loop-at.invariant.0

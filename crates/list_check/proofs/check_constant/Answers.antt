@@ -13,10 +13,10 @@ pub returns-then-not-is_right : goal.returns-then-not-is_right
 unfolding tokens_of_piece size_of class as_read
 returns-then-not-is_right c = λ ns nd end e. fail_wrong (record { numbered = nd; inside = c.requires.0; stands = e }) c.is_right.ensures (ap not c.if-not-is_right.true)
 
-pub returns-in-Took : goal.returns-in-Took
+pub returns : goal.returns
 unfolding tokens_of_piece size_of class as_read
-returns-in-Took c = let a = c.args in λ ns nd end e. pass_one (record { numbered = nd; inside = c.requires.0; stands = e }) (constant (take 6 (drop 1 (drop a.at a.line.now)))) (a_constant_plain _) refl refl (refl) c.take_next.ensures _ _ c.in-Took.is (right_holds ns a.line.now a.at _ c.is_right.ensures (ap not c.if-not-is_right.false)) (right_long a.line.now a.at _ c.is_right.ensures (ap not c.if-not-is_right.false)) (omega arith)
+returns c = let a = c.args in λ ns nd end e. pass_one (record { numbered = nd; inside = c.requires.0; stands = e }) (constant (take 6 (drop 1 (drop a.at a.line.now)))) (a_constant_plain _) refl refl (refl) c.take_next.ensures _ (c.in_ok-taken.was) (right_holds ns a.line.now a.at _ c.is_right.ensures (ap not c.if-not-is_right.false)) (right_long a.line.now a.at _ c.is_right.ensures (ap not c.if-not-is_right.false)) (omega arith)
 
-pub returns-in-Refused : goal.returns-in-Refused
+pub returns-in_err-taken : goal.returns-in_err-taken
 unfolding tokens_of_piece size_of class as_read
-returns-in-Refused c = λ ns nd end e. fail_one (record { numbered = nd; inside = c.requires.0; stands = e }) (constant (take 6 (drop 1 (drop c.args.at c.args.line.now)))) (a_constant_plain _) refl refl (refl) c.take_next.ensures c.in-Refused.is
+returns-in_err-taken c = rw c.from_residual.ensures (λ ns nd end e. fail_one (record { numbered = nd; inside = c.requires.0; stands = e }) (constant (take 6 (drop 1 (drop c.args.at c.args.line.now)))) (a_constant_plain _) refl refl (refl) c.take_next.ensures (c.in_err-taken.was))

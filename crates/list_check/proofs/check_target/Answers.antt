@@ -37,10 +37,10 @@ pub take_item-requires : goal.take_item-requires
 unfolding tokens_of_piece size_of as_read
 take_item-requires c = (omega arith, omega (arith, c.first_class.ensures, c.if-kind-ge-WORD.false))
 
-pub returns-in-Took : goal.returns-in-Took
+pub returns : goal.returns
 unfolding tokens_of_piece size_of as_read
-returns-in-Took c = let a = c.args in λ ns nd prem end e. pass_one (record { numbered = nd; inside = c.requires.0; stands = e }) (assigned (get_or ns c.args.variable.number [])) (an_assigned_plain _) refl refl (c.first_class.ensures ∙ ap (λ (k : ℕ). k + 3) (let z : c.args.kind ≡ class (variable (get_or ns c.args.variable.number [])) = omega (arith, prem, kind_class ns c.args.variable.number (kind_there ns c.args.variable.number (λ z. c.if-kind-eq0.false (prem ∙ z))), c.if-kind-ge-WORD.false) in z) ∙ sym (first_class (get_or ns c.args.variable.number []))) c.take_item.ensures _ _ c.in-Took.is (target_told _ a.at end (drop a.at a.line.now) a.variable e (omega (arith, get_or-drop a.at a.line.now 2 0, c.shared_slice_known-1.given (a.at + 2))) (kind_there ns c.args.variable.number (λ z. c.if-kind-eq0.false (prem ∙ z))) (omega (arith, c.if-line-at.false, length-drop a.at a.line.now)), not_T (statement_word? (less_open (get_or ns c.args.variable.number []))) (no_word ns c.args.variable.number (kind_there ns c.args.variable.number (λ z. c.if-kind-eq0.false (prem ∙ z))) (omega (arith, prem, c.if-kind-ge-WORD.false)))) c.if-line-at.false (piece_some a.at end (drop a.at a.line.now) _ e)
+returns c = let a = c.args in λ ns nd prem end e. pass_one (record { numbered = nd; inside = c.requires.0; stands = e }) (assigned (get_or ns c.args.variable.number [])) (an_assigned_plain _) refl refl (c.first_class.ensures ∙ ap (λ (k : ℕ). k + 3) (let z : c.args.kind ≡ class (variable (get_or ns c.args.variable.number [])) = omega (arith, prem, kind_class ns c.args.variable.number (kind_there ns c.args.variable.number (λ z. c.if-kind-eq0.false (prem ∙ z))), c.if-kind-ge-WORD.false) in z) ∙ sym (first_class (get_or ns c.args.variable.number []))) c.take_item.ensures _ c.in_ok-taken.was (target_told _ a.at end (drop a.at a.line.now) a.variable e (omega (arith, get_or-drop a.at a.line.now 2 0, c.shared_slice_known-1.given (a.at + 2))) (kind_there ns c.args.variable.number (λ z. c.if-kind-eq0.false (prem ∙ z))) (omega (arith, c.if-line-at.false, length-drop a.at a.line.now)), not_T (statement_word? (less_open (get_or ns c.args.variable.number []))) (no_word ns c.args.variable.number (kind_there ns c.args.variable.number (λ z. c.if-kind-eq0.false (prem ∙ z))) (omega (arith, prem, c.if-kind-ge-WORD.false)))) c.if-line-at.false (piece_some a.at end (drop a.at a.line.now) _ e)
 
-pub returns-in-Refused : goal.returns-in-Refused
+pub returns-in_err-taken : goal.returns-in_err-taken
 unfolding tokens_of_piece size_of as_read
-returns-in-Refused c = λ ns nd prem end e. fail_one (record { numbered = nd; inside = c.requires.0; stands = e }) (assigned (get_or ns c.args.variable.number [])) (an_assigned_plain _) refl refl (c.first_class.ensures ∙ ap (λ (k : ℕ). k + 3) (let z : c.args.kind ≡ class (variable (get_or ns c.args.variable.number [])) = omega (arith, prem, kind_class ns c.args.variable.number (kind_there ns c.args.variable.number (λ z. c.if-kind-eq0.false (prem ∙ z))), c.if-kind-ge-WORD.false) in z) ∙ sym (first_class (get_or ns c.args.variable.number []))) c.take_item.ensures c.in-Refused.is
+returns-in_err-taken c = rw c.from_residual.ensures (λ ns nd prem end e. fail_one (record { numbered = nd; inside = c.requires.0; stands = e }) (assigned (get_or ns c.args.variable.number [])) (an_assigned_plain _) refl refl (c.first_class.ensures ∙ ap (λ (k : ℕ). k + 3) (let z : c.args.kind ≡ class (variable (get_or ns c.args.variable.number [])) = omega (arith, prem, kind_class ns c.args.variable.number (kind_there ns c.args.variable.number (λ z. c.if-kind-eq0.false (prem ∙ z))), c.if-kind-ge-WORD.false) in z) ∙ sym (first_class (get_or ns c.args.variable.number []))) c.take_item.ensures c.in_err-taken.was)

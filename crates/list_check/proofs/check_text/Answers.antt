@@ -15,16 +15,16 @@ returns-then-left-size c = λ ns nd end e. fail_short (record { numbered = nd; i
 
 pub take_item-requires : goal.take_item-requires
 unfolding size_of
-take_item-requires c = (omega arith, omega (arith, c.statement_class.ensures, statement_low c.args.token))
+take_item-requires c = (omega arith, omega (arith, c.statement_class-class.ensures, statement_low c.args.token))
 
 pub check_raw-requires : goal.check_raw-requires
 unfolding size_of
-check_raw-requires c = omega (arith, (c.take_item.ensures.takes _ _ c.in-Took.is).1, c.take_item.auto.frames)
+check_raw-requires c = omega (arith, (c.take_item.ensures.takes _ c.in_ok-word.was).1, c.take_item.auto.frames)
 
-pub returns-in-Took : goal.returns-in-Took
+pub returns : goal.returns
 unfolding size_of
-returns-in-Took c = λ ns nd end e. pass_text (record { numbered = nd; inside = c.requires.0; stands = e }) c.statement_class.ensures c.take_item.ensures _ _ c.in-Took.is c.check_raw.ensures c.if-left-lt3.false c.if-left-size.false
+returns c = λ ns nd end e. pass_text (record { numbered = nd; inside = c.requires.0; stands = e }) c.statement_class-class.ensures c.take_item.ensures _ c.in_ok-word.was c.check_raw.ensures c.if-left-lt3.false c.if-left-size.false
 
-pub returns-in-Refused : goal.returns-in-Refused
+pub returns-in_err-word : goal.returns-in_err-word
 unfolding size_of
-returns-in-Refused c = λ ns nd end e. fail_text (record { numbered = nd; inside = c.requires.0; stands = e }) c.statement_class.ensures c.take_item.ensures c.in-Refused.is
+returns-in_err-word c = rw c.from_residual.ensures (λ ns nd end e. fail_text (record { numbered = nd; inside = c.requires.0; stands = e }) c.statement_class-class.ensures c.take_item.ensures c.in_err-word.was)

@@ -24,10 +24,10 @@ pub take_next-requires : goal.take_next-requires
 unfolding tokens_of_piece size_of as_read
 take_next-requires c = (omega arith, c.requires.2)
 
-pub returns-in-Took : goal.returns-in-Took
+pub returns : goal.returns
 unfolding tokens_of_piece size_of as_read
-returns-in-Took c = let a = c.args in λ ns nd prem end e. pass_one (record { numbered = nd; inside = c.requires.0; stands = e }) (variable (get_or ns c.args.variable.number [])) (a_variable_plain _) refl refl (prem ∙ kind_class ns c.args.variable.number (kind_there ns c.args.variable.number (λ z. c.if-own-eq0.false (prem ∙ ap (λ (k : ℕ). k % 8) z)))) c.take_next.ensures _ _ c.in-Took.is (variable_told _ a.at end (drop a.at a.line.now) a.variable e (omega (arith, get_or-drop a.at a.line.now 0 0, c.shared_slice_known-1.given (a.at + 0))) (kind_there ns c.args.variable.number (λ z. c.if-own-eq0.false (prem ∙ ap (λ (k : ℕ). k % 8) z))) (omega (arith, c.if-line-at.false, length-drop a.at a.line.now))) c.if-line-at.false (piece_some a.at end (drop a.at a.line.now) _ e)
+returns c = let a = c.args in λ ns nd prem end e. pass_one (record { numbered = nd; inside = c.requires.0; stands = e }) (variable (get_or ns c.args.variable.number [])) (a_variable_plain _) refl refl (prem ∙ kind_class ns c.args.variable.number (kind_there ns c.args.variable.number (λ z. c.if-own-eq0.false (prem ∙ ap (λ (k : ℕ). k % 8) z)))) c.take_next.ensures _ c.in_ok-taken.was (variable_told _ a.at end (drop a.at a.line.now) a.variable e (omega (arith, get_or-drop a.at a.line.now 0 0, c.shared_slice_known-1.given (a.at + 0))) (kind_there ns c.args.variable.number (λ z. c.if-own-eq0.false (prem ∙ ap (λ (k : ℕ). k % 8) z))) (omega (arith, c.if-line-at.false, length-drop a.at a.line.now))) c.if-line-at.false (piece_some a.at end (drop a.at a.line.now) _ e)
 
-pub returns-in-Refused : goal.returns-in-Refused
+pub returns-in_err-taken : goal.returns-in_err-taken
 unfolding tokens_of_piece size_of as_read
-returns-in-Refused c = λ ns nd prem end e. fail_one (record { numbered = nd; inside = c.requires.0; stands = e }) (variable (get_or ns c.args.variable.number [])) (a_variable_plain _) refl refl (prem ∙ kind_class ns c.args.variable.number (kind_there ns c.args.variable.number (λ z. c.if-own-eq0.false (prem ∙ ap (λ (k : ℕ). k % 8) z)))) c.take_next.ensures c.in-Refused.is
+returns-in_err-taken c = rw c.from_residual.ensures (λ ns nd prem end e. fail_one (record { numbered = nd; inside = c.requires.0; stands = e }) (variable (get_or ns c.args.variable.number [])) (a_variable_plain _) refl refl (prem ∙ kind_class ns c.args.variable.number (kind_there ns c.args.variable.number (λ z. c.if-own-eq0.false (prem ∙ ap (λ (k : ℕ). k % 8) z)))) c.take_next.ensures c.in_err-taken.was)

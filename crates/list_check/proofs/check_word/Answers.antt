@@ -14,12 +14,12 @@ returns-then-line-at-lt2 c = λ ns nd end e. fail_short (record { numbered = nd;
 
 pub take_item-requires : goal.take_item-requires
 unfolding tokens_of_piece size_of class as_read
-take_item-requires c = (omega arith, omega (arith, c.statement_class.ensures, statement_low c.args.token))
+take_item-requires c = (omega arith, omega (arith, c.statement_class-class.ensures, statement_low c.args.token))
 
-pub returns-in-Took : goal.returns-in-Took
+pub returns : goal.returns
 unfolding tokens_of_piece size_of class as_read
-returns-in-Took c = let a = c.args in λ ns nd end e. pass_one (record { numbered = nd; inside = c.requires.0; stands = e }) (the_word a.token) (a_statement_plain a.token) refl refl c.statement_class.ensures c.take_item.ensures _ _ c.in-Took.is (omega (arith, length-drop a.at a.line.now, c.if-line-at-lt2.false)) (omega (arith, c.if-line-at-lt2.false)) (omega arith)
+returns c = let a = c.args in λ ns nd end e. pass_one (record { numbered = nd; inside = c.requires.0; stands = e }) (the_word a.token) (a_statement_plain a.token) refl refl c.statement_class-class.ensures c.take_item.ensures _ c.in_ok-word.was (omega (arith, length-drop a.at a.line.now, c.if-line-at-lt2.false)) (omega (arith, c.if-line-at-lt2.false)) (omega arith)
 
-pub returns-in-Refused : goal.returns-in-Refused
+pub returns-in_err-word : goal.returns-in_err-word
 unfolding tokens_of_piece size_of class as_read
-returns-in-Refused c = λ ns nd end e. fail_one (record { numbered = nd; inside = c.requires.0; stands = e }) (the_word c.args.token) (a_statement_plain c.args.token) refl refl c.statement_class.ensures c.take_item.ensures c.in-Refused.is
+returns-in_err-word c = rw c.from_residual.ensures (λ ns nd end e. fail_one (record { numbered = nd; inside = c.requires.0; stands = e }) (the_word c.args.token) (a_statement_plain c.args.token) refl refl c.statement_class-class.ensures c.take_item.ensures c.in_err-word.was)

@@ -22,34 +22,34 @@ pub check_piece-requires : goal.check_piece-requires
 check_piece-requires c = (c.loop-at-test.true, omega (arith, c.loop-at.invariant.2.fitting.shallow, c.loop-at.invariant.0, c.requires.3, c.requires.0.sized, c.shared_slice_known-1.given 2, c.loop-at-test.true), c.requires.1)
 
 pub write_piece-text-requires : goal.write_piece-text-requires
-write_piece-text-requires c = (((c.check_piece.ensures c.loop-at.end (sym c.piece_at-piece.ensures)).fits _ c.in-Fits.is).within, omega arith, ((c.check_piece.ensures c.loop-at.end (sym c.piece_at-piece.ensures)).fits _ c.in-Fits.is).holds)
+write_piece-text-requires c = (((c.check_piece.ensures c.loop-at.end (sym c.piece_at-piece.ensures)).fits _ c.in_ok-depth.was).within, omega arith, ((c.check_piece.ensures c.loop-at.end (sym c.piece_at-piece.ensures)).fits _ c.in_ok-depth.was).holds)
 
-pub longer-total-requires-in-Fits : goal.longer-total-requires-in-Fits
-longer-total-requires-in-Fits c = (c.requires.2, omega (arith, c.loop-at.invariant.2.count, capped_most c.args.room c.loop-at.invariant.2.before))
+pub longer-total-requires-in-loop-at : goal.longer-total-requires-in-loop-at
+longer-total-requires-in-loop-at c = (c.requires.2, omega (arith, c.loop-at.invariant.2.count, capped_most c.args.room c.loop-at.invariant.2.before))
 
 pub end_after-end-requires : goal.end_after-end-requires
 end_after-end-requires c = c.loop-at-test.true
 
 pub size_of-at-requires : goal.size_of-at-requires
-size_of-at-requires c = omega (arith, ((c.check_piece.ensures c.loop-at.end (sym c.piece_at-piece.ensures)).fits _ c.in-Fits.is).within, c.requires.0.sized, c.shared_slice_known-1.given 2)
+size_of-at-requires c = omega (arith, ((c.check_piece.ensures c.loop-at.end (sym c.piece_at-piece.ensures)).fits _ c.in_ok-depth.was).within, c.requires.0.sized, c.shared_slice_known-1.given 2)
 
 pub overflow_add-at : goal.overflow_add-at
-overflow_add-at c = omega (arith, c.size_of-at.ensures, ((c.check_piece.ensures c.loop-at.end (sym c.piece_at-piece.ensures)).fits _ c.in-Fits.is).within, c.requires.0.sized, c.shared_slice_known-1.given 2)
+overflow_add-at c = omega (arith, c.size_of-at.ensures, ((c.check_piece.ensures c.loop-at.end (sym c.piece_at-piece.ensures)).fits _ c.in_ok-depth.was).within, c.requires.0.sized, c.shared_slice_known-1.given 2)
 
 pub loop-at-smaller : goal.loop-at-smaller
-loop-at-smaller c = omega (arith, c.size_of-at.ensures, piece_some _ _ _ _ (sym c.piece_at-piece.ensures), ((c.check_piece.ensures c.loop-at.end (sym c.piece_at-piece.ensures)).fits _ c.in-Fits.is).within, c.loop-at-test.true)
+loop-at-smaller c = omega (arith, c.size_of-at.ensures, piece_some _ _ _ _ (sym c.piece_at-piece.ensures), ((c.check_piece.ensures c.loop-at.end (sym c.piece_at-piece.ensures)).fits _ c.in_ok-depth.was).within, c.loop-at-test.true)
 
 pub loop-at-preserved : goal.loop-at-preserved
-loop-at-preserved c = (c.check_piece.auto.frames ∙ c.loop-at.invariant.0, c.write_piece-text.auto.out ∙ c.loop-at.invariant.1, measuring_next c.loop-at.invariant.2 c.loop-at-test.true (sym c.piece_at-piece.ensures) ((c.check_piece.ensures c.loop-at.end (sym c.piece_at-piece.ensures)).fits _ c.in-Fits.is) c.write_piece-text.ensures c.longer-total-in-Fits.ensures c.end_after-end.ensures c.size_of-at.ensures)
+loop-at-preserved c = (c.check_piece.auto.frames ∙ c.loop-at.invariant.0, c.write_piece-text.auto.out ∙ c.loop-at.invariant.1, measuring_next c.loop-at.invariant.2 c.loop-at-test.true (sym c.piece_at-piece.ensures) ((c.check_piece.ensures c.loop-at.end (sym c.piece_at-piece.ensures)).fits _ c.in_ok-depth.was) c.write_piece-text.ensures c.longer-total-in-loop-at.ensures c.end_after-end.ensures c.size_of-at.ensures)
 
-pub shape_of-frames-in-Fails : goal.shape_of-frames-in-Fails
-shape_of-frames-in-Fails c = c.check_piece.auto.frames ∙ c.loop-at.invariant.0
+pub shape_of-frames-in_err-depth : goal.shape_of-frames-in_err-depth
+shape_of-frames-in_err-depth c = c.check_piece.auto.frames ∙ c.loop-at.invariant.0
 
-pub shape_of-none-in-Fails : goal.shape_of-none-in-Fails
-shape_of-none-in-Fails c = c.loop-at.invariant.1 ∙ c.write_head.auto.out
+pub shape_of-none-in_err-depth : goal.shape_of-none-in_err-depth
+shape_of-none-in_err-depth c = c.loop-at.invariant.1 ∙ c.write_head.auto.out
 
-pub returns-in-Fails : goal.returns-in-Fails
-returns-in-Fails c = measuring_fails c.loop-at.invariant.2 ((c.check_piece.ensures c.loop-at.end (sym c.piece_at-piece.ensures)).fails c.in-Fails.is)
+pub returns-in_err-depth : goal.returns-in_err-depth
+returns-in_err-depth c = rw c.from_residual.ensures (measuring_fails c.loop-at.invariant.2 ((c.check_piece.ensures c.loop-at.end (sym c.piece_at-piece.ensures)).fails c.in_err-depth.was))
 
 pub shape_of-frames-then-end-at : goal.shape_of-frames-then-end-at
 shape_of-frames-then-end-at c = c.loop-at.invariant.0
