@@ -1,13 +1,14 @@
 -- What examining a saved program file answers: document 02's §10 over the parts of a file of §7.
-use Rattle.std.specs.Prelude.{ℕ, suc, ◌*◌, not, List, [], ◌∷◌, leb, eqb, length}
+use Rattle.std.specs.Prelude.{ℕ, suc, ◌*◌, not, List, [], ◌∷◌, leb, eqb, length, Result, Ok, Err}
 use Rattle.paper.specs.Bytes.{pick, joined}
 use Rattle.paper.specs.Names.{names_in, sound_table}
 use Rattle.paper.specs.Files.{Parts, parts_of, no_head?, right_words?, sound_parts?}
-use Rattle.paper.specs.Examine.{unsound_names, unsound_values, unsound_store, examine}
+use Rattle.paper.specs.Examine.{yes, unsound_names, unsound_values, unsound_store, examine}
 use Rattle.paper.specs.Examine.{Verdict as Answer}
 use Rattle.editor_examine.specs.Verdicts.{verdict}
-use Rattle.file_examine.specs.declared.Examined.{Examined}
-use Rattle.file_examine.specs.declared.Examined.TheVariants as Examined'
+use Rattle.refusals.specs.Numbers.{number_of}
+use Rattle.file_examine.specs.declared.Fault.{Fault}
+use Rattle.file_examine.specs.declared.Fault.TheVariants.{NotRead, Flawed}
 
 -- the answer: the number of the refusal that reading the file gives, or the answer of its program
 pub data Judged : Type 0 where
@@ -31,9 +32,10 @@ examine_file file =
     pick (no_head? file) (not_read 12) (pick (not (right_words? file)) (not_read 13) (pick (not (sound_parts? p)) (program (unsound_part p)) (program (examined_parts p))))
 
 -- the answer of the code as that of the definitions
-unfoldable pub examined : Examined → Judged
-examined (Examined'.NotRead n) = not_read n
-examined (Examined'.Program v) = program (verdict v)
+unfoldable pub examined : Result (Unit {0}) Fault → Judged
+examined (Ok u) = program yes
+examined (Err (NotRead r)) = not_read (number_of r)
+examined (Err (Flawed f)) = program (verdict (Err f))
 
 -- how many bytes have their top bit set
 unfoldable pub name_ends : List ℕ → ℕ

@@ -1,30 +1,46 @@
 -- The names counted by their last bytes; the parts of a file that is refused with 1; and the whole answer.
 use Prim.Native.Nat.{ℕ, suc, ◌+◌, ◌-◌, ◌*◌, ◌≤◌, ◌<◌}
 use native.Mathlib.Omega.{arith}
-use Rattle.std.proofs.Common.{add-one, subst, ◌∙◌, length-drop, drop-cons}
-use Rattle.std.specs.Prelude.{◌≡◌, refl, Bool, true, false, not, ◌&&◌, ◌||◌, leb, ltb, eqb, drop, get_or}
+use Rattle.std.proofs.Common.{add-one, ◌∙◌, length-drop, drop-cons}
+use Rattle.std.specs.Prelude.{◌≡◌, refl, Bool, true, false, not, ◌||◌, leb, ltb, drop, get_or, cond, count_by, Result, Ok, Err, MatchResult, IsErrAnd}
 use Rattle.std.proofs.Math.Path.{sym, ap, ap₂}
 use Rattle.std.proofs.Math.Bool.{and-false}
+use Rattle.std.proofs.lemmas.List.Recursion.{is_count_by}
+use Rattle.std.proofs.lemmas.Result.{err_from_is_err_and}
 use mathlib.Core.List.{List, [], ◌∷◌}
 use Rattle.std.proofs.Math.ListN.{length, take}
 use Rattle.std.proofs.Math.Seq.{take-length}
 use borrow.Author.Tests.{le-leb, lt-leb, ltb-false, eq-eqb, ne_eqb}
-use Rattle.paper.specs.Bytes.{pick, same, joined}
-use Rattle.paper.specs.Names.{in_front, names_in, name_bytes, sound_names, sound_table}
-use Rattle.paper.specs.Files.{word_at, Parts, parts_of, no_head?, right_words?, sound_parts?, unless_faulty}
+use Rattle.paper.specs.Bytes.{pick, joined}
+use Rattle.paper.specs.Names.{in_front, names_in, sound_table}
+use Rattle.paper.specs.Files.{word_at, Parts, parts_of, no_head?, right_words?, sound_parts?}
 use Rattle.paper.specs.Examine.{unsound_names, unsound_values, unsound_store, examine}
 use Rattle.paper.specs.Examine.{Verdict as Answer}
 use Rattle.laws.specs.Names.{closed?, names_some, same_bytes, sound_facts}
 use Rattle.editor_edit.specs.declared.Editor.{Editor}
-use Rattle.file_load.specs.declared.Opened.{Opened}
-use Rattle.file_load.specs.declared.Opened.TheVariants.{Refused, Holds}
-use Rattle.file_load.specs.Answers.{record_of_parts, opened}
+use Rattle.refusals.specs.Numbers.{number_of}
+use Rattle.refusals.specs.declared.Refusal.{Refusal}
+use Rattle.refusals.specs.declared.Refusal.TheVariants.{Unsound, NoProgram, Damaged}
+use Rattle.file_load.specs.Answers.{record_of_parts, parted, opened}
 use Rattle.file_load.specs.WordLaws.{Right, right}
 use Rattle.file_load.specs.TableLaws.{within, parts_are, found_names, found_values}
 use Rattle.file_load.specs.Lies.{Lies, lies}
-use Rattle.file_examine.specs.Answers.{Judged, not_read, program, unsound_part, examined_parts, examine_file, name_ends}
+use Rattle.editor_examine.specs.declared.Flaw.{Flaw}
+use Rattle.editor_examine.specs.Verdicts.{verdict}
+use Rattle.file_examine.specs.declared.Fault.{Fault}
+use Rattle.file_examine.specs.declared.Fault.TheVariants.{Flawed}
+use Rattle.file_examine.specs.Answers.{not_read, program, unsound_part, examined_parts, examine_file, examined, name_ends}
 
 -- ---- names counted by their last bytes
+
+-- the bytes that end a name, counted
+pub ends_counted : (s : List ℕ) → name_ends s ≡ count_by (λ (b : ℕ). leb 128 b) s
+unfolding name_ends
+ends_counted = is_count_by name_ends (λ (b : ℕ). leb 128 b) refl (λ b bs. go (leb 128 b) (name_ends bs))
+  where
+    go : (t : Bool) (n : ℕ) → pick t (suc n) n ≡ cond t (1 + n) n
+    go true n = omega arith
+    go false n = refl
 
 -- a byte more, which ends a name
 pub end_more : (s : List ℕ) (i n m r : ℕ) → i < length s → 128 ≤ get_or s i 0 → m ≡ n + 1 → n + name_ends (drop i s) ≡ r → m + name_ends (drop (i + 1) s) ≡ r
@@ -107,15 +123,15 @@ not_either : (a b : Bool) → a || b ≡ false → a ≡ false
 not_either true b e = e
 not_either false b e = refl
 
-module _ (file : List ℕ) (e : opened file ≡ Refused 1) where
-  faulty_go : (a b c : Bool) (r : Editor) → pick a (Refused 12) (pick (not b) (Refused 13) (pick (not c) (Refused 1) (Holds r))) ≡ Refused 1 → (a ≡ false) × (b ≡ true) × (c ≡ false)
+module _ (file : List ℕ) (e : opened file ≡ Err Unsound) where
+  faulty_go : (a b c : Bool) (r : Editor) → ◌≡◌ {A = Result Editor Refusal} (pick a (Err NoProgram) (pick (not b) (Err Damaged) (pick (not c) (Err Unsound) (Ok r)))) (Err Unsound) → (a ≡ false) × (b ≡ true) × (c ≡ false)
   faulty_go true b c r e = let z : ◌≡◌ {A = ℕ} 12 1 = cc in absurd (omega arith)
   faulty_go false false c r e = let z : ◌≡◌ {A = ℕ} 13 1 = cc in absurd (omega arith)
   faulty_go false true false r e = (refl, refl, refl)
   faulty_go false true true r e = let z : ◌≡◌ {A = ℕ} 0 1 = cc in absurd (omega arith)
 
   faulty : (no_head? file ≡ false) × (right_words? file ≡ true) × (sound_parts? (parts_of file) ≡ false)
-  unfolding opened unless_faulty
+  unfolding opened parted
   faulty = faulty_go (no_head? file) (right_words? file) (sound_parts? (parts_of file)) (record_of_parts (parts_of file)) e
 
   has_words : 14 ≤ length file
@@ -164,20 +180,20 @@ module _ (file : List ℕ) (e : opened file ≡ Refused 1) where
   tells_part v h = ap program h ∙ sym (rw (faulty.0, faulty.1, faulty.2))
 
 -- a file that is refused with another number
-other_go : (a b c : Bool) (r : Editor) (k : ℕ) (x y : Answer) → (k ≡ 1 → ⊥) → pick a (Refused 12) (pick (not b) (Refused 13) (pick (not c) (Refused 1) (Holds r))) ≡ Refused k
-    → not_read k ≡ pick a (not_read 12) (pick (not b) (not_read 13) (pick (not c) (program x) (program y)))
-other_go true b c r k x y n e = let same : ◌≡◌ {A = ℕ} 12 k = cc in ap not_read (sym same)
-other_go false false c r k x y n e = let same : ◌≡◌ {A = ℕ} 13 k = cc in ap not_read (sym same)
-other_go false true false r k x y n e = let same : ◌≡◌ {A = ℕ} 1 k = cc in absurd (n (sym same))
+other_go : (a b c : Bool) (r : Editor) (k : Refusal) (x y : Answer) → (k ≡ Unsound → ⊥) → ◌≡◌ {A = Result Editor Refusal} (pick a (Err NoProgram) (pick (not b) (Err Damaged) (pick (not c) (Err Unsound) (Ok r)))) (Err k)
+    → not_read (number_of k) ≡ pick a (not_read 12) (pick (not b) (not_read 13) (pick (not c) (program x) (program y)))
+other_go true b c r k x y n e = let same : NoProgram ≡ k = cc in ap (λ (q : Refusal). not_read (number_of q)) (sym same)
+other_go false false c r k x y n e = let same : Damaged ≡ k = cc in ap (λ (q : Refusal). not_read (number_of q)) (sym same)
+other_go false true false r k x y n e = let same : Unsound ≡ k = cc in absurd (n (sym same))
 other_go false true true r k x y n e = let z : ◌≡◌ {A = ℕ} 0 1 = cc in absurd (omega arith)
 
-pub tells_number : (file : List ℕ) (k : ℕ) → opened file ≡ Refused k → (k ≡ 1 → ⊥) → not_read k ≡ examine_file file
-unfolding opened unless_faulty examine_file
+pub tells_number : (file : List ℕ) (k : Refusal) → opened file ≡ Err k → (k ≡ Unsound → ⊥) → not_read (number_of k) ≡ examine_file file
+unfolding opened parted examine_file
 tells_number file k e n = other_go (no_head? file) (right_words? file) (sound_parts? (parts_of file)) (record_of_parts (parts_of file)) k _ _ n e
 
 -- ---- a file that holds a program
 
-module _ (file : List ℕ) (held : Editor) (e : opened file ≡ Holds held) where
+module _ (file : List ℕ) (held : Editor) (e : opened file ≡ Ok held) where
   pub lies_so : Lies file held
   lies_so = lies file held e
 
@@ -207,7 +223,7 @@ module _ (file : List ℕ) (held : Editor) (e : opened file ≡ Holds held) wher
       ∙ ap (λ (x : ℕ). examine p.names (length p.names) (length (names_in p.names)) p.values (joined p.lines) x) (sym l.line_size)
 
   -- the whole answer
-  holds_go : (a b c : Bool) (r : Editor) (x y : Answer) → pick a (Refused 12) (pick (not b) (Refused 13) (pick (not c) (Refused 1) (Holds r))) ≡ Holds held
+  holds_go : (a b c : Bool) (r : Editor) (x y : Answer) → ◌≡◌ {A = Result Editor Refusal} (pick a (Err NoProgram) (pick (not b) (Err Damaged) (pick (not c) (Err Unsound) (Ok r)))) (Ok held)
       → program y ≡ pick a (not_read 12) (pick (not b) (not_read 13) (pick (not c) (program x) (program y)))
   holds_go true b c r x y e = let z : ◌≡◌ {A = ℕ} 0 1 = cc in absurd (omega arith)
   holds_go false false c r x y e = let z : ◌≡◌ {A = ℕ} 0 1 = cc in absurd (omega arith)
@@ -215,5 +231,11 @@ module _ (file : List ℕ) (held : Editor) (e : opened file ≡ Holds held) wher
   holds_go false true true r x y e = refl
 
   pub tells_program : (v : Answer) → v ≡ examined_parts (parts_of file) → program v ≡ examine_file file
-  unfolding examine_file opened unless_faulty
+  unfolding examine_file opened parted
   tells_program v h = ap program h ∙ holds_go (no_head? file) (right_words? file) (sound_parts? (parts_of file)) (record_of_parts (parts_of file)) _ _ e
+
+-- what is found of a program is found of its file
+pub examined_program : (r : Result (Unit {0}) Flaw) (m : Result (Unit {0}) Fault) → MatchResult r (λ u. m ≡ Ok u) (λ f. IsErrAnd m (λ x. x ≡ Flawed f)) → examined m ≡ program (verdict r)
+unfolding examined verdict
+examined_program (Ok u) m h = rw h
+examined_program (Err f) m h = let p = err_from_is_err_and m h in rw (p.1, p.2)

@@ -1,43 +1,36 @@
 // A saved program file examined before a tag takes its program: what is wrong with the file; or which of its tables is unsound; or which line is bad. No byte is copied.
 #![tactic(auto)]
 
-ghost use Rattle.std.specs.Prelude.{◌≡◌, ◌≤◌, length};
+ghost use Rattle.std.specs.Prelude.{◌≡◌, ◌≤◌, Ok, Err, length};
 ghost use Rattle.paper.specs.Files.{parts_of};
 ghost use Rattle.editor_examine.specs.Verdicts.{verdict};
 ghost use Rattle.file_load.specs.Answers.{opened};
-ghost use Rattle.file_load.specs.declared.Opened.TheVariants.{Refused, Holds};
+ghost use Rattle.refusals.specs.declared.Refusal.TheVariants.{Unsound};
 ghost use Rattle.file_examine.specs.Answers.{name_ends, unsound_part, examined_parts, examine_file, examined};
 
 use editor_edit::Editor;
-use editor_examine::Verdict;
-use file_load::{HEAD, Opened, word};
+use editor_examine::Flaw;
+use file_load::{HEAD, word};
+use refusals::Refusal;
 
-// What examining a file answers: the number of the refusal that it gets, 12 or 13; or what examining its program answers.
+// Why a file's program is not taken: the file is refused, with 12 or 13; or the program has a flaw.
 #[derive(Clone, Copy)]
-pub enum Examined {
-    NotRead(u8),
-    Program(Verdict),
+pub enum Fault {
+    NotRead(Refusal),
+    Flawed(Flaw),
 }
 
 // How many bytes of a name table are the last of a name.
 fn ends(names: &[u8]) -> usize
     ensures { (result ≡ name_ends names.now) × (result ≤ length names.now) }
 {
-    let mut count: usize = 0;
-    let mut i: usize = 0;
-    while i < names.len() {
-        if 128 <= names[i] {
-            count += 1;
-        }
-        i += 1;
-    }
-    count
+    names.iter().filter(|b| 128 <= **b).count()
 }
 
 // Which table of a file that is refused with 1 is the first unsound one.
-fn unsound(file: &[u8]) -> Verdict
-    requires { opened file.now ≡ Refused 1 }
-    ensures { verdict result ≡ unsound_part (parts_of file.now) }
+fn unsound(file: &[u8]) -> Flaw
+    requires { opened file.now ≡ Err Unsound }
+    ensures { verdict (Err result) ≡ unsound_part (parts_of file.now) }
 {
     let name_bytes = word(file, 2) - word(file, 1);
     let value_bytes = word(file, 4) - word(file, 3);
@@ -45,17 +38,17 @@ fn unsound(file: &[u8]) -> Verdict
     let names = &file[HEAD..names_end];
     let count = ends(names);
     if !names_sound::sound_table(names, name_bytes, count) {
-        return Verdict::UnsoundNames;
+        return Flaw::UnsoundNames;
     }
     if value_bytes != 8 * count {
-        return Verdict::UnsoundValues;
+        return Flaw::UnsoundValues;
     }
-    Verdict::UnsoundStore
+    Flaw::UnsoundStore
 }
 
 // What examining the program that a file holds answers.
-fn program(file: &[u8], held: Editor) -> Verdict
-    requires { opened file.now ≡ Holds held }
+fn program(file: &[u8], held: Editor) -> Result<(), Flaw>
+    requires { opened file.now ≡ Ok held }
     ensures { verdict result ≡ examined_parts (parts_of file.now) }
 {
     let names_end = HEAD + held.name_bytes;
@@ -73,17 +66,12 @@ fn program(file: &[u8], held: Editor) -> Verdict
 }
 
 // Examines a file: 12, 13, the first unsound one of names, values and store, or what examining its program answers.
-pub fn examine(file: &[u8]) -> Examined
+pub fn examine(file: &[u8]) -> Result<(), Fault>
     ensures { examined result ≡ examine_file file.now }
 {
     match file_load::open(file) {
-        Opened::Refused(number) => {
-            if number == 1 {
-                Examined::Program(unsound(file))
-            } else {
-                Examined::NotRead(number)
-            }
-        }
-        Opened::Holds(held) => Examined::Program(program(file, held)),
+        Ok(held) => program(file, held).map_err(Fault::Flawed),
+        Err(Refusal::Unsound) => Err(Fault::Flawed(unsound(file))),
+        Err(refusal) => Err(Fault::NotRead(refusal)),
     }
 }
