@@ -4,7 +4,7 @@ use Rattle.std.proofs.lemmas.List.Edits.{sets}
 use Rattle.paper.specs.Classes.{line_end, remark}
 use Rattle.paper.specs.Tokens.{Token, class, out_of_range?}
 use Rattle.paper.specs.Names.{names_in, name_bytes, number_of, add_names}
-use Rattle.paper.specs.Items.{Item, item, opens, scan, raw_at}
+use Rattle.paper.specs.Items.{Item, opens, scan, raw_at}
 use Rattle.paper.specs.Machine.{Taken, done, bad, read}
 use Rattle.paper.specs.Grammar.{Gives, itself, given, look_in_range}
 use Rattle.paper.specs.Line.{variable_bytes, begins?}
@@ -14,7 +14,9 @@ use Rattle.enter_item.specs.Draft.{lows, draft, still}
 use Rattle.refusals.specs.Numbers.{number_of as refusal_number}
 use Rattle.refusals.specs.declared.Refusal.{Refusal}
 use Rattle.refusals.specs.declared.RefusedAt.{RefusedAt}
+use Rattle.enter_item.specs.declared.Draft.{Draft}
 use Rattle.enter_item.specs.declared.Spot.{Spot}
+use Rattle.enter_item.specs.declared.Text.{Text}
 
 -- what does not change: the part of the text and where it stands in it, and the bytes of the names known before the line
 pub record Env : Type 0 where
@@ -25,10 +27,13 @@ pub record Env : Type 0 where
 abbrev pub env : List ℕ → ℕ → List ℕ → Env
 env s o n = record { text = s; from = o; names = n }
 
+-- what the readers of a text are given
+abbrev pub env_of : Text → Env
+env_of t = env t.part.now t.offset t.names.now
+
 -- what is written to: the line, and the new names
-pub record Mem : Type 0 where
-  pub line : List ℕ
-  pub fresh : List ℕ
+abbrev pub Mem : Type 0
+Mem = Draft
 
 abbrev pub mem : List ℕ → List ℕ → Mem
 mem a b = record { line = a; fresh = b }
@@ -128,17 +133,17 @@ pub record Says (fs : List ℕ) (E : Env) (q : Spot) (m m' : Mem) (r : Answer) :
   pub stop : (x : RefusedAt) → r ≡ Err x → Stop fs E q m (refusal_number x.refusal) x.place m'
 
 -- one item of the class c is expected, and written as the operator b
-pub record Hit (c b : ℕ) (E : Env) (q : Spot) (old new : List ℕ) (q' : Spot) : Type 0 where
+pub record Hit (c b : ℕ) (E : Env) (q : Spot) (m m' : Mem) (q' : Spot) : Type 0 where
   pub t : Token
   pub a : ℕ
   pub e : ℕ
   pub next : Next E false q.at t a e
   pub class : class t ≡ c
-  pub wrote : new ≡ set old q.written b
+  pub wrote : m' ≡ mem (set m.line q.written b) m.fresh
   pub stands : q' ≡ spot e (q.written + 1) q.named
 
 -- another stands there: refusal 4 at its place, and nothing is written
-pub record Miss (c : ℕ) (E : Env) (q : Spot) (old new : List ℕ) (k p : ℕ) : Type 0 where
+pub record Miss (c : ℕ) (E : Env) (q : Spot) (m m' : Mem) (k p : ℕ) : Type 0 where
   pub t : Token
   pub a : ℕ
   pub e : ℕ
@@ -146,11 +151,11 @@ pub record Miss (c : ℕ) (E : Env) (q : Spot) (old new : List ℕ) (k p : ℕ) 
   pub class : class t ≡ c → ⊥
   pub number : k ≡ 4
   pub place : p ≡ E.from + a
-  pub kept : new ≡ old
+  pub kept : m' ≡ m
 
-pub record Expects (c b : ℕ) (E : Env) (q : Spot) (old new : List ℕ) (r : Answer) : Type 0 where
-  pub hit : (q' : Spot) → r ≡ Ok q' → Hit c b E q old new q'
-  pub miss : (x : RefusedAt) → r ≡ Err x → Miss c E q old new (refusal_number x.refusal) x.place
+pub record Expects (c b : ℕ) (E : Env) (q : Spot) (m m' : Mem) (r : Answer) : Type 0 where
+  pub hit : (q' : Spot) → r ≡ Ok q' → Hit c b E q m m' q'
+  pub miss : (x : RefusedAt) → r ≡ Err x → Miss c E q m m' (refusal_number x.refusal) x.place
 
 -- The token of the variable with a number was written to a place of the line, and has so many bytes.
 pub record VariableWritten (number : ℕ) (old : List ℕ) (at : ℕ) (new : List ℕ) (r : ℕ) : Type 0 where

@@ -1,5 +1,5 @@
 -- Single items: passed, and written as their rows give them.
-use Rattle.std.specs.Prelude.{ℕ, ◌+◌, ◌*◌, ◌-◌, ◌≤◌, ◌<◌, ◌≡◌, refl, Bool, true, false, ◌||◌, List, [], ◌∷◌, eqb, leb, ltb, length, set, Ok, Err}
+use Rattle.std.specs.Prelude.{ℕ, ◌+◌, ◌*◌, ◌-◌, ◌≤◌, ◌<◌, ◌≡◌, refl, Bool, true, false, ◌||◌, List, [], ◌∷◌, eqb, leb, ltb, length, set, Err}
 use Rattle.std.proofs.Common.{add-zero, arith, subst, sym, ap, ◌∙◌, leb-true, ne_eqb, lt-ltb}
 use Rattle.std.proofs.lemmas.List.Edits.{sets}
 use Rattle.paper.specs.Bytes.{pick}
@@ -18,7 +18,6 @@ use Rattle.enter_item.specs.ClassLaws.{own_of, operator_by_class, small_operator
 use Rattle.enter_item.specs.Says.{Env, Mem, mem, Answer, spot, known, items_at, Asks, Next, item_of, Wrote, Passed, Took, Stop, Says, Hit, Expects}
 use Rattle.enter_item.specs.Laws.{takes_last, says_stop, refused_at, row_refuse}
 use Rattle.enter_item.specs.declared.Spot.{Spot}
-use Rattle.refusals.specs.Numbers.{number_of}
 use Rattle.refusals.specs.declared.RefusedAt.{RefusedAt}
 
 -- a class whose item is no end and no REM or DATA, and after which no statement position comes
@@ -92,19 +91,20 @@ unfolding begins?
 no_start u b e = ap begins? e
 
 -- an item that gives an operator's token
-pub passed_operator : {E : Env} {first : Bool} {q q' : Spot} {m : Mem} {t : Token} {a e : ℕ} {new : List ℕ} {then : Bool} {b : ℕ} (g : Gives) → Asks E q m → Next E first q.at t a e
+pub passed_operator : {E : Env} {first : Bool} {q q' : Spot} {m m' : Mem} {t : Token} {a e : ℕ} {then : Bool} {b : ℕ} (g : Gives) → Asks E q m → Next E first q.at t a e
     → items_at E first q.at ≡ item_of E t a e ∷ items_at E then e → a < e → given g t ≡ operator b
-    → new ≡ set m.line q.written b → q' ≡ spot e (q.written + 1) q.named → Took E first q m g (item_of E t a e) then q' (mem new m.fresh)
-passed_operator {E} {first} {q} {q'} {m} {t} {a} {e} {new} {then} {b} g k s h mv u n st =
-    subst (λ (x : Spot). Took E first q m g (item_of E t a e) then x (mem new m.fresh)) (sym st)
+    → m' ≡ mem (set m.line q.written b) m.fresh → q' ≡ spot e (q.written + 1) q.named → Took E first q m g (item_of E t a e) then q' m'
+passed_operator {E} {first} {q} {q'} {m} {m'} {t} {a} {e} {then} {b} g k s h mv u n st =
+    subst (λ (x : Spot). Took E first q m g (item_of E t a e) then x m') (sym st)
+    (subst (λ (x : Mem). Took E first q m g (item_of E t a e) then (spot e (q.written + 1) q.named) x) (sym n)
     (record {
-      pass = passed_bytes g (b ∷ []) k s h mv (λ ks. one_byte ks (given g t) b u) (λ ks. no_name ks (given g t) b u) n (omega arith);
+      pass = passed_bytes g (b ∷ []) k s h mv (λ ks. one_byte ks (given g t) b u) (λ ks. no_name ks (given g t) b u) refl (omega arith);
       plain = no_start (given g t) b u;
-    })
+    }))
 
 -- the same for a calm item of the class c
-took_operator : {E : Env} {q q' : Spot} {m : Mem} {t : Token} {a e : ℕ} {new : List ℕ} {b : ℕ} (g : Gives) (c : ℕ) → calm? c ≡ true → Asks E q m → Next E false q.at t a e → class t ≡ c
-    → given g t ≡ operator b → new ≡ set m.line q.written b → q' ≡ spot e (q.written + 1) q.named → Took E false q m g (item_of E t a e) false q' (mem new m.fresh)
+took_operator : {E : Env} {q q' : Spot} {m m' : Mem} {t : Token} {a e : ℕ} {b : ℕ} (g : Gives) (c : ℕ) → calm? c ≡ true → Asks E q m → Next E false q.at t a e → class t ≡ c
+    → given g t ≡ operator b → m' ≡ mem (set m.line q.written b) m.fresh → q' ≡ spot e (q.written + 1) q.named → Took E false q m g (item_of E t a e) false q' m'
 took_operator {t = t} g c k ask s h u n st =
     let cm : calm? (class t) ≡ true = ap calm? h ∙ k in
     passed_operator g ask s (next_calm s cm) (s.moves (calm_end (class t) cm)) u n st
@@ -138,14 +138,14 @@ operator_at : (t : Token) (c : ℕ) → sign? c ≡ true → class t ≡ c → t
 operator_at t c k h = let x = sign c k in operator_by_class t (omega (arith, x.low)) (omega (arith, x.high))
 
 -- written as another operator
-pub took_put : {E : Env} {q q' : Spot} {m : Mem} {t : Token} {a e : ℕ} {new : List ℕ} (c b : ℕ) → sign? c ≡ true → Asks E q m → Next E false q.at t a e → class t ≡ c
-    → new ≡ set m.line q.written b → q' ≡ spot e (q.written + 1) q.named → Took E false q m (put b) (item_of E t a e) false q' (mem new m.fresh)
+pub took_put : {E : Env} {q q' : Spot} {m m' : Mem} {t : Token} {a e : ℕ} (c b : ℕ) → sign? c ≡ true → Asks E q m → Next E false q.at t a e → class t ≡ c
+    → m' ≡ mem (set m.line q.written b) m.fresh → q' ≡ spot e (q.written + 1) q.named → Took E false q m (put b) (item_of E t a e) false q' m'
 unfolding given
 took_put c b k ask s h n st = took_operator (put b) c (sign c k).calm ask s h refl n st
 
 -- written as it is
-pub took_own : {E : Env} {q q' : Spot} {m : Mem} {t : Token} {a e : ℕ} {new : List ℕ} {b : ℕ} (c : ℕ) → sign? c ≡ true → Asks E q m → Next E false q.at t a e → class t ≡ c
-    → b ≡ own_of t → new ≡ set m.line q.written b → q' ≡ spot e (q.written + 1) q.named → Took E false q m itself (item_of E t a e) false q' (mem new m.fresh)
+pub took_own : {E : Env} {q q' : Spot} {m m' : Mem} {t : Token} {a e : ℕ} {b : ℕ} (c : ℕ) → sign? c ≡ true → Asks E q m → Next E false q.at t a e → class t ≡ c
+    → b ≡ own_of t → m' ≡ mem (set m.line q.written b) m.fresh → q' ≡ spot e (q.written + 1) q.named → Took E false q m itself (item_of E t a e) false q' m'
 unfolding given
 took_own {t = t} c k ask s h o n st = took_operator itself c (sign c k).calm ask s h (operator_at t c k h ∙ ap operator (sym o)) n st
 
@@ -165,46 +165,46 @@ shifted_small n t c k h =
     rw (lt-ltb (own_of t) 128 (omega (arith, small_operator (own_of t) e)))
 
 -- written as a prefix
-pub took_prefix : {E : Env} {q q' : Spot} {m : Mem} {t : Token} {a e : ℕ} {new : List ℕ} {b : ℕ} (c : ℕ) → sign? c ≡ true → Asks E q m → Next E false q.at t a e → class t ≡ c
-    → b ≡ shifted 0x10 (own_of t) → new ≡ set m.line q.written b → q' ≡ spot e (q.written + 1) q.named → Took E false q m as_prefix (item_of E t a e) false q' (mem new m.fresh)
+pub took_prefix : {E : Env} {q q' : Spot} {m m' : Mem} {t : Token} {a e : ℕ} {b : ℕ} (c : ℕ) → sign? c ≡ true → Asks E q m → Next E false q.at t a e → class t ≡ c
+    → b ≡ shifted 0x10 (own_of t) → m' ≡ mem (set m.line q.written b) m.fresh → q' ≡ spot e (q.written + 1) q.named → Took E false q m as_prefix (item_of E t a e) false q' m'
 unfolding given
 took_prefix {t = t} {b = b} c k ask s h o n st =
     took_operator as_prefix c (sign c k).calm ask s h (moved_operator 0x10 t b (operator_at t c k h) (o ∙ shifted_small 0x10 t c k h)) n st
 
 -- written as a comparison of strings
-pub took_compare : {E : Env} {q q' : Spot} {m : Mem} {t : Token} {a e : ℕ} {new : List ℕ} {b : ℕ} (c : ℕ) → sign? c ≡ true → Asks E q m → Next E false q.at t a e → class t ≡ c
-    → b ≡ shifted 0x12 (own_of t) → new ≡ set m.line q.written b → q' ≡ spot e (q.written + 1) q.named → Took E false q m for_strings (item_of E t a e) false q' (mem new m.fresh)
+pub took_compare : {E : Env} {q q' : Spot} {m m' : Mem} {t : Token} {a e : ℕ} {b : ℕ} (c : ℕ) → sign? c ≡ true → Asks E q m → Next E false q.at t a e → class t ≡ c
+    → b ≡ shifted 0x12 (own_of t) → m' ≡ mem (set m.line q.written b) m.fresh → q' ≡ spot e (q.written + 1) q.named → Took E false q m for_strings (item_of E t a e) false q' m'
 unfolding given
 took_compare {t = t} {b = b} c k ask s h o n st =
     took_operator for_strings c (sign c k).calm ask s h (moved_operator 0x12 t b (operator_at t c k h) (o ∙ shifted_small 0x12 t c k h)) n st
 
 -- ---- an expected symbol
 
-pub hit_put : {c b : ℕ} {E : Env} {q q' : Spot} {m : Mem} {new : List ℕ} → sign? c ≡ true → Asks E q m → (h : Hit c b E q m.line new q')
-    → Took E false q m (put b) (item_of E h.t h.a h.e) false q' (mem new m.fresh)
+pub hit_put : {c b : ℕ} {E : Env} {q q' : Spot} {m m' : Mem} → sign? c ≡ true → Asks E q m → (h : Hit c b E q m m' q')
+    → Took E false q m (put b) (item_of E h.t h.a h.e) false q' m'
 hit_put {c} {b} k g h = took_put c b k g h.next h.class h.wrote h.stands
 
-pub missed : {c b : ℕ} {E : Env} {q : Spot} {m : Mem} {new : List ℕ} {r₁ : Answer} {x : RefusedAt} (f : ℕ) → ((d : ℕ) → (d ≡ c → ⊥) → look f d ≡ refuse 4)
-    → Expects c b E q m.line new r₁ → r₁ ≡ Err x → Says (f ∷ []) E q m (mem new m.fresh) (Err x)
-missed {c} {b} {E} {q} {m} {new} {r₁} {x} f l h e =
+pub missed : {c b : ℕ} {E : Env} {q : Spot} {m m' : Mem} {r₁ : Answer} {x : RefusedAt} (f : ℕ) → ((d : ℕ) → (d ≡ c → ⊥) → look f d ≡ refuse 4)
+    → Expects c b E q m m' r₁ → r₁ ≡ Err x → Says (f ∷ []) E q m m' (Err x)
+missed {c} {b} {E} {q} {m} {m'} {r₁} {x} f l h e =
     let y = h.miss x e in
-    subst (λ (n : List ℕ). Says (f ∷ []) E q m (mem n m.fresh) (Err x)) (sym y.kept)
+    subst (λ (n : Mem). Says (f ∷ []) E q m n (Err x)) (sym y.kept)
     (says_stop (subst (λ (n : ℕ). Stop (f ∷ []) E q m n x.place m) (sym y.number) (refused_at m f 4 y.next (row_refuse f 4 (item_of E y.t y.a y.e) (l _ y.class)) y.place)))
 
 -- a frame that wants the symbol, and nothing after it
-expects : {c b : ℕ} {E : Env} {q : Spot} {m : Mem} {new : List ℕ} {r : Answer} (f : ℕ) (g : Gives) → look f c ≡ take g [] → sign? c ≡ true → ((d : ℕ) → (d ≡ c → ⊥) → look f d ≡ refuse 4)
-    → ((q' : Spot) (h : Hit c b E q m.line new q') → Took E false q m g (item_of E h.t h.a h.e) false q' (mem new m.fresh))
-    → Expects c b E q m.line new r → Says (f ∷ []) E q m (mem new m.fresh) r
-expects {c} {b} {E} {q} {m} {new} {r} f g l k o t x = record {
+expects : {c b : ℕ} {E : Env} {q : Spot} {m m' : Mem} {r : Answer} (f : ℕ) (g : Gives) → look f c ≡ take g [] → sign? c ≡ true → ((d : ℕ) → (d ≡ c → ⊥) → look f d ≡ refuse 4)
+    → ((q' : Spot) (h : Hit c b E q m m' q') → Took E false q m g (item_of E h.t h.a h.e) false q' m')
+    → Expects c b E q m m' r → Says (f ∷ []) E q m m' r
+expects {c} {b} {E} {q} {m} {m'} {r} f g l k o t x = record {
   got = λ q' e. let h = x.hit q' e in (takes_last f c l (sign c k).range h.class (t q' h)).got q' refl;
   stop = λ y e. (missed f o x e).stop y refl;
 }
 
-pub expects_put : {c b : ℕ} {E : Env} {q : Spot} {m : Mem} {new : List ℕ} {r : Answer} (f : ℕ) → look f c ≡ take (put b) [] → sign? c ≡ true → ((d : ℕ) → (d ≡ c → ⊥) → look f d ≡ refuse 4) → Asks E q m
-    → Expects c b E q m.line new r → Says (f ∷ []) E q m (mem new m.fresh) r
+pub expects_put : {c b : ℕ} {E : Env} {q : Spot} {m m' : Mem} {r : Answer} (f : ℕ) → look f c ≡ take (put b) [] → sign? c ≡ true → ((d : ℕ) → (d ≡ c → ⊥) → look f d ≡ refuse 4) → Asks E q m
+    → Expects c b E q m m' r → Says (f ∷ []) E q m m' r
 expects_put {b = b} f l k o g x = expects f (put b) l k o (λ q' h. hit_put k g h) x
 
 -- the same, where no other symbol has the class
-pub expects_own : {c b : ℕ} {E : Env} {q : Spot} {m : Mem} {new : List ℕ} {r : Answer} (f : ℕ) → look f c ≡ take itself [] → sign? c ≡ true → ((d : ℕ) → (d ≡ c → ⊥) → look f d ≡ refuse 4)
-    → ((t : Token) → class t ≡ c → b ≡ own_of t) → Asks E q m → Expects c b E q m.line new r → Says (f ∷ []) E q m (mem new m.fresh) r
+pub expects_own : {c b : ℕ} {E : Env} {q : Spot} {m m' : Mem} {r : Answer} (f : ℕ) → look f c ≡ take itself [] → sign? c ≡ true → ((d : ℕ) → (d ≡ c → ⊥) → look f d ≡ refuse 4)
+    → ((t : Token) → class t ≡ c → b ≡ own_of t) → Asks E q m → Expects c b E q m m' r → Says (f ∷ []) E q m m' r
 expects_own {c} f l k o s g x = expects f itself l k o (λ q' h. took_own c k g h.next h.class (s h.t h.class) h.wrote h.stands) x

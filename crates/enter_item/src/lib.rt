@@ -8,7 +8,7 @@ ghost use Rattle.paper.specs.Tokens.{class};
 ghost use Rattle.paper.specs.Names.{names_in};
 ghost use Rattle.paper.specs.Grammar.{itself};
 ghost use Rattle.enter_item.specs.Draft.{low};
-ghost use Rattle.enter_item.specs.Says.{env, mem, spot, item_of, Asks, Took, Expects, VariableWritten, Counts};
+ghost use Rattle.enter_item.specs.Says.{env_of, mem, spot, item_of, Asks, Took, Expects, VariableWritten, Counts};
 ghost use Rattle.names_numbered.specs.Answers.{Numbers};
 ghost use Rattle.enter_scan.specs.Sees.{Sees, token_at};
 ghost use Rattle.enter_item.specs.LeafLaws.{NameSeen, spelling};
@@ -33,6 +33,34 @@ const FIRST_VARIABLE: u8 = 0x80;
 const FIRST_LONG: usize = 128;
 
 const LONG_FORM: u8 = 0;
+
+// What the readers read: a part of a text, the place where it stands in the whole text, and the bytes of the names known before the line.
+#[derive(Clone, Copy)]
+pub struct Text<'a> {
+    pub part: &'a [u8],
+    pub offset: usize,
+    pub names: &'a [u8],
+}
+
+impl Text<'_> {
+    // The refusal of what stands at a place of the part, at its place in the whole text.
+    pub fn refuse(self, refusal: Refusal, at: usize) -> RefusedAt
+        requires { (at ≤ length self.part.now) × (self.offset + length self.part.now ≤ 120) }
+        ensures { result ≡ record { refusal = refusal; place = self.entry.offset + at } }
+    {
+        RefusedAt {
+            refusal,
+            place: self.offset + at,
+        }
+    }
+}
+
+// What the readers write: the line, and the names that are new in it.
+#[derive(Drop)]
+pub struct Draft {
+    pub line: [u8; LINE_ROOM],
+    pub fresh: [u8; NAMES_ROOM],
+}
 
 // Where a reader stands, which it answers where it does not refuse: its place in the part, how many bytes of the line are written, and how many bytes of new names.
 #[derive(Clone, Copy)]
@@ -70,15 +98,14 @@ pub fn low_byte(n: usize) -> u8
 }
 
 // One token is written, and what follows stands at `end`.
-pub fn token(line: &mut [u8], q: Spot, end: usize, b: u8) -> Spot
+pub fn token(draft: &mut Draft, q: Spot, end: usize, b: u8) -> Spot
     requires { q.written ≤ 1000 }
-    ensures { (line.new ≡ set line.old q.written b) × (result ≡ spot end (q.written + 1) q.named) }
+    ensures { (draft.new ≡ mem (set draft.old.line q.written b) draft.old.fresh) × (result ≡ spot end (q.written + 1) q.named) }
 {
-    let written = q.written;
-    buffers::put(line, written, b);
+    buffers::put(&mut draft.line, q.written, b);
     Spot {
         at: end,
-        written: written + 1,
+        written: q.written + 1,
         named: q.named,
     }
 }
@@ -118,50 +145,34 @@ pub fn string_operator(t: u8) -> u8
 
 // Where a reader stands after an item of a class, which is written as an operator; at another item a refusal at its place: no reading.
 pub fn expect(
-    part: &[u8],
-    offset: usize,
+    text: Text,
     q: Spot,
-    line: &mut [u8],
+    draft: &mut Draft,
     wanted: u8,
     operator: OperatorToken,
 ) -> Result<Spot, RefusedAt>
-    requires { (q.at ≤ length part.now) × (offset + length part.now ≤ 120) × (q.written ≤ 1000) }
-    ensures { (n : List ℕ) → Expects wanted operator.0 (env part.now offset n) q line.old line.new result }
+    requires { (q.at ≤ length text.part.now) × (text.offset + length text.part.now ≤ 120) × (q.written ≤ 1000) }
+    ensures { Expects wanted operator.0 (env_of text.entry) q draft.old draft.new result }
 {
-    let seen = see(part, q.at, false);
+    let seen = see(text.part, q.at, false);
     let it = seen.item;
-    let place = offset + it.at;
     if seen.class != wanted {
-        return Err(RefusedAt {
-            refusal: Refusal::NoReading,
-            place,
-        });
+        return Err(text.refuse(Refusal::NoReading, it.at));
     }
-    Ok(token(line, q, it.end, operator.0))
+    Ok(token(draft, q, it.end, operator.0))
 }
 
 // Where a reader stands after a constant, whose six bytes are written; of one out of range a refusal at its place.
-pub fn constant(
-    part: &[u8],
-    offset: usize,
-    it: Item,
-    q: Spot,
-    line: &mut [u8],
-    names: &[u8],
-    fresh: &mut [u8],
-) -> Result<Spot, RefusedAt>
-    requires { (Asks (env part.now offset names.now) q (mem line.old fresh.old)) × ((b : Bool) × ((Sees part.now q.at b it) × (class (token_at part.now b it) ≡ 3))) }
-    ensures { (b : Bool) → Sees part.now q.at b it → class (token_at part.now b it) ≡ 3 → Counts (env part.now offset names.now) b (token_at part.now b it) it.at it.end q (mem line.old fresh.old) (mem line.new fresh.new) result }
+pub fn constant(text: Text, it: Item, q: Spot, draft: &mut Draft) -> Result<Spot, RefusedAt>
+    requires { (Asks (env_of text) q draft.old) × ((b : Bool) × ((Sees text.part.now q.at b it) × (class (token_at text.part.now b it) ≡ 3))) }
+    ensures { (b : Bool) → Sees text.entry.part.now q.at b it → class (token_at text.entry.part.now b it) ≡ 3 → Counts (env_of text.entry) b (token_at text.entry.part.now b it) it.at it.end q draft.old draft.new result }
 {
-    let place = offset + it.at;
-    let Some(six) = constant_bytes::six_bytes(&part[it.at..], kinds::numeral_of(it.kind)) else {
-        return Err(RefusedAt {
-            refusal: Refusal::OutOfRange,
-            place,
-        });
+    let Some(six) = constant_bytes::six_bytes(&text.part[it.at..], kinds::numeral_of(it.kind))
+    else {
+        return Err(text.refuse(Refusal::OutOfRange, it.at));
     };
-    buffers::put(line, q.written, OperatorToken::NUMBER.0);
-    buffers::copy(line, q.written + 1, &six);
+    buffers::put(&mut draft.line, q.written, OperatorToken::NUMBER.0);
+    buffers::copy(&mut draft.line, q.written + 1, &six);
     Ok(Spot {
         at: it.end,
         written: q.written + 7,
@@ -170,49 +181,37 @@ pub fn constant(
 }
 
 // A quoted string: its length and its bytes.
-pub fn quoted(
-    part: &[u8],
-    offset: usize,
-    it: Item,
-    q: Spot,
-    line: &mut [u8],
-    names: &[u8],
-    fresh: &mut [u8],
-) -> Spot
-    requires { (Asks (env part.now offset names.now) q (mem line.old fresh.old)) × (Sees part.now q.at false it) × (class (token_at part.now false it) ≡ 4) }
-    ensures { Took (env part.now offset names.now) false q (mem line.old fresh.old) itself (item_of (env part.now offset names.now) (token_at part.now false it) it.at it.end) false result (mem line.new fresh.new) }
+pub fn quoted(text: Text, it: Item, q: Spot, draft: &mut Draft) -> Spot
+    requires { (Asks (env_of text) q draft.old) × (Sees text.part.now q.at false it) × (class (token_at text.part.now false it) ≡ 4) }
+    ensures { Took (env_of text.entry) false q draft.old itself (item_of (env_of text.entry) (token_at text.entry.part.now false it) it.at it.end) false result draft.new }
 {
-    let end = it.end;
-    let written = q.written;
-    let kind = it.kind;
-    let size = kinds::quoted_length(kind);
+    let size = kinds::quoted_length(it.kind);
     let from = it.at + 1;
     let to = from + size;
-    buffers::put(line, written, OperatorToken::STRING.0);
-    buffers::put(line, written + 1, size as u8);
-    buffers::copy(line, written + 2, &part[from..to]);
+    let line = &mut draft.line;
+    buffers::put(line, q.written, OperatorToken::STRING.0);
+    buffers::put(line, q.written + 1, size as u8);
+    buffers::copy(line, q.written + 2, &text.part[from..to]);
     Spot {
-        at: end,
-        written: written + 2 + size,
+        at: it.end,
+        written: q.written + 2 + size,
         named: q.named,
     }
 }
 
 // A name's number, and how many bytes the new names have with it.
-pub fn name_number(part: &[u8], it: Item, names: &[u8], fresh: &mut [u8], named: usize) -> Numbered
-    requires { (NameSeen part.now it) × (named ≤ length fresh.old) }
-    ensures { Numbers (names_in names.now ++ names_in (take named fresh.old)) (spelling part.now it) fresh.old named result fresh.new }
+pub fn name_number(text: Text, it: Item, fresh: &mut [u8], named: usize) -> Numbered
+    requires { (NameSeen text.part.now it) × (named ≤ length fresh.old) }
+    ensures { Numbers (names_in text.entry.names.now ++ names_in (take named fresh.old)) (spelling text.entry.part.now it) fresh.old named result fresh.new }
 {
-    let at = it.at;
-    let kind = it.kind;
-    let to = at + kinds::name_length(kind);
+    let to = it.at + kinds::name_length(it.kind);
     names_numbered::number_of(
-        names,
-        names.len(),
+        text.names,
+        text.names.len(),
         fresh,
         named,
-        &part[at..to],
-        kinds::is_array(kind),
+        &text.part[it.at..to],
+        kinds::is_array(it.kind),
     )
 }
 
@@ -230,25 +229,15 @@ pub fn write_variable(line: &mut [u8], at: usize, number: usize) -> usize
 }
 
 // A variable: its name's number, and its name where it is new.
-pub fn variable(
-    part: &[u8],
-    offset: usize,
-    it: Item,
-    q: Spot,
-    line: &mut [u8],
-    names: &[u8],
-    fresh: &mut [u8],
-) -> Spot
-    requires { (Asks (env part.now offset names.now) q (mem line.old fresh.old)) × (Sees part.now q.at false it) × (5 ≤ class (token_at part.now false it)) × (class (token_at part.now false it) ≤ 7) }
-    ensures { Took (env part.now offset names.now) false q (mem line.old fresh.old) itself (item_of (env part.now offset names.now) (token_at part.now false it) it.at it.end) false result (mem line.new fresh.new) }
+pub fn variable(text: Text, it: Item, q: Spot, draft: &mut Draft) -> Spot
+    requires { (Asks (env_of text) q draft.old) × (Sees text.part.now q.at false it) × (5 ≤ class (token_at text.part.now false it)) × (class (token_at text.part.now false it) ≤ 7) }
+    ensures { Took (env_of text.entry) false q draft.old itself (item_of (env_of text.entry) (token_at text.entry.part.now false it) it.at it.end) false result draft.new }
 {
-    let end = it.end;
-    let written = q.written;
-    let found = name_number(part, it, names, fresh, q.named);
-    let size = write_variable(line, written, found.number);
+    let found = name_number(text, it, &mut draft.fresh, q.named);
+    let size = write_variable(&mut draft.line, q.written, found.number);
     Spot {
-        at: end,
-        written: written + size,
+        at: it.end,
+        written: q.written + size,
         named: found.size,
     }
 }

@@ -17,13 +17,13 @@ pub argument-expect-requires : goal.argument-expect-requires
 argument-expect-requires t c = let pre = c.requires in (pre.within, pre.short, omega (arith, pre.few, pre.short, pre.within))
 
 pub argument-enclosed-requires : goal.argument-enclosed-requires
-argument-enclosed-requires t c = let p = c.in_ok-p.was in let expect = c.expect.ensures in let pre = c.requires in let took = hit_put refl pre ((expect _).hit _ (p)) in (omega (arith, took.pass.ahead, took.pass.asks.within), took.pass.asks)
+argument-enclosed-requires t c = let p = c.in_ok-p.was in let expect = c.expect.ensures in let pre = c.requires in let took = hit_put refl pre (expect.hit _ (p)) in (omega (arith, took.pass.ahead, took.pass.asks.within), took.pass.asks)
 
 pub argument-returns : goal.argument-returns
-argument-returns t c = says_then ((expects_put want_function_open function_open_row refl function_open_else c.requires (c.expect.ensures _)).got _ c.in_ok-p.was) c.enclosed.ensures
+argument-returns t c = says_then ((expects_put want_function_open function_open_row refl function_open_else c.requires c.expect.ensures).got _ c.in_ok-p.was) c.enclosed.ensures
 
 pub argument-returns-in_err-p : goal.argument-returns-in_err-p
-argument-returns-in_err-p t c = let e = err_from_is_err_and c.from_residual.result c.from_residual.ensures.1 in rw (e.1, e.2) (says_first (want_operand ∷ want_more_terms ∷ want_close ∷ []) (expects_put want_function_open function_open_row refl function_open_else c.requires (c.expect.ensures _)) c.in_err-p.was)
+argument-returns-in_err-p t c = let e = err_from_is_err_and c.from_residual.result c.from_residual.ensures.1 in rw (e.1, e.2) (says_first (want_operand ∷ want_more_terms ∷ want_close ∷ []) (expects_put want_function_open function_open_row refl function_open_else c.requires c.expect.ensures) c.in_err-p.was)
 
 pub compared-string-requires : goal.compared-string-requires
 compared-string-requires t c = (omega arith, c.requires)
@@ -40,32 +40,32 @@ compared-returns-in_err-p t c = let e = err_from_is_err_and c.from_residual.resu
 pub comparison-see-seen-requires : goal.comparison-see-seen-requires
 comparison-see-seen-requires t c = c.requires.within
 
-pub comparison-overflow_add-place : goal.comparison-overflow_add-place
-comparison-overflow_add-place t c = let see = c.see-seen.ensures.next in omega (arith, (see 0 []).spans, (see 0 []).within, c.requires.short)
+pub comparison-refuse-requires : goal.comparison-refuse-requires
+comparison-refuse-requires t c = let sees = c.see-seen.ensures.sees in (omega (arith, sees.spans, sees.within), c.requires.short)
 
 pub comparison-token-p-requires : goal.comparison-token-p-requires
 comparison-token-p-requires t c = let pre = c.requires in omega (arith, pre.few, pre.short, pre.within)
 
 pub comparison-string-requires : goal.comparison-string-requires
-comparison-string-requires t c = let token = c.token-p.ensures in let string-operator = c.string_operator.ensures in let if1 = c.if-compares.true in let compares = c.compares.ensures in let see = c.see-seen in let pre = c.requires in let took = took_compare see.result.class (compares_sign see.result.class (sym (compares) ∙ if1)) pre (see.ensures.next _ _) (sym see.ensures.class) (string-operator ∙ ap (shifted 0x12) see.ensures.own) token.0 token.1 in (omega (arith, took.pass.ahead, took.pass.asks.within), took.pass.asks)
+comparison-string-requires t c = let token = c.token-p.ensures in let string-operator = c.string_operator.ensures in let if1 = c.if-not-compares.false in let compares = c.compares.ensures in let see = c.see-seen in let pre = c.requires in let took = took_compare see.result.class (compares_sign see.result.class (sym (compares) ∙ if1)) pre (see.ensures.next _ _) (sym see.ensures.class) (string-operator ∙ ap (shifted 0x12) see.ensures.own) token.0 token.1 in (omega (arith, took.pass.ahead, took.pass.asks.within), took.pass.asks)
 
-pub comparison-returns-then-compares : goal.comparison-returns-then-compares
-comparison-returns-then-compares t c = let token = c.token-p.ensures in let if1 = c.if-compares.true in let compares = c.compares.ensures in let see = c.see-seen in takes want_string_comparison see.result.class (want_string ∷ []) (compare_row see.result.class (sym compares ∙ if1)) (sign see.result.class (compares_sign see.result.class (sym compares ∙ if1))).range (sym see.ensures.class) (took_compare see.result.class (compares_sign see.result.class (sym compares ∙ if1)) c.requires (see.ensures.next _ _) (sym see.ensures.class) (c.string_operator.ensures ∙ ap (shifted 0x12) see.ensures.own) token.0 token.1) c.string.ensures
+pub comparison-returns : goal.comparison-returns
+comparison-returns t c = let token = c.token-p.ensures in let if1 = c.if-not-compares.false in let compares = c.compares.ensures in let see = c.see-seen in takes want_string_comparison see.result.class (want_string ∷ []) (compare_row see.result.class (sym compares ∙ if1)) (sign see.result.class (compares_sign see.result.class (sym compares ∙ if1))).range (sym see.ensures.class) (took_compare see.result.class (compares_sign see.result.class (sym compares ∙ if1)) c.requires (see.ensures.next _ _) (sym see.ensures.class) (c.string_operator.ensures ∙ ap (shifted 0x12) see.ensures.own) token.0 token.1) c.string.ensures
 
-pub comparison-returns-else-compares : goal.comparison-returns-else-compares
-comparison-returns-else-compares t c = let see = c.see-seen in refuses want_string_comparison _ (see.ensures.next _ _) (ap (look want_string_comparison) (sym see.ensures.class) ∙ compare_else see.result.class (sym c.compares.ensures ∙ c.if-compares.false)) refl
+pub comparison-returns-then-not-compares : goal.comparison-returns-then-not-compares
+comparison-returns-then-not-compares t c = rw c.refuse.ensures (let see = c.see-seen in refuses want_string_comparison _ (see.ensures.next _ _) (ap (look want_string_comparison) (sym see.ensures.class) ∙ compare_else see.result.class (sym c.compares.ensures ∙ c.if-not-compares.true)) refl)
 
 pub element-expect-requires : goal.element-expect-requires
 element-expect-requires t c = let pre = c.requires in (pre.within, pre.short, omega (arith, pre.few, pre.short, pre.within))
 
 pub element-subscripts-requires : goal.element-subscripts-requires
-element-subscripts-requires t c = let p = c.in_ok-p.was in let expect = c.expect.ensures in let pre = c.requires in let took = hit_put refl pre ((expect _).hit _ (p)) in (omega (arith, took.pass.ahead, took.pass.asks.within), took.pass.asks)
+element-subscripts-requires t c = let p = c.in_ok-p.was in let expect = c.expect.ensures in let pre = c.requires in let took = hit_put refl pre (expect.hit _ (p)) in (omega (arith, took.pass.ahead, took.pass.asks.within), took.pass.asks)
 
 pub element-returns : goal.element-returns
-element-returns t c = says_then ((expects_put want_array_open array_open_row refl array_open_else c.requires (c.expect.ensures _)).got _ c.in_ok-p.was) c.subscripts.ensures
+element-returns t c = says_then ((expects_put want_array_open array_open_row refl array_open_else c.requires c.expect.ensures).got _ c.in_ok-p.was) c.subscripts.ensures
 
 pub element-returns-in_err-p : goal.element-returns-in_err-p
-element-returns-in_err-p t c = let e = err_from_is_err_and c.from_residual.result c.from_residual.ensures.1 in rw (e.1, e.2) (says_first (want_operand ∷ want_more_terms ∷ want_second ∷ []) (expects_put want_array_open array_open_row refl array_open_else c.requires (c.expect.ensures _)) c.in_err-p.was)
+element-returns-in_err-p t c = let e = err_from_is_err_and c.from_residual.result c.from_residual.ensures.1 in rw (e.1, e.2) (says_first (want_operand ∷ want_more_terms ∷ want_second ∷ []) (expects_put want_array_open array_open_row refl array_open_else c.requires c.expect.ensures) c.in_err-p.was)
 
 pub enclosed-expression-requires : goal.enclosed-expression-requires
 enclosed-expression-requires t c = (omega arith, c.requires)
@@ -74,7 +74,7 @@ pub enclosed-expect-requires : goal.enclosed-expect-requires
 enclosed-expect-requires t c = let p = c.in_ok-p.was in let expression = c.expression.ensures in ((expression.got _ p).asks.within, (expression.got _ p).asks.short, omega (arith, (expression.got _ p).asks.few, (expression.got _ p).asks.short, (expression.got _ p).asks.within))
 
 pub enclosed-returns : goal.enclosed-returns
-enclosed-returns t c = let p = c.in_ok-p.was in let expression = c.expression.ensures in says_then (expression.got _ p) (expects_own want_close close_row refl close_else closing (expression.got _ p).asks (c.expect.ensures _))
+enclosed-returns t c = let p = c.in_ok-p.was in let expression = c.expression.ensures in says_then (expression.got _ p) (expects_own want_close close_row refl close_else closing (expression.got _ p).asks c.expect.ensures)
 
 pub enclosed-returns-in_err-p : goal.enclosed-returns-in_err-p
 enclosed-returns-in_err-p t c = let e = err_from_is_err_and c.from_residual.result c.from_residual.ensures.1 in rw (e.1, e.2) (says_first (want_close ∷ []) c.expression.ensures c.in_err-p.was)
@@ -103,8 +103,8 @@ expression-returns-then-not-joins t c = let see = c.see-seen in let next = c.in_
 pub expression-returns-in_err-next : goal.expression-returns-in_err-next
 expression-returns-in_err-next t c = let e = err_from_is_err_and c.from_residual.result c.from_residual.ensures.1 in rw (e.1, e.2) (c.loop-next.invariant.goes _ _ (says_first (want_more_terms ∷ []) c.term.ensures c.in_err-next.was))
 
-pub operand-overflow_add-place : goal.operand-overflow_add-place
-operand-overflow_add-place t c = let pre = c.requires in omega (arith, (pre.1.next 0 []).spans, (pre.1.next 0 []).within, pre.0.short)
+pub operand-refuse-requires : goal.operand-refuse-requires
+operand-refuse-requires t c = let pre = c.requires in (omega (arith, pre.1.sees.spans, pre.1.sees.within), pre.0.short)
 
 pub operand-constant-requires : goal.operand-constant-requires
 operand-constant-requires t c = let pre = c.requires in (pre.0, (false, (pre.1.sees, (sym pre.1.class ∙ c.in-3.is))))
@@ -173,13 +173,13 @@ pub operand-returns-in-26 : goal.operand-returns-in-26
 operand-returns-in-26 t c = let pre = c.requires.1 in alike want_operand want_string string_function itself (want_function_open ∷ want_operand ∷ want_more_terms ∷ want_close ∷ []) (want_string_comparison ∷ []) operand_function string_function_row refl (pre.next _ _) (sym pre.class ∙ c.in-26.is) c.compared-in-26.ensures
 
 pub operand-returns-in_default : goal.operand-returns-in_default
-operand-returns-in_default t c = refuses want_operand _ (c.requires.1.next _ _) (ap (look want_operand) (sym c.requires.1.class) ∙ operand_else c.args.seen.class c.requires.2 c.requires.3 c.in_default.in_default-own.rest.0.0.0.0.0.0.0.0.1 c.in_default.in_default-own.rest.0.0.0.0.0.0.0.1 c.in_default.in_default-own.rest.0.0.0.0.0.0.1 c.in_default.in_default-own.rest.0.0.0.0.0.1 c.in_default.in_default-own.rest.0.0.0.0.1 c.in_default.in_default-own.rest.0.0.0.1 c.in_default.in_default-own.rest.0.0.1 c.in_default.in_default-own.rest.0.1 c.in_default.in_default-own.rest.1) refl
+operand-returns-in_default t c = rw c.refuse.ensures (refuses want_operand _ (c.requires.1.next _ _) (ap (look want_operand) (sym c.requires.1.class) ∙ operand_else c.args.seen.class c.requires.2 c.requires.3 c.in_default.in_default-own.rest.0.0.0.0.0.0.0.0.1 c.in_default.in_default-own.rest.0.0.0.0.0.0.0.1 c.in_default.in_default-own.rest.0.0.0.0.0.0.1 c.in_default.in_default-own.rest.0.0.0.0.0.1 c.in_default.in_default-own.rest.0.0.0.0.1 c.in_default.in_default-own.rest.0.0.0.1 c.in_default.in_default-own.rest.0.0.1 c.in_default.in_default-own.rest.0.1 c.in_default.in_default-own.rest.1) refl)
 
 pub second-see-seen-requires : goal.second-see-seen-requires
 second-see-seen-requires t c = c.requires.within
 
-pub second-overflow_add-place : goal.second-overflow_add-place
-second-overflow_add-place t c = let see = c.see-seen.ensures.next in omega (arith, (see 0 []).spans, (see 0 []).within, c.requires.short)
+pub second-refuse-requires : goal.second-refuse-requires
+second-refuse-requires t c = let sees = c.see-seen.ensures.sees in (omega (arith, sees.spans, sees.within), c.requires.short)
 
 pub second-token-p-requires : goal.second-token-p-requires
 second-token-p-requires t c = let pre = c.requires in omega (arith, pre.few, pre.short, pre.within)
@@ -197,13 +197,13 @@ pub second-returns-in-12 : goal.second-returns-in-12
 second-returns-in-12 t c = let token2 = c.token.ensures in let match = c.in-12.is in let see = c.see-seen.ensures in takes_last want_second close_sign second_close refl (sym see.class ∙ match) (took_own close_sign refl c.requires (see.next _ _) (sym see.class ∙ match) see.own token2.0 token2.1)
 
 pub second-returns-in_default : goal.second-returns-in_default
-second-returns-in_default t c = let see = c.see-seen in refuses want_second _ (see.ensures.next _ _) (ap (look want_second) (sym see.ensures.class) ∙ second_else see.result.class c.in_default.in_default-own.rest.0.1 c.in_default.in_default-own.rest.1) refl
+second-returns-in_default t c = rw c.refuse.ensures (let see = c.see-seen in refuses want_second _ (see.ensures.next _ _) (ap (look want_second) (sym see.ensures.class) ∙ second_else see.result.class c.in_default.in_default-own.rest.0.1 c.in_default.in_default-own.rest.1) refl)
 
 pub string-see-seen-requires : goal.string-see-seen-requires
 string-see-seen-requires t c = c.requires.within
 
-pub string-overflow_add-place : goal.string-overflow_add-place
-string-overflow_add-place t c = let see = c.see-seen.ensures.next in omega (arith, (see 0 []).spans, (see 0 []).within, c.requires.short)
+pub string-refuse-requires : goal.string-refuse-requires
+string-refuse-requires t c = let sees = c.see-seen.ensures.sees in (omega (arith, sees.spans, sees.within), c.requires.short)
 
 pub string-quoted-requires : goal.string-quoted-requires
 string-quoted-requires t c = let see = c.see-seen.ensures in (c.requires, see.sees, (sym see.class ∙ c.in-4.is))
@@ -230,25 +230,25 @@ pub string-returns-in-26 : goal.string-returns-in-26
 string-returns-in-26 t c = let token = c.token-p.ensures in let match = c.in-26.is in let see = c.see-seen.ensures in takes want_string string_function (want_function_open ∷ want_operand ∷ want_more_terms ∷ want_close ∷ []) string_function_row refl (sym see.class ∙ match) (took_own string_function refl c.requires (see.next _ _) (sym see.class ∙ match) see.own token.0 token.1) c.argument.ensures
 
 pub string-returns-in_default : goal.string-returns-in_default
-string-returns-in_default t c = let see = c.see-seen in refuses want_string _ (see.ensures.next _ _) (ap (look want_string) (sym see.ensures.class) ∙ string_else see.result.class c.in_default.in_default-own.rest.0.0.1 c.in_default.in_default-own.rest.0.1 c.in_default.in_default-own.rest.1) refl
+string-returns-in_default t c = rw c.refuse.ensures (let see = c.see-seen in refuses want_string _ (see.ensures.next _ _) (ap (look want_string) (sym see.ensures.class) ∙ string_else see.result.class c.in_default.in_default-own.rest.0.0.1 c.in_default.in_default-own.rest.0.1 c.in_default.in_default-own.rest.1) refl)
 
 pub string_argument-expect-requires : goal.string_argument-expect-requires
 string_argument-expect-requires t c = let pre = c.requires in (pre.within, pre.short, omega (arith, pre.few, pre.short, pre.within))
 
 pub string_argument-string-requires : goal.string_argument-string-requires
-string_argument-string-requires t c = let p = c.in_ok-p.was in let expect = c.expect.ensures in let pre = c.requires in let took = hit_put refl pre ((expect _).hit _ (p)) in (omega (arith, took.pass.ahead, took.pass.asks.within), took.pass.asks)
+string_argument-string-requires t c = let p = c.in_ok-p.was in let expect = c.expect.ensures in let pre = c.requires in let took = hit_put refl pre (expect.hit _ (p)) in (omega (arith, took.pass.ahead, took.pass.asks.within), took.pass.asks)
 
 pub string_argument-expect-requires-2 : goal.string_argument-expect-requires-2
 string_argument-expect-requires-2 t c = let r = c.in_ok-r.was in let string = c.string.ensures in ((string.got _ r).asks.within, (string.got _ r).asks.short, omega (arith, (string.got _ r).asks.few, (string.got _ r).asks.short, (string.got _ r).asks.within))
 
 pub string_argument-returns : goal.string_argument-returns
-string_argument-returns t c = let r = c.in_ok-r.was in let string = c.string.ensures in says_then ((expects_put want_function_open function_open_row refl function_open_else c.requires (c.expect.ensures _)).got _ c.in_ok-p.was) (says_then (string.got _ r) (expects_own want_close close_row refl close_else closing (string.got _ r).asks (c.expect-2.ensures _)))
+string_argument-returns t c = let r = c.in_ok-r.was in let string = c.string.ensures in says_then ((expects_put want_function_open function_open_row refl function_open_else c.requires c.expect.ensures).got _ c.in_ok-p.was) (says_then (string.got _ r) (expects_own want_close close_row refl close_else closing (string.got _ r).asks c.expect-2.ensures))
 
 pub string_argument-returns-in_err-r : goal.string_argument-returns-in_err-r
-string_argument-returns-in_err-r t c = let e = err_from_is_err_and c.from_residual-in_err-r.result c.from_residual-in_err-r.ensures.1 in rw (e.1, e.2) (says_then ((expects_put want_function_open function_open_row refl function_open_else c.requires (c.expect.ensures _)).got _ c.in_ok-p.was) (says_first (want_close ∷ []) c.string.ensures c.in_err-r.was))
+string_argument-returns-in_err-r t c = let e = err_from_is_err_and c.from_residual-in_err-r.result c.from_residual-in_err-r.ensures.1 in rw (e.1, e.2) (says_then ((expects_put want_function_open function_open_row refl function_open_else c.requires c.expect.ensures).got _ c.in_ok-p.was) (says_first (want_close ∷ []) c.string.ensures c.in_err-r.was))
 
 pub string_argument-returns-in_err-p : goal.string_argument-returns-in_err-p
-string_argument-returns-in_err-p t c = let e = err_from_is_err_and c.from_residual.result c.from_residual.ensures.1 in rw (e.1, e.2) (says_first (want_string ∷ want_close ∷ []) (expects_put want_function_open function_open_row refl function_open_else c.requires (c.expect.ensures _)) c.in_err-p.was)
+string_argument-returns-in_err-p t c = let e = err_from_is_err_and c.from_residual.result c.from_residual.ensures.1 in rw (e.1, e.2) (says_first (want_string ∷ want_close ∷ []) (expects_put want_function_open function_open_row refl function_open_else c.requires c.expect.ensures) c.in_err-p.was)
 
 pub subscripts-expression-requires : goal.subscripts-expression-requires
 subscripts-expression-requires t c = (omega arith, c.requires)
@@ -269,40 +269,40 @@ pub substring-token-p-requires : goal.substring-token-p-requires
 substring-token-p-requires t c = let pre = c.requires in omega (arith, pre.few, pre.short, pre.within)
 
 pub substring-subscripts-requires : goal.substring-subscripts-requires
-substring-subscripts-requires t c = let token = c.token-p.ensures in let match = c.in-11.is in let see = c.see-seen.ensures in let pre = c.requires in let took = took_put open_sign 0x37 refl pre (see.next _ _) (sym see.class ∙ match) token.0 token.1 in (omega (arith, took.pass.ahead, took.pass.asks.within), took.pass.asks)
+substring-subscripts-requires t c = let token = c.token-p.ensures in let match = c.if-seen-ne-OPEN_SIGN.false in let see = c.see-seen.ensures in let pre = c.requires in let took = took_put open_sign 0x37 refl pre (see.next _ _) (sym see.class ∙ match) token.0 token.1 in (omega (arith, took.pass.ahead, took.pass.asks.within), took.pass.asks)
 
-pub substring-returns-in-11 : goal.substring-returns-in-11
-substring-returns-in-11 t c = let token = c.token-p.ensures in let match = c.in-11.is in let see = c.see-seen.ensures in takes want_substring open_sign (want_operand ∷ want_more_terms ∷ want_second ∷ []) substring_open refl (sym see.class ∙ match) (took_put open_sign 0x37 refl c.requires (see.next _ _) (sym see.class ∙ match) token.0 token.1) c.subscripts.ensures
+pub substring-returns : goal.substring-returns
+substring-returns t c = let token = c.token-p.ensures in let match = c.if-seen-ne-OPEN_SIGN.false in let see = c.see-seen.ensures in takes want_substring open_sign (want_operand ∷ want_more_terms ∷ want_second ∷ []) substring_open refl (sym see.class ∙ match) (took_put open_sign 0x37 refl c.requires (see.next _ _) (sym see.class ∙ match) token.0 token.1) c.subscripts.ensures
 
-pub substring-returns-in_default : goal.substring-returns-in_default
-substring-returns-in_default t c = let see = c.see-seen in leaves want_substring c.requires (see.ensures.next _ _) (ap (look want_substring) (sym see.ensures.class) ∙ substring_else see.result.class c.in_default.in_default-own.rest.1)
+pub substring-returns-then-seen-ne-OPEN_SIGN : goal.substring-returns-then-seen-ne-OPEN_SIGN
+substring-returns-then-seen-ne-OPEN_SIGN t c = let see = c.see-seen in leaves want_substring c.requires (see.ensures.next _ _) (ap (look want_substring) (sym see.ensures.class) ∙ substring_else see.result.class c.if-seen-ne-OPEN_SIGN.true)
 
-pub term-loop-line-init : goal.term-loop-line-init
-term-loop-line-init t c = onward_first c.requires
+pub term-loop-draft-init : goal.term-loop-draft-init
+term-loop-draft-init t c = onward_first c.requires
 
 pub term-see-seen-requires : goal.term-see-seen-requires
-term-see-seen-requires t c = c.loop-line.invariant.asks.within
+term-see-seen-requires t c = c.loop-draft.invariant.asks.within
 
 pub term-token-p-requires : goal.term-token-p-requires
-term-token-p-requires t c = let loop = c.loop-line.invariant.asks in omega (arith, loop.few, loop.short, loop.within)
+term-token-p-requires t c = let loop = c.loop-draft.invariant.asks in omega (arith, loop.few, loop.short, loop.within)
 
-pub term-loop-line-smaller-in-18 : goal.term-loop-line-smaller-in-18
-term-loop-line-smaller-in-18 t c = let token = c.token-p.ensures in let prefix-operator = c.prefix_operator.ensures in let match = c.in-18.is in let see = c.see-seen.ensures in let loop = c.loop-line.invariant.asks in let took = took_prefix plus_minus refl loop (see.next _ _) (sym see.class ∙ match) (prefix-operator ∙ ap (shifted 0x10) see.own) token.0 token.1 in omega (arith, took.pass.ahead, took.pass.asks.within)
+pub term-loop-draft-smaller-in-18 : goal.term-loop-draft-smaller-in-18
+term-loop-draft-smaller-in-18 t c = let token = c.token-p.ensures in let prefix-operator = c.prefix_operator.ensures in let match = c.in-18.is in let see = c.see-seen.ensures in let loop = c.loop-draft.invariant.asks in let took = took_prefix plus_minus refl loop (see.next _ _) (sym see.class ∙ match) (prefix-operator ∙ ap (shifted 0x10) see.own) token.0 token.1 in omega (arith, took.pass.ahead, took.pass.asks.within)
 
-pub term-loop-line-preserved-in-18 : goal.term-loop-line-preserved-in-18
-term-loop-line-preserved-in-18 t c = let token = c.token-p in let match = c.in-18.is in let see = c.see-seen.ensures in let loop = c.loop-line.invariant in onward_takes want_operand plus_minus operand_sign refl (sym see.class ∙ match) loop (took_prefix plus_minus refl loop.asks (see.next _ _) (sym see.class ∙ match) (c.prefix_operator.ensures ∙ ap (shifted 0x10) see.own) token.ensures.0 token.ensures.1)
+pub term-loop-draft-preserved-in-18 : goal.term-loop-draft-preserved-in-18
+term-loop-draft-preserved-in-18 t c = let token = c.token-p in let match = c.in-18.is in let see = c.see-seen.ensures in let loop = c.loop-draft.invariant in onward_takes want_operand plus_minus operand_sign refl (sym see.class ∙ match) loop (took_prefix plus_minus refl loop.asks (see.next _ _) (sym see.class ∙ match) (c.prefix_operator.ensures ∙ ap (shifted 0x10) see.own) token.ensures.0 token.ensures.1)
 
 pub term-token-p-requires-in-20 : goal.term-token-p-requires-in-20
-term-token-p-requires-in-20 t c = let loop = c.loop-line.invariant.asks in omega (arith, loop.few, loop.short, loop.within)
+term-token-p-requires-in-20 t c = let loop = c.loop-draft.invariant.asks in omega (arith, loop.few, loop.short, loop.within)
 
-pub term-loop-line-smaller : goal.term-loop-line-smaller
-term-loop-line-smaller t c = let token2 = c.token-p-in-20.ensures in let match = c.in-20.is in let see = c.see-seen.ensures in let loop = c.loop-line.invariant.asks in let took = took_own not_word refl loop (see.next _ _) (sym see.class ∙ match) see.own token2.0 token2.1 in omega (arith, took.pass.ahead, took.pass.asks.within)
+pub term-loop-draft-smaller : goal.term-loop-draft-smaller
+term-loop-draft-smaller t c = let token2 = c.token-p-in-20.ensures in let match = c.in-20.is in let see = c.see-seen.ensures in let loop = c.loop-draft.invariant.asks in let took = took_own not_word refl loop (see.next _ _) (sym see.class ∙ match) see.own token2.0 token2.1 in omega (arith, took.pass.ahead, took.pass.asks.within)
 
-pub term-loop-line-preserved : goal.term-loop-line-preserved
-term-loop-line-preserved t c = let token2 = c.token-p-in-20 in let match = c.in-20.is in let see = c.see-seen.ensures in let loop = c.loop-line.invariant in onward_takes want_operand not_word operand_not refl (sym see.class ∙ match) loop (took_own not_word refl loop.asks (see.next _ _) (sym see.class ∙ match) see.own token2.ensures.0 token2.ensures.1)
+pub term-loop-draft-preserved : goal.term-loop-draft-preserved
+term-loop-draft-preserved t c = let token2 = c.token-p-in-20 in let match = c.in-20.is in let see = c.see-seen.ensures in let loop = c.loop-draft.invariant in onward_takes want_operand not_word operand_not refl (sym see.class ∙ match) loop (took_own not_word refl loop.asks (see.next _ _) (sym see.class ∙ match) see.own token2.ensures.0 token2.ensures.1)
 
 pub term-operand-requires : goal.term-operand-requires
-term-operand-requires t c = let match = c.in_default.in_default-own.rest in let loop = c.loop-line.invariant in (omega (arith, loop.ahead, loop.asks.within), (loop.asks, c.see-seen.ensures, match.0.1, match.1))
+term-operand-requires t c = let match = c.in_default.in_default-own.rest in let loop = c.loop-draft.invariant in (omega (arith, loop.ahead, loop.asks.within), (loop.asks, c.see-seen.ensures, match.0.1, match.1))
 
 pub term-returns-in_default : goal.term-returns-in_default
-term-returns-in_default t c = c.loop-line.invariant.goes _ _ c.operand.ensures
+term-returns-in_default t c = c.loop-draft.invariant.goes _ _ c.operand.ensures
