@@ -1,13 +1,12 @@
 -- One turn of the call: the first line of the rest is entered, and the call goes on with what stands after it.
-use Prim.Native.Nat.{ℕ, suc, ◌+◌, ◌-◌, ◌<◌, ◌≤◌, min}
+use Prim.Native.Nat.{ℕ, suc, ◌+◌, ◌<◌, ◌≤◌}
 use native.Mathlib.Omega.{arith}
-use mathlib.Core.Path.{◌≡◌, refl, sym, ap, ◌∙◌}
-use mathlib.Core.Bool.{Bool, true, false}
+use native.Mathlib.Numerals.{add-one}
+use mathlib.Core.Path.{◌≡◌, refl, sym, ap, ap₂, ◌∙◌}
+use mathlib.Core.Bool.{Bool}
 use mathlib.Core.List.{List, [], ◌∷◌}
-use lib.Dec.{leb}
-use lib.ListN.{length, take, drop, length-drop, drop_of_length-le}
-use lib.Seq.{take_all}
-use borrow.Author.Tests.{leb-true, leb-false}
+use lib.ListN.{length, take, drop}
+use Rattle.std.proofs.Common.{drop-drop}
 use Rattle.paper.specs.Bytes.{run}
 use Rattle.paper.specs.Items.{raw_byte?}
 use Rattle.paper.specs.Calls.{State, Entered, sound_state, enter_with}
@@ -34,34 +33,19 @@ unfolding with_answers answers_to text_lines
 done keep b [] h = refl
 done keep b (x ∷ text) h = absurd (omega arith)
 
--- to leave out more than there is leaves nothing
-drop_most : (n : ℕ) (xs : List ℕ) → drop (min n (length xs)) xs ≡ drop n xs
-drop_most n xs = go (leb n (length xs)) refl
-  where
-    go : (b : Bool) → leb n (length xs) ≡ b → drop (min n (length xs)) xs ≡ drop n xs
-    go true e =
-        let h = leb-true n (length xs) e in
-        let all : min n (length xs) ≡ n = omega arith in
-        ap (λ (k : ℕ). drop k xs) all
-    go false e =
-        let h = leb-false n (length xs) e in
-        let most : length xs ≤ min n (length xs) = omega arith in
-        let more : length xs ≤ n = omega arith in
-        drop_of_length-le xs most ∙ sym (drop_of_length-le xs more)
-
 module _ (rest : List ℕ) (end : ℕ) (ends : end ≡ 0 + run raw_byte? (drop 0 rest)) where
   -- the line ends among the bytes
   pub within : end ≤ length rest
   within = omega (arith, ends, run_within raw_byte? rest)
 
-  -- its line and those after it, in what a slice has of the bytes
-  pub lines_so : 0 < length rest → (next : ℕ) → next ≡ min (suc end) (length rest) → text_lines rest ≡ take end rest ∷ text_lines (take (length rest - next) (drop next rest))
-  lines_so some next k =
-      let e : end ≡ run raw_byte? rest = omega (arith, ends) in
+  -- its line and those after it, past the 9B that may end it
+  pub lines_so : 0 < length rest → (line after next : List ℕ) → line ≡ take end rest → after ≡ drop end rest → next ≡ drop 1 after → text_lines rest ≡ line ∷ text_lines next
+  lines_so some line after next el ea en =
+      let e : run raw_byte? rest ≡ end = omega (arith, ends) in
+      let past : next ≡ drop (suc end) rest = en ∙ ap (drop 1) ea ∙ drop-drop 1 end rest ∙ ap (λ (k : ℕ). drop k rest) (add-one end) in
       first rest some
-      ∙ ap (λ (z : ℕ). take z rest ∷ text_lines (drop (suc z) rest)) (sym e)
-      ∙ ap (λ (z : List ℕ). take end rest ∷ text_lines z)
-      (sym (drop_most (suc end) rest) ∙ ap (λ (z : ℕ). drop z rest) (sym k) ∙ sym (take_all (length rest - next) (drop next rest) (omega (arith, length-drop next rest))))
+      ∙ ap (λ (z : ℕ). take z rest ∷ text_lines (drop (suc z) rest)) e
+      ∙ ap₂ (λ (x y : List ℕ). x ∷ text_lines y) (sym el) (sym past)
     where
       first : (s : List ℕ) → 0 < length s → text_lines s ≡ take (run raw_byte? s) s ∷ text_lines (drop (suc (run raw_byte? s)) s)
       first [] h = absurd (omega arith)

@@ -1,26 +1,30 @@
 // A whole listing at once: a text of many lines parted by 9B, entered line by line over tables that are tested once.
 #![tactic(auto)]
 
-ghost use Rattle.std.specs.Prelude.{◌≡◌, List, ℕ, suc, ◌+◌, ◌<◌, min, length};
+ghost use Rattle.std.specs.Prelude.{◌≡◌, List, ℕ, ◌+◌, ◌<◌, drop, length};
 ghost use Rattle.paper.specs.Calls.{sound_state, enter_with};
 ghost use Rattle.paper.specs.Batch.{text_lines, with_answer, batch as batch-call};
 ghost use Rattle.requested.specs.RequestTerms.{all_unsound};
 ghost use Rattle.editor_edit.specs.States.{state, entered};
-ghost use Rattle.editor_batch.specs.Answers.{batched, nothing_entered};
+ghost use Rattle.editor_batch.specs.Answers.{batched, nothing_entered, Firsts};
 
 use buffers::{Run, run_end};
 use editor_edit::{Editor, Entered, refused};
+use refusals::{Refusal, RefusedItem};
 
-// What entering many lines answers: how many were taken and refused; of the first refusal the number, the place in its line with the end, and the line
-// counted from 1, all 0 if no line was refused; and the record afterwards.
+// The first refusal among lines: of which line, counted from 1, and of which item of it.
+#[derive(Clone, Copy)]
+pub struct FirstRefusal {
+    pub line: usize,
+    pub item: RefusedItem,
+}
+
+// What entering many lines answers: how many were taken and refused, the first refusal if there is one, and the record afterwards.
 #[derive(Clone, Copy)]
 pub struct Batched {
     pub taken: usize,
     pub refused: usize,
-    pub number: u8,
-    pub place: usize,
-    pub end: usize,
-    pub line: usize,
+    pub first: Option<FirstRefusal>,
     pub editor: Editor,
 }
 
@@ -31,50 +35,31 @@ fn no_lines(e: Editor) -> Batched
     Batched {
         taken: 0,
         refused: 0,
-        number: 0,
-        place: 0,
-        end: 0,
-        line: 0,
+        first: None,
         editor: e,
     }
 }
 
 // The answer with that to one line more.
 fn with_answer(b: Batched, e: Entered) -> Batched
-    requires { b.taken + b.refused < 0xffffffffffffffff }
-    ensures { (n v s n' v' s' : List ℕ) → batched result n v s ≡ with_answer (batched b n' v' s') (entered e n v s) }
+    requires { (b.taken + b.refused < 0xffffffffffffffff) × Firsts b }
+    ensures { ((n v s n' v' s' : List ℕ) → batched result n v s ≡ with_answer (batched b n' v' s') (entered e n v s)) × Firsts result }
 {
-    let editor = e.editor;
-    if e.number == 0 {
-        return Batched {
+    match e.added {
+        Ok(_) => Batched {
             taken: b.taken + 1,
-            refused: b.refused,
-            number: b.number,
-            place: b.place,
-            end: b.end,
-            line: b.line,
-            editor,
-        };
-    }
-    if b.refused == 0 {
-        return Batched {
-            taken: b.taken,
-            refused: 1,
-            number: e.number,
-            place: e.place,
-            end: e.end,
-            line: b.taken + 1,
-            editor,
-        };
-    }
-    Batched {
-        taken: b.taken,
-        refused: b.refused + 1,
-        number: b.number,
-        place: b.place,
-        end: b.end,
-        line: b.line,
-        editor,
+            editor: e.editor,
+            ..b
+        },
+        Err(item) => {
+            let line = b.taken + b.refused + 1;
+            Batched {
+                refused: b.refused + 1,
+                first: b.first.or(Some(FirstRefusal { line, item })),
+                editor: e.editor,
+                ..b
+            }
+        }
     }
 }
 
@@ -94,15 +79,15 @@ fn enter_tested(
     if sound {
         editor::enter_sound(line, keep, names, values, store, e)
     } else {
-        refused(1, e)
+        refused(Refusal::Unsound, e)
     }
 }
 
-// Where the line after one begins: past the 9B at its end, or at the end of the bytes.
-fn next_line(end: usize, length: usize) -> usize
-    ensures { result ≡ min (suc end) length }
+// The lines after one: what stands past the 9B that ends it, if there is one.
+fn past_end(rest: &[u8]) -> &[u8]
+    ensures { result.now ≡ drop 1 rest.now }
 {
-    if end < length { end + 1 } else { length }
+    rest.get(1..).unwrap_or(rest)
 }
 
 // Enters the lines of a text one after another, as single calls would, going on after a refusal. Each 9B ends a line, and bytes after the last 9B are a line
@@ -120,12 +105,11 @@ pub fn batch(
     let sound = editor_sound::sound(names, values, store, e);
     let mut rest = text;
     let mut b = no_lines(e);
-    while 0 < rest.len() {
-        let end = run_end(rest, 0, Run::RawBytes);
-        let answer = enter_tested(sound, &rest[..end], keep, names, values, store, b.editor);
+    while !rest.is_empty() {
+        let (line, after) = rest.split_at(run_end(rest, 0, Run::RawBytes));
+        let answer = enter_tested(sound, line, keep, names, values, store, b.editor);
         b = with_answer(b, answer);
-        let next = next_line(end, rest.len());
-        rest = &rest[next..];
+        rest = past_end(after);
     }
     b
 }
@@ -134,30 +118,10 @@ pub fn batch(
 pub fn refuse_all(text: &[u8], e: Editor) -> Batched
     ensures { (n v s : List ℕ) → batched result n v s ≡ all_unsound (length (text_lines text.now)) (state n v s e) }
 {
-    let mut names = [0u8; 0];
-    let mut values = [0u8; 0];
-    let mut store = [0u8; 0];
-    let r = batch(
-        text,
-        false,
-        &mut names,
-        &mut values,
-        &mut store,
-        Editor {
-            used: 1,
-            lines: 0,
-            greatest: 0,
-            name_count: 0,
-            name_bytes: 0,
-        },
-    );
-    Batched {
-        taken: r.taken,
-        refused: r.refused,
-        number: r.number,
-        place: r.place,
-        end: r.end,
-        line: r.line,
-        editor: e,
-    }
+    let unsound = Editor {
+        used: 1,
+        ..editor_edit::empty()
+    };
+    let r = batch(text, false, &mut [], &mut [], &mut [], unsound);
+    Batched { editor: e, ..r }
 }

@@ -10,18 +10,10 @@ ghost use Rattle.editor_lent.specs.Answers.{answered};
 
 use editor::{enter, list};
 use editor_edit::Editor;
-use editor_list::Listed;
+use refusals::{Refusal, RefusedItem};
 
-// What entering a text over a lent record answers: document 01's number, the place and its end where they apply, and how many names were added.
-#[derive(Clone, Copy)]
-pub struct Answer {
-    pub number: u8,
-    pub place: usize,
-    pub end: usize,
-    pub added: usize,
-}
-
-// Enters a text as `enter` does, over a lent record, which is updated.
+// Enters a text as `enter` does, over a lent record, which is updated, and returns how many names were added. A wrong line that is kept is a refusal too, of which
+// the record counts the line.
 pub fn enter_lent(
     text: &[u8],
     keep: bool,
@@ -30,20 +22,15 @@ pub fn enter_lent(
     store: &mut [u8],
     line: &mut [u8],
     e: &mut Editor,
-) -> Answer
+) -> Result<usize, RefusedItem>
     ensures { answered result names.new values.new store.new line.new e.new ≡ typed keep text.now (state names.old values.old store.old e.old) line.old }
 {
     let r = enter(text, keep, names, values, store, line, *e);
     *e = r.editor;
-    Answer {
-        number: r.number,
-        place: r.place,
-        end: r.end,
-        added: r.added,
-    }
+    r.added
 }
 
-// Lists the line with a number as `list` does, over a lent record.
+// Lists the line with a number as `list` does, over a lent record, and returns how many bytes were written.
 pub fn list_lent(
     line: usize,
     names: &[u8],
@@ -51,7 +38,7 @@ pub fn list_lent(
     store: &[u8],
     e: &Editor,
     out: &mut [u8],
-) -> Listed
+) -> Result<usize, Refusal>
     ensures { listed result out.new ≡ list_call line (state names.now values.now store.now e.now) out.old }
 {
     list(line, names, values, store, *e, out)

@@ -3,7 +3,7 @@ use mathlib.Core.Path.{◌≡◌}
 use Prim.Native.Nat.{◌+◌, ◌≤◌}
 use lib.ListN.{length}
 use Rattle.paper.specs.Calls.{sound_state}
-use Rattle.editor_batch.specs.Answers.{batched}
+use Rattle.editor_batch.specs.Answers.{batched, Firsts}
 use Rattle.editor_batch.proofs.TurnLaws.{going_on}
 use Rattle.editor_batch.proofs.batch.Given as goal
 
@@ -11,6 +11,7 @@ abbrev pub invariant-loop-rest : goal.invariant-loop-rest
 invariant-loop-rest l =
     (l.sound ≡ sound_state (batched l.b l.names l.values l.store).after)
     × (l.b.taken + l.b.refused + length l.rest ≤ length l.text)
+    × Firsts l.b
     × (length l.names ≡ length l.initial.names)
     × (length l.values ≡ length l.initial.values)
     × (length l.store ≡ length l.initial.store)
