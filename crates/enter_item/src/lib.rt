@@ -8,7 +8,7 @@ ghost use Rattle.paper.specs.Tokens.{class};
 ghost use Rattle.paper.specs.Names.{names_in};
 ghost use Rattle.paper.specs.Grammar.{itself};
 ghost use Rattle.enter_item.specs.Draft.{low};
-ghost use Rattle.enter_item.specs.Says.{env_of, mem, spot, item_of, Asks, Took, Expects, VariableWritten, Counts};
+ghost use Rattle.enter_item.specs.Says.{env, env_of, mem, spot, item_of, Asks, Took, Expects, VariableWritten, Counts};
 ghost use Rattle.names_numbered.specs.Answers.{Numbers};
 ghost use Rattle.enter_scan.specs.Sees.{Sees, token_at};
 ghost use Rattle.enter_item.specs.LeafLaws.{NameSeen, spelling};
@@ -98,11 +98,11 @@ pub fn low_byte(n: usize) -> u8
 }
 
 // One token is written, and what follows stands at `end`.
-pub fn token(draft: &mut Draft, q: Spot, end: usize, b: u8) -> Spot
+pub fn token(line: &mut [u8], q: Spot, end: usize, b: u8) -> Spot
     requires { q.written ≤ 1000 }
-    ensures { (draft.new ≡ mem (set draft.old.line q.written b) draft.old.fresh) × (result ≡ spot end (q.written + 1) q.named) }
+    ensures { (line.new ≡ set line.old q.written b) × (result ≡ spot end (q.written + 1) q.named) }
 {
-    buffers::put(&mut draft.line, q.written, b);
+    buffers::put(line, q.written, b);
     Spot {
         at: end,
         written: q.written + 1,
@@ -147,32 +147,38 @@ pub fn string_operator(t: u8) -> u8
 pub fn expect(
     text: Text,
     q: Spot,
-    draft: &mut Draft,
+    line: &mut [u8],
     wanted: u8,
     operator: OperatorToken,
 ) -> Result<Spot, RefusedAt>
     requires { (q.at ≤ length text.part.now) × (text.offset + length text.part.now ≤ 120) × (q.written ≤ 1000) }
-    ensures { Expects wanted operator.0 (env_of text.entry) q draft.old draft.new result }
+    ensures { (n fresh : List ℕ) → Expects wanted operator.0 (env text.entry.part.now text.entry.offset n) q (mem line.old fresh) (mem line.new fresh) result }
 {
     let seen = see(text.part, q.at, false);
     let it = seen.item;
     if seen.class != wanted {
         return Err(text.refuse(Refusal::NoReading, it.at));
     }
-    Ok(token(draft, q, it.end, operator.0))
+    Ok(token(line, q, it.end, operator.0))
 }
 
 // Where a reader stands after a constant, whose six bytes are written; of one out of range a refusal at its place.
-pub fn constant(text: Text, it: Item, q: Spot, draft: &mut Draft) -> Result<Spot, RefusedAt>
-    requires { (Asks (env_of text) q draft.old) × ((b : Bool) × ((Sees text.part.now q.at b it) × (class (token_at text.part.now b it) ≡ 3))) }
-    ensures { (b : Bool) → Sees text.entry.part.now q.at b it → class (token_at text.entry.part.now b it) ≡ 3 → Counts (env_of text.entry) b (token_at text.entry.part.now b it) it.at it.end q draft.old draft.new result }
+pub fn constant(
+    text: Text,
+    it: Item,
+    q: Spot,
+    line: &mut [u8],
+    fresh: &mut [u8],
+) -> Result<Spot, RefusedAt>
+    requires { (Asks (env_of text) q (mem line.old fresh.old)) × ((b : Bool) × ((Sees text.part.now q.at b it) × (class (token_at text.part.now b it) ≡ 3))) }
+    ensures { (b : Bool) → Sees text.entry.part.now q.at b it → class (token_at text.entry.part.now b it) ≡ 3 → Counts (env_of text.entry) b (token_at text.entry.part.now b it) it.at it.end q (mem line.old fresh.old) (mem line.new fresh.new) result }
 {
     let Some(six) = constant_bytes::six_bytes(&text.part[it.at..], kinds::numeral_of(it.kind))
     else {
         return Err(text.refuse(Refusal::OutOfRange, it.at));
     };
-    buffers::put(&mut draft.line, q.written, OperatorToken::NUMBER.0);
-    buffers::copy(&mut draft.line, q.written + 1, &six);
+    buffers::put(line, q.written, OperatorToken::NUMBER.0);
+    buffers::copy(line, q.written + 1, &six);
     Ok(Spot {
         at: it.end,
         written: q.written + 7,
@@ -181,14 +187,13 @@ pub fn constant(text: Text, it: Item, q: Spot, draft: &mut Draft) -> Result<Spot
 }
 
 // A quoted string: its length and its bytes.
-pub fn quoted(text: Text, it: Item, q: Spot, draft: &mut Draft) -> Spot
-    requires { (Asks (env_of text) q draft.old) × (Sees text.part.now q.at false it) × (class (token_at text.part.now false it) ≡ 4) }
-    ensures { Took (env_of text.entry) false q draft.old itself (item_of (env_of text.entry) (token_at text.entry.part.now false it) it.at it.end) false result draft.new }
+pub fn quoted(text: Text, it: Item, q: Spot, line: &mut [u8], fresh: &mut [u8]) -> Spot
+    requires { (Asks (env_of text) q (mem line.old fresh.old)) × (Sees text.part.now q.at false it) × (class (token_at text.part.now false it) ≡ 4) }
+    ensures { Took (env_of text.entry) false q (mem line.old fresh.old) itself (item_of (env_of text.entry) (token_at text.entry.part.now false it) it.at it.end) false result (mem line.new fresh.new) }
 {
     let size = kinds::quoted_length(it.kind);
     let from = it.at + 1;
     let to = from + size;
-    let line = &mut draft.line;
     buffers::put(line, q.written, OperatorToken::STRING.0);
     buffers::put(line, q.written + 1, size as u8);
     buffers::copy(line, q.written + 2, &text.part[from..to]);
@@ -229,15 +234,64 @@ pub fn write_variable(line: &mut [u8], at: usize, number: usize) -> usize
 }
 
 // A variable: its name's number, and its name where it is new.
-pub fn variable(text: Text, it: Item, q: Spot, draft: &mut Draft) -> Spot
-    requires { (Asks (env_of text) q draft.old) × (Sees text.part.now q.at false it) × (5 ≤ class (token_at text.part.now false it)) × (class (token_at text.part.now false it) ≤ 7) }
-    ensures { Took (env_of text.entry) false q draft.old itself (item_of (env_of text.entry) (token_at text.entry.part.now false it) it.at it.end) false result draft.new }
+pub fn variable(text: Text, it: Item, q: Spot, line: &mut [u8], fresh: &mut [u8]) -> Spot
+    requires { (Asks (env_of text) q (mem line.old fresh.old)) × (Sees text.part.now q.at false it) × (5 ≤ class (token_at text.part.now false it)) × (class (token_at text.part.now false it) ≤ 7) }
+    ensures { Took (env_of text.entry) false q (mem line.old fresh.old) itself (item_of (env_of text.entry) (token_at text.entry.part.now false it) it.at it.end) false result (mem line.new fresh.new) }
 {
-    let found = name_number(text, it, &mut draft.fresh, q.named);
-    let size = write_variable(&mut draft.line, q.written, found.number);
+    let found = name_number(text, it, fresh, q.named);
+    let size = write_variable(line, q.written, found.number);
     Spot {
         at: it.end,
         written: q.written + size,
         named: found.size,
+    }
+}
+
+// The readers over a draft; those above take a line and new names of any length.
+impl Draft {
+    // One token is written, and what follows stands at `end`.
+    pub fn token(&mut self, q: Spot, end: usize, b: u8) -> Spot
+        requires { q.written ≤ 1000 }
+        ensures { (self.new ≡ mem (set self.old.line q.written b) self.old.fresh) × (result ≡ spot end (q.written + 1) q.named) }
+    {
+        token(&mut self.line, q, end, b)
+    }
+
+    // Where a reader stands after an item of a class, as `expect` says it.
+    pub fn expect(
+        &mut self,
+        text: Text,
+        q: Spot,
+        wanted: u8,
+        operator: OperatorToken,
+    ) -> Result<Spot, RefusedAt>
+        requires { (q.at ≤ length text.part.now) × (text.offset + length text.part.now ≤ 120) × (q.written ≤ 1000) }
+        ensures { Expects wanted operator.0 (env_of text.entry) q self.old self.new result }
+    {
+        expect(text, q, &mut self.line, wanted, operator)
+    }
+
+    // Where a reader stands after a constant, as `constant` says it.
+    pub fn constant(&mut self, text: Text, it: Item, q: Spot) -> Result<Spot, RefusedAt>
+        requires { (Asks (env_of text) q self.old) × ((b : Bool) × ((Sees text.part.now q.at b it) × (class (token_at text.part.now b it) ≡ 3))) }
+        ensures { (b : Bool) → Sees text.entry.part.now q.at b it → class (token_at text.entry.part.now b it) ≡ 3 → Counts (env_of text.entry) b (token_at text.entry.part.now b it) it.at it.end q self.old self.new result }
+    {
+        constant(text, it, q, &mut self.line, &mut self.fresh)
+    }
+
+    // A quoted string: its length and its bytes.
+    pub fn quoted(&mut self, text: Text, it: Item, q: Spot) -> Spot
+        requires { (Asks (env_of text) q self.old) × (Sees text.part.now q.at false it) × (class (token_at text.part.now false it) ≡ 4) }
+        ensures { Took (env_of text.entry) false q self.old itself (item_of (env_of text.entry) (token_at text.entry.part.now false it) it.at it.end) false result self.new }
+    {
+        quoted(text, it, q, &mut self.line, &mut self.fresh)
+    }
+
+    // A variable: its name's number, and its name where it is new.
+    pub fn variable(&mut self, text: Text, it: Item, q: Spot) -> Spot
+        requires { (Asks (env_of text) q self.old) × (Sees text.part.now q.at false it) × (5 ≤ class (token_at text.part.now false it)) × (class (token_at text.part.now false it) ≤ 7) }
+        ensures { Took (env_of text.entry) false q self.old itself (item_of (env_of text.entry) (token_at text.entry.part.now false it) it.at it.end) false result self.new }
+    {
+        variable(text, it, q, &mut self.line, &mut self.fresh)
     }
 }

@@ -8,10 +8,7 @@ ghost use Rattle.enter_item.specs.Says.{env_of, Asks, Says};
 ghost use Rattle.enter_item.specs.Sees.{Shows};
 ghost use Rattle.enter_item.specs.Tests.{joins?};
 
-use enter_item::{
-    Draft, Seen, Spot, Text, compares, constant, expect, prefix_operator, quoted, see,
-    string_operator, token, variable,
-};
+use enter_item::{Draft, Seen, Spot, Text, compares, prefix_operator, see, string_operator};
 use refusals::{Refusal, RefusedAt};
 use tokens::{OperatorToken, class};
 
@@ -42,7 +39,7 @@ fn expression(text: Text, q: Spot, draft: &mut Draft) -> Result<Spot, RefusedAt>
         if !joins(seen.class) {
             return Ok(next);
         }
-        p = token(draft, next, seen.item.end, seen.own);
+        p = draft.token(next, seen.item.end, seen.own);
     }
 }
 
@@ -53,7 +50,7 @@ fn enclosed(text: Text, q: Spot, draft: &mut Draft) -> Result<Spot, RefusedAt>
     ensures { Says (want_operand ∷ want_more_terms ∷ want_close ∷ []) (env_of text.entry) q draft.old draft.new result }
 {
     let p = expression(text, q, draft)?;
-    expect(text, p, draft, class::CLOSE_SIGN, OperatorToken::CLOSE)
+    draft.expect(text, p, class::CLOSE_SIGN, OperatorToken::CLOSE)
 }
 
 // One or two subscripts and the closing parenthesis.
@@ -76,10 +73,10 @@ fn second(text: Text, q: Spot, draft: &mut Draft) -> Result<Spot, RefusedAt>
     let it = seen.item;
     match seen.class {
         class::COMMA => {
-            let p = token(draft, q, it.end, OperatorToken::INNER_COMMA.0);
+            let p = draft.token(q, it.end, OperatorToken::INNER_COMMA.0);
             enclosed(text, p, draft)
         }
-        class::CLOSE_SIGN => Ok(token(draft, q, it.end, seen.own)),
+        class::CLOSE_SIGN => Ok(draft.token(q, it.end, seen.own)),
         _ => Err(text.refuse(Refusal::NoReading, it.at)),
     }
 }
@@ -90,13 +87,7 @@ fn argument(text: Text, q: Spot, draft: &mut Draft) -> Result<Spot, RefusedAt>
     requires { Asks (env_of text) q draft.old }
     ensures { Says (want_function_open ∷ want_operand ∷ want_more_terms ∷ want_close ∷ []) (env_of text.entry) q draft.old draft.new result }
 {
-    let p = expect(
-        text,
-        q,
-        draft,
-        class::OPEN_SIGN,
-        OperatorToken::FUNCTION_OPEN,
-    )?;
+    let p = draft.expect(text, q, class::OPEN_SIGN, OperatorToken::FUNCTION_OPEN)?;
     enclosed(text, p, draft)
 }
 
@@ -106,15 +97,9 @@ fn string_argument(text: Text, q: Spot, draft: &mut Draft) -> Result<Spot, Refus
     requires { Asks (env_of text) q draft.old }
     ensures { Says (want_function_open ∷ want_string ∷ want_close ∷ []) (env_of text.entry) q draft.old draft.new result }
 {
-    let p = expect(
-        text,
-        q,
-        draft,
-        class::OPEN_SIGN,
-        OperatorToken::FUNCTION_OPEN,
-    )?;
+    let p = draft.expect(text, q, class::OPEN_SIGN, OperatorToken::FUNCTION_OPEN)?;
     let r = string(text, p, draft)?;
-    expect(text, r, draft, class::CLOSE_SIGN, OperatorToken::CLOSE)
+    draft.expect(text, r, class::CLOSE_SIGN, OperatorToken::CLOSE)
 }
 
 // An array's subscripts.
@@ -123,7 +108,7 @@ fn element(text: Text, q: Spot, draft: &mut Draft) -> Result<Spot, RefusedAt>
     requires { Asks (env_of text) q draft.old }
     ensures { Says (want_array_open ∷ want_operand ∷ want_more_terms ∷ want_second ∷ []) (env_of text.entry) q draft.old draft.new result }
 {
-    let p = expect(text, q, draft, class::OPEN_SIGN, OperatorToken::ARRAY_OPEN)?;
+    let p = draft.expect(text, q, class::OPEN_SIGN, OperatorToken::ARRAY_OPEN)?;
     subscripts(text, p, draft)
 }
 
@@ -137,7 +122,7 @@ fn substring(text: Text, q: Spot, draft: &mut Draft) -> Result<Spot, RefusedAt>
     if seen.class != class::OPEN_SIGN {
         return Ok(q);
     }
-    let p = token(draft, q, seen.item.end, OperatorToken::SUBSTRING_OPEN.0);
+    let p = draft.token(q, seen.item.end, OperatorToken::SUBSTRING_OPEN.0);
     subscripts(text, p, draft)
 }
 
@@ -152,7 +137,7 @@ fn comparison(text: Text, q: Spot, draft: &mut Draft) -> Result<Spot, RefusedAt>
     if !compares(seen.class) {
         return Err(text.refuse(Refusal::NoReading, it.at));
     }
-    let p = token(draft, q, it.end, string_operator(seen.own));
+    let p = draft.token(q, it.end, string_operator(seen.own));
     string(text, p, draft)
 }
 
@@ -175,13 +160,13 @@ fn string(text: Text, q: Spot, draft: &mut Draft) -> Result<Spot, RefusedAt>
     let seen = see(text.part, q.at, false);
     let it = seen.item;
     match seen.class {
-        class::QUOTED => Ok(quoted(text, it, q, draft)),
+        class::QUOTED => Ok(draft.quoted(text, it, q)),
         class::STRING_VARIABLE => {
-            let p = variable(text, it, q, draft);
+            let p = draft.variable(text, it, q);
             substring(text, p, draft)
         }
         class::STRING_FUNCTION => {
-            let p = token(draft, q, it.end, seen.own);
+            let p = draft.token(q, it.end, seen.own);
             argument(text, p, draft)
         }
         _ => Err(text.refuse(Refusal::NoReading, it.at)),
@@ -196,22 +181,22 @@ fn operand(text: Text, seen: Seen, q: Spot, draft: &mut Draft) -> Result<Spot, R
 {
     let it = seen.item;
     match seen.class {
-        class::NUMBER => constant(text, it, q, draft),
-        class::NUMERIC_VARIABLE => Ok(variable(text, it, q, draft)),
+        class::NUMBER => draft.constant(text, it, q),
+        class::NUMERIC_VARIABLE => Ok(draft.variable(text, it, q)),
         class::ARRAY => {
-            let p = variable(text, it, q, draft);
+            let p = draft.variable(text, it, q);
             element(text, p, draft)
         }
         class::OPEN_SIGN => {
-            let p = token(draft, q, it.end, seen.own);
+            let p = draft.token(q, it.end, seen.own);
             enclosed(text, p, draft)
         }
         class::FUNCTION_OF_STRING => {
-            let p = token(draft, q, it.end, seen.own);
+            let p = draft.token(q, it.end, seen.own);
             string_argument(text, p, draft)
         }
         class::FUNCTION_OF_NUMBER => {
-            let p = token(draft, q, it.end, seen.own);
+            let p = draft.token(q, it.end, seen.own);
             argument(text, p, draft)
         }
         class::QUOTED => compared(text, q, draft),
@@ -232,8 +217,8 @@ pub fn term(text: Text, q: Spot, draft: &mut Draft) -> Result<Spot, RefusedAt>
         let seen = see(text.part, p.at, false);
         let end = seen.item.end;
         match seen.class {
-            class::PLUS_MINUS => p = token(draft, p, end, prefix_operator(seen.own)),
-            class::NOT_WORD => p = token(draft, p, end, seen.own),
+            class::PLUS_MINUS => p = draft.token(p, end, prefix_operator(seen.own)),
+            class::NOT_WORD => p = draft.token(p, end, seen.own),
             _ => return operand(text, seen, p, draft),
         }
     }
