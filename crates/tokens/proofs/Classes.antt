@@ -1,14 +1,14 @@
 -- Classes, and operators by their spelling: what the definitions say of each token that no arm names.
-use Prim.Native.Nat.{ℕ, ◌≤◌, ◌<◌}
+use Prim.Native.Nat.{ℕ, ◌<◌}
 use native.Mathlib.Omega.{arith}
 use mathlib.Core.Path.{◌≡◌, sym, ap}
-use mathlib.Core.Bool.{true, false, ◌||◌}
+use mathlib.Core.Bool.{◌||◌}
 use mathlib.Core.List.{List, [], ◌∷◌}
-use lib.Dec.{T, eqb, leb}
-use borrow.Author.Tests.{le-leb, lt-leb, ne_eqb}
+use lib.Dec.{T, eqb}
+use borrow.Author.Tests.{ne_eqb}
 use Rattle.paper.specs.Bytes.{bytes, same, among}
 use Rattle.paper.specs.Classes.{unfit}
-use Rattle.paper.specs.Words.{Word, word, word_of, find_word, statements, operators, read_operators, functions, placed_operators, word_operator?}
+use Rattle.paper.specs.Words.{Word, word, word_of, find_word, statements, operators, read_operators, functions, placed_operators}
 use Rattle.paper.specs.Tokens.{operator_class, read_as, found_or}
 use Rattle.tokens.specs.Words.{past_statements, past_operators}
 use Rattle.tokens.specs.Spellings.{below, read_past}
@@ -53,21 +53,3 @@ own_test = tt
 
 pub read_else : (t : ℕ) → Rest placed t → t ≡ read_as t
 read_else = otherwise (λ t. t) read_as placed 0x55 own_test (λ t h. sym (read_past t h))
-
--- ---- word operators
-
-pub word_operator_low : (t : ℕ) → t < 0x17 → false ≡ word_operator? t
-unfolding word_operator?
-word_operator_low t h = let k : t < 0x28 = omega arith in sym (rw (lt-leb 0x17 t h, lt-leb 0x28 t k))
-
-pub word_operator_first : (t : ℕ) → 0x17 ≤ t → t ≤ 0x1b → true ≡ word_operator? t
-unfolding word_operator?
-word_operator_first t h k = sym (rw (le-leb 0x17 t h, le-leb t 0x1b k))
-
-pub word_operator_gap : (t : ℕ) → 0x1b < t → t < 0x28 → false ≡ word_operator? t
-unfolding word_operator?
-word_operator_gap t h k = let l : 0x17 ≤ t = omega arith in sym (rw (le-leb 0x17 t l, lt-leb t 0x1b h, lt-leb 0x28 t k))
-
-pub word_operator_last : (t : ℕ) → 0x1b < t → 0x28 ≤ t → leb t 0x2a ≡ word_operator? t
-unfolding word_operator?
-word_operator_last t h k = let l : 0x17 ≤ t = omega arith in sym (rw (le-leb 0x17 t l, lt-leb t 0x1b h, le-leb 0x28 t k))

@@ -1,23 +1,21 @@
 -- The search of a table, word by word.
-use Prim.Native.Nat.{ℕ, zero, suc, ◌+◌, ◌-◌, ◌≤◌, ◌<◌}
+use Prim.Native.Nat.{ℕ, suc, ◌+◌, ◌-◌, ◌≤◌, ◌<◌}
 use native.Mathlib.Numerals.{add-one}
 use native.Mathlib.Omega.{arith}
 use mathlib.Core.Path.{◌≡◌, refl, sym, ap, ◌∙◌}
-use mathlib.Core.Bool.{Bool, true, false, not, ◌&&◌, and-false}
+use mathlib.Core.Bool.{Bool, true, false, not, ◌&&◌}
 use mathlib.Core.List.{List, [], ◌∷◌}
 use lib.Dec.{eqb}
 use lib.ListN.{length, take, drop, get_or, drop_of_length-le, length-drop}
-use lib.Seq.{drop-cons, drop-drop, length-take-le, take-length}
-use borrow.Author.Tests.{eq-eqb, ne_eqb, lt-ltb, le-ltb}
+use lib.Seq.{drop-cons, drop-drop, length-take-le}
+use borrow.Author.Tests.{lt-ltb, le-ltb}
 use Rattle.paper.specs.Bytes.{pick, bytes, same}
 use Rattle.paper.specs.Classes.{unfit}
 use Rattle.paper.specs.Words.{Word, word, Found, found, nowhere, find_word, word_of, statements, operators, read_operators, functions}
-use Rattle.laws.specs.Names.{same_ne}
 use Rattle.std.specs.Prelude.{Option, Some, None}
 use Rattle.tokens.specs.declared.StatementToken.{StatementToken}
 use Rattle.tokens.specs.declared.Reserved.TheVariants.{Operator, Function}
 use Rattle.tokens.specs.Tables.{tabulated, total, end_to_end, read_words, fixed_words, word_size, statement_lengths, operator_lengths, words_of, begins, first_word, token_found, statement_found, reserved_found}
-use Rattle.tokens.specs.Same.{same_as}
 use Rattle.tokens.specs.Words.{find_read}
 
 -- ---- one word
@@ -26,33 +24,14 @@ use Rattle.tokens.specs.Words.{find_read}
 abbrev pub stands : List ℕ → ℕ → ℕ → List ℕ → Bool
 stands bs from size s = not (eqb size 0) && same (take size (drop from bs)) s
 
-pub other_length : (bs s : List ℕ) (from size : ℕ) → from + size ≤ length bs → (size ≡ length s → ⊥) → false ≡ stands bs from size s
-other_length bs s from size h n =
-    let l : length (take size (drop from bs)) ≡ size = length-take-le size (drop from bs) (omega (arith, length-drop from bs)) in
-    sym (rw (same_ne (take size (drop from bs)) s (λ e. n (sym l ∙ ap length e))) (and-false (not (eqb size 0))))
-
-pub no_bytes : (bs s : List ℕ) (from size : ℕ) → size ≡ 0 → false ≡ stands bs from size s
-no_bytes bs s from size e = sym (rw (eq-eqb size 0 e))
-
-first_byte : (bs : List ℕ) (from size : ℕ) → (size ≡ 0 → ⊥) → from + size ≤ length bs → get_or (take size (drop from bs)) 0 0 ≡ get_or bs from 0
-first_byte bs from zero z h = absurd (z refl)
-first_byte bs from (suc size) z h = rw (drop-cons bs from 0 (omega arith))
-
-pub other_first : (bs s : List ℕ) (from size : ℕ) → (size ≡ 0 → ⊥) → from + size ≤ length bs → (get_or bs from 0 ≡ get_or s 0 0 → ⊥) → false ≡ stands bs from size s
-other_first bs s from size z h n =
-    sym
-    (rw (same_ne (take size (drop from bs)) s (λ e. n (sym (first_byte bs from size z h) ∙ ap (λ (l : List ℕ). get_or l 0 0) e)))
-    (and-false (not (eqb size 0))))
-
-pub all_bytes : (r : Bool) (bs s : List ℕ) (from size : ℕ) → size ≡ length s → (size ≡ 0 → ⊥) → (r ≡ true → take (from + size - from) (drop from bs) ≡ take size s)
-    → (take (from + size - from) (drop from bs) ≡ take size s → r ≡ true) → r ≡ stands bs from size s
-all_bytes r bs s from size l z f g =
+-- the test of the bytes there is that
+pub stands_is : {r : Bool} (bs s : List ℕ) (from size : ℕ) → from + size ≤ length bs
+    → r ≡ (not (eqb (length (take (from + size - from) (drop from bs))) 0) && same (take (from + size - from) (drop from bs)) s) → r ≡ stands bs from size s
+stands_is bs s from size h e =
     let n : from + size - from ≡ size = omega arith in
-    let w : take size s ≡ s = ap (λ (k : ℕ). take k s) l ∙ take-length s in
-    same_as r (take (from + size - from) (drop from bs)) (take size s) f g
-    ∙ ap (λ (k : ℕ). same (take k (drop from bs)) (take size s)) n
-    ∙ ap (same (take size (drop from bs))) w
-    ∙ sym (rw (ne_eqb size 0 z))
+    let l : length (take size (drop from bs)) ≡ size = length-take-le size (drop from bs) (omega (arith, length-drop from bs)) in
+    e ∙ ap (λ (k : ℕ). not (eqb (length (take k (drop from bs))) 0) && same (take k (drop from bs)) s) n
+    ∙ ap (λ (k : ℕ). not (eqb k 0) && same (take size (drop from bs)) s) l
 
 -- ---- the table from its i-th word on
 

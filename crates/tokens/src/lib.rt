@@ -13,7 +13,7 @@ ghost use Rattle.paper.specs.Line.{raw_statement?};
 ghost use Rattle.tokens.specs.Tables.{total, read_words, fixed_words, words_of, first_word, token_found, statement_found, reserved_found, pair_found, symbol_found};
 ghost use Rattle.tokens.specs.Parts.{statement_part, operator_part, bytes_at};
 
-use buffers::{byte_at, lesser};
+use buffers::byte_at;
 use number::{function, operator, statement};
 
 // A token that begins a statement.
@@ -329,8 +329,7 @@ pub struct Part {
 pub fn statement_class(token: StatementToken) -> u8
     ensures { result ≡ (word_of statements token.0).class }
 {
-    let t = token.0;
-    match t {
+    match token.0 {
         statement::REM => class::REMARK,
         statement::DATA => class::REMARK,
         statement::INPUT => class::INPUT_WORD,
@@ -431,16 +430,7 @@ pub fn operator_class(token: u8) -> u8
 pub fn is_word_operator(token: u8) -> bool
     ensures { result ≡ word_operator? token }
 {
-    if token < OperatorToken::GOTO.0 {
-        return false;
-    }
-    if token <= OperatorToken::THEN.0 {
-        return true;
-    }
-    if token < OperatorToken::NOT.0 {
-        return false;
-    }
-    token <= OperatorToken::AND.0
+    matches!(token, operator::GOTO..=operator::THEN | operator::NOT..=operator::AND)
 }
 
 // Whether a statement holds raw text: REM, DATA.
@@ -632,8 +622,8 @@ pub fn operator_part(token: u8) -> Part
 fn between<'a>(s: &'a [u8], from: usize, end: usize) -> &'a [u8]
     ensures { result.now ≡ take (end - from) (drop from s.now) }
 {
-    let last = lesser(end, s.len());
-    let first = lesser(from, last);
+    let last = end.min(s.len());
+    let first = from.min(last);
     &s[first..last]
 }
 
@@ -641,11 +631,8 @@ fn between<'a>(s: &'a [u8], from: usize, end: usize) -> &'a [u8]
 pub fn spelling<'a>(words: &'a [u8], names: &'a [u8], part: Part) -> &'a [u8]
     ensures { result.now ≡ bytes_at words.now names.now part }
 {
-    let from = part.from;
-    let end = part.end;
-    let source = part.source;
-    match source {
-        Source::Fixed => between(words, from, end),
-        Source::Names => between(names, from, end),
+    match part.source {
+        Source::Fixed => between(words, part.from, part.end),
+        Source::Names => between(names, part.from, part.end),
     }
 }

@@ -307,22 +307,11 @@ pub(crate) fn first_reserved(first: u8, size: usize) -> Option<u8>
     }
 }
 
-// Whether the word of `size` bytes at `from` is the whole of `name`: the lengths and the first bytes are compared before the rest.
-fn is_word(words: &[u8], from: usize, size: usize, name: &[u8]) -> bool
-    requires { from + size ≤ length words.now }
-    ensures { result ≡ (not (eqb size 0) && same (take size (drop from words.now)) name.now) }
+// Whether a word is the whole of `name`; one without a byte is none.
+fn is_word(word: &[u8], name: &[u8]) -> bool
+    ensures { result ≡ (not (eqb (length word.now) 0) && same word.now name.now) }
 {
-    if size != name.len() {
-        return false;
-    }
-    if size == 0 {
-        return false;
-    }
-    if words[from] != name[0] {
-        return false;
-    }
-    let end = from + size;
-    check::same(&words[from..end], &name[..size])
+    !word.is_empty() && word == name
 }
 
 // The token of the word that is the whole of `name`. The words stand end to end from `start` on; their lengths are given for each
@@ -331,17 +320,15 @@ pub(crate) fn find(words: &[u8], start: usize, lengths: &[u8], first: u8, name: 
     requires { (start + total lengths.now ≤ length words.now) × (first + length lengths.now ≤ 255) }
     ensures { result ≡ token_found (find_word (words_of first lengths.now (drop start words.now)) name.now) }
 {
-    let mut i: usize = 0;
     let mut from = start;
     let mut token = first;
-    while i < lengths.len() {
-        let size = lengths[i] as usize;
-        if is_word(words, from, size, name) {
+    for size in lengths {
+        let end = from + usize::from(*size);
+        if is_word(&words[from..end], name) {
             return Some(token);
         }
-        from += size;
+        from = end;
         token += 1;
-        i += 1;
     }
     None
 }

@@ -1,14 +1,24 @@
-use Rattle.tokens.proofs.Classes.{word_operator_low, word_operator_first, word_operator_gap, word_operator_last}
+use native.Mathlib.Omega.{arith}
+use Rattle.std.proofs.lemmas.Bool.Decides.{nat_tests}
+use Rattle.paper.specs.Words.{word_operator?}
 use Rattle.tokens.proofs.is_word_operator.Goals as goal
 
-pub returns-then-token : goal.returns-then-token
-returns-then-token c = word_operator_low c.args.token c.if-token.true
+pub returns-in-23-to-27 : goal.returns-in-23-to-27
+unfolding word_operator?
+returns-in-23-to-27 c = grind (arith, nat_tests)
 
-pub returns-then-token-2 : goal.returns-then-token-2
-returns-then-token-2 c = word_operator_first c.args.token c.if-token.false c.if-token-2.true
+pub returns-in-23-to-27-2 : goal.returns-in-23-to-27-2
+unfolding word_operator?
+returns-in-23-to-27-2 c = grind (arith, nat_tests)
 
-pub returns-then-token-3 : goal.returns-then-token-3
-returns-then-token-3 c = word_operator_gap c.args.token c.if-token-2.false c.if-token-3.true
+pub returns-in_default : goal.returns-in_default
+unfolding word_operator?
+returns-in_default c = grind (arith, nat_tests)
 
-pub returns : goal.returns
-returns c = word_operator_last c.args.token c.if-token-2.false c.if-token-3.false
+pub returns-in_default-2 : goal.returns-in_default-2
+unfolding word_operator?
+returns-in_default-2 c = grind (arith, nat_tests)
+
+pub returns-in_default-3 : goal.returns-in_default-3
+unfolding word_operator?
+returns-in_default-3 c = grind (arith, nat_tests)
