@@ -7,12 +7,9 @@ ghost use Rattle.constant_text.specs.Texts.{digits_most};
 pub fn digits_within(bytes: &[u8], most: u8) -> bool
     ensures { result ≡ every (digits_most most) bytes.now }
 {
-    let mut i: usize = 0;
     let mut good = true;
-    while i < bytes.len() {
-        let b = bytes[i];
-        good = good & (b / 16 <= most) & (b % 16 <= most);
-        i += 1;
+    for b in bytes {
+        good = good & (*b / 16 <= most) & (*b % 16 <= most);
     }
     good
 }

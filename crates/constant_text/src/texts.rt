@@ -28,15 +28,12 @@ pub struct Layout {
     pub power: usize,
 }
 
-// A digit of the constant at a place, as text.
-pub fn digit(s: &[u8], at: usize, i: usize) -> u8
+// A digit of a constant, as text.
+pub fn digit(six: &[u8; 6], i: usize) -> u8
     requires { i < 10 }
-    ensures { result ≡ get_or (digits_here s.now at) i 48 }
+    ensures { result ≡ get_or (digits_here six.now 0) i 48 }
 {
-    if s.len() <= at {
-        return b'0';
-    }
-    let b = buffers::byte_at(s, at + 1 + i / 2);
+    let b = six[1 + i / 2];
     if i % 2 == 0 {
         b'0' + b / 16
     } else {
@@ -45,34 +42,32 @@ pub fn digit(s: &[u8], at: usize, i: usize) -> u8
 }
 
 // The end of the digits from a place on, without the useless zeros.
-pub fn last(s: &[u8], at: usize, point: usize) -> usize
+pub fn last(six: &[u8; 6], point: usize) -> usize
     requires { point ≤ 10 }
-    ensures { Trims (digits_here s.now at) point result }
+    ensures { Trims (digits_here six.now 0) point result }
 {
-    let mut end = DIGITS;
-    while point < end {
-        if digit(s, at, end - 1) != b'0' {
-            return end;
+    for end in (point..DIGITS).rev() {
+        if digit(six, end) != b'0' {
+            return end + 1;
         }
-        end -= 1;
     }
-    end
+    point
 }
 
 // How many zeros stand in front of the digits, one at most.
-pub fn skipped(s: &[u8], at: usize) -> usize
-    ensures { result ≡ pick (eqb (get_or (digits_here s.now at) 0 48) 48) 1 0 }
+pub fn skipped(six: &[u8; 6]) -> usize
+    ensures { result ≡ pick (eqb (get_or (digits_here six.now 0) 0 48) 48) 1 0 }
 {
-    if digit(s, at, 0) == b'0' { 1 } else { 0 }
+    if digit(six, 0) == b'0' { 1 } else { 0 }
 }
 
 // The layout with no power of ten.
-pub fn plain(s: &[u8], at: usize, first: u8) -> Layout
-    requires { (0x3f ≤ first) × (first ≤ 0x44) × (first ≡ get_or s.now at 0) }
-    ensures { Shaped (digits_here s.now at) (constant_text (six_here s.now at)) result }
+pub fn plain(six: &[u8; 6], first: u8) -> Layout
+    requires { (0x3f ≤ first) × (first ≤ 0x44) × (first ≡ get_or six.now 0 0) }
+    ensures { Shaped (digits_here six.now 0) (constant_text (six_here six.now 0)) result }
 {
     let point = 2 * (first - PLAIN_LEAST) as usize;
-    let end = last(s, at, point);
+    let end = last(six, point);
     if point == 0 {
         return Layout {
             from: 0,
@@ -82,7 +77,7 @@ pub fn plain(s: &[u8], at: usize, first: u8) -> Layout
         };
     }
     Layout {
-        from: skipped(s, at),
+        from: skipped(six),
         point,
         end,
         power: 0,
@@ -90,25 +85,25 @@ pub fn plain(s: &[u8], at: usize, first: u8) -> Layout
 }
 
 // The layout with a power of ten.
-pub fn powered(s: &[u8], at: usize, first: u8) -> Layout
-    requires { (first ≡ 0 → ⊥) × ((leb 0x3f first && leb first 0x44) ≡ false) × (first ≡ get_or s.now at 0) }
-    ensures { Shaped (digits_here s.now at) (constant_text (six_here s.now at)) result }
+pub fn powered(six: &[u8; 6], first: u8) -> Layout
+    requires { (first ≡ 0 → ⊥) × ((leb 0x3f first && leb first 0x44) ≡ false) × (first ≡ get_or six.now 0 0) }
+    ensures { Shaped (digits_here six.now 0) (constant_text (six_here six.now 0)) result }
 {
-    let from = skipped(s, at);
+    let from = skipped(six);
     let point = from + 1;
     Layout {
         from,
         point,
-        end: last(s, at, point),
+        end: last(six, point),
         power: 2 * first as usize + DIGITS - from,
     }
 }
 
-// The layout of the constant at a place: zero, from 0.01 to below 1E10 plain, else with a power of ten.
-pub fn laid_out(s: &[u8], at: usize) -> Layout
-    ensures { Shaped (digits_here s.now at) (constant_text (six_here s.now at)) result }
+// The layout of a constant: zero, from 0.01 to below 1E10 plain, else with a power of ten.
+pub fn laid_out(six: &[u8; 6]) -> Layout
+    ensures { Shaped (digits_here six.now 0) (constant_text (six_here six.now 0)) result }
 {
-    let first = buffers::byte_at(s, at);
+    let first = six[0];
     if first == 0 {
         return Layout {
             from: 0,
@@ -118,12 +113,12 @@ pub fn laid_out(s: &[u8], at: usize) -> Layout
         };
     }
     if first < PLAIN_LEAST {
-        return powered(s, at, first);
+        return powered(six, first);
     }
     if PLAIN_MOST < first {
-        return powered(s, at, first);
+        return powered(six, first);
     }
-    plain(s, at, first)
+    plain(six, first)
 }
 
 // The length of digits from one place to another: `none` if there are none, else `more` bytes more.
@@ -144,46 +139,39 @@ pub fn size(x: Layout) -> usize
 }
 
 // Writes digits from one place to another.
-pub fn write_digits(s: &[u8], at: usize, from: usize, to: usize, out: &mut [u8], n: usize)
+pub fn write_digits(six: &[u8; 6], from: usize, to: usize, out: &mut [u8], n: usize)
     requires { (from ≤ to) × (to ≤ 10) × (n ≤ length out.old + 11) }
-    ensures { out.new ≡ sets out.old n (slice from to (digits_here s.now at)) }
+    ensures { out.new ≡ sets out.old n (slice from to (digits_here six.now 0)) }
 {
-    let mut i = from;
-    while i < to {
-        let b = digit(s, at, i);
-        buffers::put(out, n + (i - from), b);
-        i += 1;
+    for i in from..to {
+        buffers::put(out, n + (i - from), digit(six, i));
     }
 }
 
 // Writes the digits before the point, and returns the place after them.
-pub fn write_whole(s: &[u8], at: usize, x: Layout, out: &mut [u8], n: usize) -> usize
+pub fn write_whole(six: &[u8; 6], x: Layout, out: &mut [u8], n: usize) -> usize
     requires { Ordered x × (n ≤ length out.old) }
-    ensures { Wrote n out.old out.new (lead (slice x.from x.point (digits_here s.now at))) result }
+    ensures { Wrote n out.old out.new (lead (slice x.from x.point (digits_here six.now 0))) result }
 {
-    let from = x.from;
-    let point = x.point;
-    if point <= from {
+    if x.point <= x.from {
         buffers::put(out, n, b'0');
         return n + 1;
     }
-    write_digits(s, at, from, point, out, n);
-    n + (point - from)
+    write_digits(six, x.from, x.point, out, n);
+    n + (x.point - x.from)
 }
 
 // Writes a point and the digits after it, and returns the place after them.
-pub fn write_fraction(s: &[u8], at: usize, x: Layout, out: &mut [u8], n: usize) -> usize
+pub fn write_fraction(six: &[u8; 6], x: Layout, out: &mut [u8], n: usize) -> usize
     requires { Ordered x × (n ≤ length out.old + 10) }
-    ensures { Wrote n out.old out.new (with_point (slice x.point x.end (digits_here s.now at))) result }
+    ensures { Wrote n out.old out.new (with_point (slice x.point x.end (digits_here six.now 0))) result }
 {
-    let point = x.point;
-    let end = x.end;
-    if end <= point {
+    if x.end <= x.point {
         return n;
     }
     buffers::put(out, n, b'.');
-    write_digits(s, at, point, end, out, n + 1);
-    n + 1 + (end - point)
+    write_digits(six, x.point, x.end, out, n + 1);
+    n + 1 + (x.end - x.point)
 }
 
 // Writes E, a sign and two digits.

@@ -1,12 +1,13 @@
 -- `laid_out` meets its contract: zero, below 0.01, from 1E10 on, and between.
+use mathlib.Core.Path.{refl}
 use Rattle.constant_text.proofs.TextShapes.{shaped_zero, below_plain, above_plain}
 use Rattle.constant_text.proofs.texts.laid_out.Goals as goal
 
 pub returns-then-first-eq0 : goal.returns-then-first-eq0
-returns-then-first-eq0 c = shaped_zero c.args.s.now c.args.at c.byte_at-first.result c.byte_at-first.ensures c.if-first-eq0.true
+returns-then-first-eq0 c = shaped_zero c.args.six.now 0 _ refl c.if-first-eq0.true
 
 pub powered-requires : goal.powered-requires
-powered-requires c = (c.if-first-eq0.false, below_plain c.byte_at-first.result c.if-first-lt-PLAIN_LEAST.true, c.byte_at-first.ensures)
+powered-requires c = (c.if-first-eq0.false, below_plain _ c.if-first-lt-PLAIN_LEAST.true, refl)
 
 pub powered-requires-then-first-gt-PLAIN_MOST : goal.powered-requires-then-first-gt-PLAIN_MOST
-powered-requires-then-first-gt-PLAIN_MOST c = (c.if-first-eq0.false, above_plain c.byte_at-first.result c.if-first-gt-PLAIN_MOST.true, c.byte_at-first.ensures)
+powered-requires-then-first-gt-PLAIN_MOST c = (c.if-first-eq0.false, above_plain _ c.if-first-gt-PLAIN_MOST.true, refl)

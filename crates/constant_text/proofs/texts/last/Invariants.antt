@@ -1,4 +1,4 @@
--- `last` meets its contract. The invariant: without useless zeros, the digits up to `end` are all.
+-- Without useless zeros, the digits up to `end` are all.
 use Prim.Native.Nat.{◌≤◌}
 use mathlib.Core.Path.{◌≡◌}
 use lib.ListN.{drop}
@@ -8,7 +8,4 @@ use Rattle.constant_text.specs.Texts.{digits_here}
 use Rattle.constant_text.proofs.texts.last.Given as goal
 
 abbrev pub invariant-loop-end : goal.invariant-loop-end
-invariant-loop-end l = (l.point ≤ l.end) × (l.end ≤ 10) × (trimmed (slice l.point l.end (digits_here l.s l.at)) ≡ trimmed (drop l.point (digits_here l.s l.at)))
-
-abbrev pub decreases-loop-end : goal.decreases-loop-end
-decreases-loop-end l = l.end
+invariant-loop-end l = (l.point ≤ l.end) × (trimmed (slice l.point l.end (digits_here l.six 0)) ≡ trimmed (drop l.point (digits_here l.six 0)))
