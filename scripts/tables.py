@@ -153,6 +153,7 @@ statements_read =
 def class_constants():
     remarks = {m[2]: m[1] for m in re.finditer(r"^-- (.*)\nabbrev pub (\w+) :", text("Classes"), re.M)}
     out = f"// The classes of items, numbered as the definitions number them: all that the grammar tells apart. ({MADE_BY})\n"
+    out += "// Stays numbers and no enum: the definitions number the classes, and the grammar adds a class to the place of a row to find its entry.\n"
     for name, number in CLASSES.items():
         said = remarks.get(name)
         out += f"\n// {said[0].upper()}{said[1:]}.\n" if said else "\n"

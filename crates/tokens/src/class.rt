@@ -1,4 +1,5 @@
 // The classes of items, numbered as the definitions number them: all that the grammar tells apart. (Made by scripts/tables.py.)
+// Stays numbers and no enum: the definitions number the classes, and the grammar adds a class to the place of a row to find its entry.
 
 // The line's end.
 pub const LINE_END: u8 = 0;
