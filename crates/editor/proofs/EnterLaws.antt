@@ -23,10 +23,14 @@ use Rattle.laws.specs.Tests.{is_true}
 use Rattle.buffers.specs.Sets.{front}
 use Rattle.enter_item.specs.Draft.{written_line}
 use Rattle.enter_item.specs.DraftLaws.{line_fits, line_size}
-use Rattle.enter_line.specs.Reading.{Start, statements, number_alone, nothing, start_at, keeps?, error_of, of_refused, of_translated, of_start, Accepted, Told}
+use Rattle.enter_line.specs.Reading.{Start, statements, number_alone, nothing, start_at, keeps?, error_of, of_refused, of_translated, of_start, gives_line, gives_deletion, gives_refusal, gives_kept, as_answer, Accepted, Told}
 use Rattle.enter_line.specs.declared.Line.{Line}
 use Rattle.enter_line.specs.declared.Reading.{Reading}
-use Rattle.enter_line.specs.declared.Reading.TheVariants.{Read, Delete, Refused, Kept}
+use Rattle.enter_line.specs.declared.Reading.TheVariants.{Read, Delete, Kept}
+use Rattle.std.specs.Prelude.{Result, Ok, Err}
+use Rattle.refusals.specs.Numbers.{number_of}
+use Rattle.refusals.specs.declared.Refusal.TheVariants.{LongText}
+use Rattle.refusals.specs.declared.RefusedItem.{RefusedItem}
 use Rattle.editor_edit.specs.declared.Editor.{Editor}
 use Rattle.editor_edit.specs.States.{state}
 use Rattle.editor_accept.specs.Lines.{Written}
@@ -190,30 +194,30 @@ record Wrong (keep : Bool) (text : List ℕ) (st : Start) (l : Line) (a b : ℕ)
   stands : span a b ≡ there
 
 module _ (keep : Bool) (ks : List (List ℕ)) (text : List ℕ) where
-  tokens_go : (l : Line) (n p : ℕ) (t : Translated) → translate p (drop p text) ≡ t → Read l ≡ of_translated keep ks text n p t → Tokens ks text (statements n p) l
+  tokens_go : (l : Line) (n p : ℕ) (t : Translated) → translate p (drop p text) ≡ t → gives_line l ≡ of_translated keep ks text n p t → Tokens ks text (statements n p) l
   unfolding of_translated of_refused
   tokens_go l n p (refused_at k there) et e = go (keeps? keep text n k there.start) e
     where
-      go : (c : Bool) → Read l ≡ pick c (Kept (record { number = n; size = length (error_of text n p there.start); named = 0 }) there.start there.end) (Refused k there.start there.end) → Tokens ks text (statements n p) l
+      go : (c : Bool) → gives_line l ≡ pick c (gives_kept (record { number = n; size = length (error_of text n p there.start); named = 0 }) 4 there.start there.end) (gives_refusal k there.start there.end) → Tokens ks text (statements n p) l
       go true e = let z : ◌≡◌ {A = ℕ} 0 1 = cc in absurd (omega arith)
       go false e = let z : ◌≡◌ {A = ℕ} 0 1 = cc in absurd (omega arith)
   tokens_go l n p (tokens ts) et e =
       let same : ◌≡◌ {A = Line} (record { number = n; size = length (line_bytes (add_names ks ts) n ts); named = length (name_bytes (names_added ks ts)) }) l = cc in
       subst (Tokens ks text (statements n p)) same (record { p = p; ts = ts; start = refl; translated = et; size = refl; named = refl })
 
-  tokens_of_start : (st : Start) (l : Line) → Read l ≡ of_start keep ks text st → Tokens ks text st l
+  tokens_of_start : (st : Start) (l : Line) → gives_line l ≡ of_start keep ks text st → Tokens ks text st l
   unfolding of_start
   tokens_of_start (statements n p) l e = tokens_go l n p (translate p (drop p text)) refl e
   tokens_of_start (number_alone n) l e = let z : ◌≡◌ {A = ℕ} 0 1 = cc in absurd (omega arith)
   tokens_of_start nothing l e = let z : ◌≡◌ {A = ℕ} 0 1 = cc in absurd (omega arith)
 
-  wrong_go : (l : Line) (a b n p : ℕ) (t : Translated) → translate p (drop p text) ≡ t → Kept l a b ≡ of_translated keep ks text n p t → Wrong keep text (statements n p) l a b
+  wrong_go : (l : Line) (m a b n p : ℕ) (t : Translated) → translate p (drop p text) ≡ t → gives_kept l m a b ≡ of_translated keep ks text n p t → Wrong keep text (statements n p) l a b
   unfolding of_translated of_refused
-  wrong_go l a b n p (tokens ts) et e = let z : ◌≡◌ {A = ℕ} 0 1 = cc in absurd (omega arith)
-  wrong_go l a b n p (refused_at k there) et e = go (keeps? keep text n k there.start) refl e
+  wrong_go l m a b n p (tokens ts) et e = let z : ◌≡◌ {A = ℕ} 0 1 = cc in absurd (omega arith)
+  wrong_go l m a b n p (refused_at k there) et e = go (keeps? keep text n k there.start) refl e
     where
       go : (c : Bool) → keeps? keep text n k there.start ≡ c
-          → Kept l a b ≡ pick c (Kept (record { number = n; size = length (error_of text n p there.start); named = 0 }) there.start there.end) (Refused k there.start there.end) → Wrong keep text (statements n p) l a b
+          → gives_kept l m a b ≡ pick c (gives_kept (record { number = n; size = length (error_of text n p there.start); named = 0 }) 4 there.start there.end) (gives_refusal k there.start there.end) → Wrong keep text (statements n p) l a b
       go false f e = let z : ◌≡◌ {A = ℕ} 0 1 = cc in absurd (omega arith)
       go true f e =
           let same : ◌≡◌ {A = Line} (record { number = n; size = length (error_of text n p there.start); named = 0 }) l = cc in
@@ -221,19 +225,19 @@ module _ (keep : Bool) (ks : List (List ℕ)) (text : List ℕ) where
           let j : b ≡ there.end = cc in
           subst (λ (x : Line). Wrong keep text (statements n p) x a b) same (record { p = p; k = k; there = there; start = refl; translated = et; keeps = f; size = refl; stands = rw (i, j) })
 
-  wrong_of_start : (st : Start) (l : Line) (a b : ℕ) → Kept l a b ≡ of_start keep ks text st → Wrong keep text st l a b
+  wrong_of_start : (st : Start) (l : Line) (m a b : ℕ) → gives_kept l m a b ≡ of_start keep ks text st → Wrong keep text st l a b
   unfolding of_start
-  wrong_of_start (statements n p) l a b e = wrong_go l a b n p (translate p (drop p text)) refl e
-  wrong_of_start (number_alone n) l a b e = let z : ◌≡◌ {A = ℕ} 0 1 = cc in absurd (omega arith)
-  wrong_of_start nothing l a b e = let z : ◌≡◌ {A = ℕ} 0 1 = cc in absurd (omega arith)
+  wrong_of_start (statements n p) l m a b e = wrong_go l m a b n p (translate p (drop p text)) refl e
+  wrong_of_start (number_alone n) l m a b e = let z : ◌≡◌ {A = ℕ} 0 1 = cc in absurd (omega arith)
+  wrong_of_start nothing l m a b e = let z : ◌≡◌ {A = ℕ} 0 1 = cc in absurd (omega arith)
 
 module _ (s : State) (buffer : List ℕ) (keep : Bool) (ks : List (List ℕ)) (text : List ℕ) where
-  refused_go : (n p k a b : ℕ) (t : Translated) → Refused k a b ≡ of_translated keep ks text n p t → same_buffer buffer (refusal k (span a b) s) ≡ answered_read s buffer keep text n p t
+  refused_go : (n p k a b : ℕ) (t : Translated) → gives_refusal k a b ≡ of_translated keep ks text n p t → same_buffer buffer (refusal k (span a b) s) ≡ answered_read s buffer keep text n p t
   unfolding of_translated of_refused
   refused_go n p k a b (tokens ts) e = let z : ◌≡◌ {A = ℕ} 0 1 = cc in absurd (omega arith)
   refused_go n p k a b (refused_at k' there) e = go (keeps? keep text n k' there.start) e
     where
-      go : (c : Bool) → Refused k a b ≡ pick c (Kept (record { number = n; size = length (error_of text n p there.start); named = 0 }) there.start there.end) (Refused k' there.start there.end)
+      go : (c : Bool) → gives_refusal k a b ≡ pick c (gives_kept (record { number = n; size = length (error_of text n p there.start); named = 0 }) 4 there.start there.end) (gives_refusal k' there.start there.end)
           → same_buffer buffer (refusal k (span a b) s) ≡ same_buffer buffer (pick c (keep_line s (error_of text n p there.start) there) (refusal k' there s))
       go true e = let z : ◌≡◌ {A = ℕ} 0 1 = cc in absurd (omega arith)
       go false e =
@@ -243,7 +247,7 @@ module _ (s : State) (buffer : List ℕ) (keep : Bool) (ks : List (List ℕ)) (t
           rw (i, j, l)
 
   -- what reading refuses is refused
-  refused_start : (k a b : ℕ) (st : Start) → Refused k a b ≡ of_start keep ks text st → same_buffer buffer (refusal k (span a b) s) ≡ by_start s buffer keep text st
+  refused_start : (k a b : ℕ) (st : Start) → gives_refusal k a b ≡ of_start keep ks text st → same_buffer buffer (refusal k (span a b) s) ≡ by_start s buffer keep text st
   unfolding of_start
   refused_start k a b (statements n p) e = refused_go n p k a b (translate p (drop p text)) e
   refused_start k a b (number_alone n) e = let z : ◌≡◌ {A = ℕ} 0 1 = cc in absurd (omega arith)
@@ -253,17 +257,17 @@ module _ (s : State) (buffer : List ℕ) (keep : Bool) (ks : List (List ℕ)) (t
       let l : b ≡ 0 = cc in
       rw (i, j, l)
 
-  delete_go : (n p m : ℕ) (t : Translated) → Delete m ≡ of_translated keep ks text n p t → same_buffer buffer (delete s m) ≡ answered_read s buffer keep text n p t
+  delete_go : (n p m : ℕ) (t : Translated) → gives_deletion m ≡ of_translated keep ks text n p t → same_buffer buffer (delete s m) ≡ answered_read s buffer keep text n p t
   unfolding of_translated of_refused
   delete_go n p m (tokens ts) e = let z : ◌≡◌ {A = ℕ} 0 1 = cc in absurd (omega arith)
   delete_go n p m (refused_at k there) e = absurd (go (keeps? keep text n k there.start) e)
     where
-      go : (c : Bool) → Delete m ≡ pick c (Kept (record { number = n; size = length (error_of text n p there.start); named = 0 }) there.start there.end) (Refused k there.start there.end) → ⊥
+      go : (c : Bool) → gives_deletion m ≡ pick c (gives_kept (record { number = n; size = length (error_of text n p there.start); named = 0 }) 4 there.start there.end) (gives_refusal k there.start there.end) → ⊥
       go true e = let z : ◌≡◌ {A = ℕ} 0 1 = cc in omega arith
       go false e = let z : ◌≡◌ {A = ℕ} 0 1 = cc in omega arith
 
   -- what is read as a number alone deletes
-  delete_start : (m : ℕ) (st : Start) → Delete m ≡ of_start keep ks text st → same_buffer buffer (delete s m) ≡ by_start s buffer keep text st
+  delete_start : (m : ℕ) (st : Start) → gives_deletion m ≡ of_start keep ks text st → same_buffer buffer (delete s m) ≡ by_start s buffer keep text st
   unfolding of_start
   delete_start m (statements n p) e = delete_go n p m (translate p (drop p text)) e
   delete_start m (number_alone n) e = let i : m ≡ n = cc in rw i
@@ -284,7 +288,7 @@ error_number : (n : ℕ) (text : List ℕ) → line_number (error_line n text) �
 unfolding line_number error_line
 error_number n text = omega arith
 
-module _ (names : List ℕ) (e : Editor) (keep direct : Bool) (text line fresh line' fresh' : List ℕ) (r : Reading) (fits : 255 ≤ length line) (room : 240 ≤ length fresh)
+module _ (names : List ℕ) (e : Editor) (keep direct : Bool) (text line fresh line' fresh' : List ℕ) (r : Result Reading RefusedItem) (fits : 255 ≤ length line) (room : 240 ≤ length fresh)
     (told : Told (names_in (take e.name_bytes names)) keep direct text line fresh line' fresh' r) where
   abbrev ks : List (List ℕ)
   ks = names_in (take e.name_bytes names)
@@ -292,40 +296,40 @@ module _ (names : List ℕ) (e : Editor) (keep direct : Bool) (text line fresh l
   abbrev begun : Start
   begun = start_at direct (head_of text)
 
-  tokens_read : (l : Line) → r ≡ Read l → Tokens ks text begun l
-  tokens_read l q = tokens_of_start keep ks text begun l (sym q ∙ told.answer)
+  tokens_read : (l : Line) → r ≡ Ok (Read l) → Tokens ks text begun l
+  tokens_read l q = tokens_of_start keep ks text begun l (ap as_answer (sym q) ∙ told.answer)
 
-  line_written : (l : Line) (q : r ≡ Read l) → Written ks l.number (tokens_read l q).ts line' l.size (take l.named fresh')
+  line_written : (l : Line) (q : r ≡ Ok (Read l)) → Written ks l.number (tokens_read l q).ts line' l.size (take l.named fresh')
   line_written l q =
       let x = tokens_read l q in
       written (told.accepted l.number x.p x.ts x.start x.translated) l.named x.named room (take l.named fresh') refl l.size x.size fits
 
-  wrong_read : (l : Line) (a b : ℕ) → r ≡ Kept l a b → Wrong keep text begun l a b
-  wrong_read l a b q = wrong_of_start keep ks text begun l a b (sym q ∙ told.answer)
+  wrong_read : (l : Line) (i : RefusedItem) → r ≡ Ok (Kept l i) → Wrong keep text begun l i.place i.end
+  wrong_read l i q = wrong_of_start keep ks text begun l (number_of i.refusal) i.place i.end (ap as_answer (sym q) ∙ told.answer)
 
-  error_written : (l : Line) (a b : ℕ) (q : r ≡ Kept l a b) → (let x = wrong_read l a b q in take l.size line' ≡ error_of text l.number x.p x.there.start)
-  error_written l a b q =
-      let x = wrong_read l a b q in
+  error_written : (l : Line) (i : RefusedItem) (q : r ≡ Ok (Kept l i)) → (let x = wrong_read l i q in take l.size line' ≡ error_of text l.number x.p x.there.start)
+  error_written l i q =
+      let x = wrong_read l i q in
       ap (λ (n : ℕ). take n line') x.size ∙ told.kept l.number x.p x.k x.there x.start x.translated x.keeps
 
   -- a line can be edited by
   reads_line : Ready ks line' fresh' r
   reads_line = record {
     read = λ l q. record { ts = (tokens_read l q).ts; written = line_written l q };
-    kept = λ l a b q. ap line_number (error_written l a b q) ∙ error_number l.number _;
+    kept = λ l i q. ap line_number (error_written l i q) ∙ error_number l.number _;
   }
 
   -- and what comes of the edit is what the text's start gives
-  edits_so : (values store buffer : List ℕ) (q : Reading) → r ≡ q → (o : Typed) → Edits (state names values store e) buffer line' fresh' q o → o ≡ by_start (state names values store e) buffer keep text begun
+  edits_so : (values store buffer : List ℕ) (q : Result Reading RefusedItem) → r ≡ q → (o : Typed) → Edits (state names values store e) buffer line' fresh' q o → o ≡ by_start (state names values store e) buffer keep text begun
   unfolding Edits names_of
-  edits_so values store buffer (Refused k a b) q o h = h ∙ refused_start (state names values store e) buffer keep ks text k a b begun (sym q ∙ told.answer)
-  edits_so values store buffer (Delete n) q o h = h ∙ delete_start (state names values store e) buffer keep ks text n begun (sym q ∙ told.answer)
-  edits_so values store buffer (Read l) q o h =
+  edits_so values store buffer (Err i) q o h = h ∙ refused_start (state names values store e) buffer keep ks text (number_of i.refusal) i.place i.end begun (ap as_answer (sym q) ∙ told.answer)
+  edits_so values store buffer (Ok (Delete n)) q o h = h ∙ delete_start (state names values store e) buffer keep ks text n begun (ap as_answer (sym q) ∙ told.answer)
+  edits_so values store buffer (Ok (Read l)) q o h =
       h (tokens_read l q).ts (line_written l q) ∙ accept_start (state names values store e) buffer keep ks text begun l (tokens_read l q)
-  edits_so values store buffer (Kept l a b) q o h =
+  edits_so values store buffer (Ok (Kept l i)) q o h =
       h
-      ∙ ap (λ (x : List ℕ). same_buffer buffer (keep_line (state names values store e) x (span a b))) (error_written l a b q)
-      ∙ keep_start (state names values store e) buffer keep ks text begun l a b (wrong_read l a b q)
+      ∙ ap (λ (x : List ℕ). same_buffer buffer (keep_line (state names values store e) x (span i.place i.end))) (error_written l i q)
+      ∙ keep_start (state names values store e) buffer keep ks text begun l i.place i.end (wrong_read l i q)
 
 -- ---- a text of any length
 
@@ -359,18 +363,18 @@ module _ (s : State) (sound : T (sound_state s)) (buffer : List ℕ) (keep direc
       go true = sym (rw (is_true (sound_state s) sound, le-leb (length text) 120 h, le-ltb 120 (length text) h, is_read (unnumbered? (head_of text))))
       go false = not_read (unnumbered? (head_of text)) _ _ ∙ sym (rw (is_true (sound_state s) sound, le-ltb 120 (length text) h))
 
-pub long_text : (keep direct : Bool) (names : List ℕ) (e : Editor) (text line fresh : List ℕ) → 120 < length text → Prepared keep direct names e text line fresh (Refused 2 0 0)
+pub long_text : (keep direct : Bool) (names : List ℕ) (e : Editor) (text line fresh : List ℕ) → 120 < length text → Prepared keep direct names e text line fresh (Err (record { refusal = LongText; place = 0; end = 0 }))
 unfolding Edits
 long_text keep direct names e text line fresh h =
     record {
       ready = record {
         read = λ l q. let z : ◌≡◌ {A = ℕ} 0 1 = cc in absurd (omega arith);
-        kept = λ l a b q. let z : ◌≡◌ {A = ℕ} 0 1 = cc in absurd (omega arith);
+        kept = λ l i q. let z : ◌≡◌ {A = ℕ} 0 1 = cc in absurd (omega arith);
       };
       gives = λ values store buffer t o q. q ∙ long_so (state names values store e) t buffer keep direct text h;
     }
 
-pub short_text : (keep direct : Bool) (names : List ℕ) (e : Editor) (text line fresh line' fresh' : List ℕ) (r : Reading) → length text ≤ 120 → 255 ≤ length line → 240 ≤ length fresh
+pub short_text : (keep direct : Bool) (names : List ℕ) (e : Editor) (text line fresh line' fresh' : List ℕ) (r : Result Reading RefusedItem) → length text ≤ 120 → 255 ≤ length line → 240 ≤ length fresh
     → Told (names_in (take e.name_bytes names)) keep direct text line fresh line' fresh' r → Prepared keep direct names e text line' fresh' r
 short_text keep direct names e text line fresh line' fresh' r h fits room told =
     record {

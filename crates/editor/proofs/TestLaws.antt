@@ -14,17 +14,19 @@ use Rattle.laws.specs.Tests.{and_left, as_T, is_true}
 use Rattle.laws.specs.Names.{sound_facts}
 use Rattle.store.specs.declared.Counts.{Counts}
 use Rattle.store.specs.declared.Place.{Place}
-use Rattle.store.specs.declared.Found.{Found}
-use Rattle.store.specs.declared.Found.TheVariants.{Unsound, At}
+use Rattle.std.specs.Prelude.{Option, Some, None, Result, Ok, Err}
+use Rattle.std.specs.Option.{ok_or}
+use Rattle.refusals.specs.declared.Refusal.{Refusal}
+use native.Mathlib.Omega.{arith}
+use Rattle.refusals.specs.declared.Refusal.TheVariants.{Unsound}
 use Rattle.store.specs.Answers.{sound_counts, place_of, found_answer}
 use Rattle.store.specs.Places.{found_sound, found_unsound}
 use Rattle.editor_edit.specs.declared.Editor.{Editor}
 use Rattle.editor_edit.specs.declared.Entered.{Entered}
-use Rattle.editor_edit.specs.States.{state, typed_outcome, refusing, Lies}
+use Rattle.editor_edit.specs.States.{state, typed_outcome, refusing, no_place, Lies}
 use Rattle.editor_edit.specs.Sound.{counts_kept, lines_kept}
 use Rattle.editor_sound.specs.Tests.{store_decides}
-use Rattle.editor_list.specs.declared.Listed.{Listed}
-use Rattle.editor_list.specs.Answers.{unlisted, listed}
+use Rattle.editor_list.specs.Answers.{listed}
 use Rattle.editor.proofs.EnterLaws.{not_four}
 use Rattle.list_pieces.specs.NameLaws.{sound_own}
 use Rattle.list_pieces.specs.Rest.{Sound}
@@ -39,21 +41,26 @@ module _ (s : State) (b : Bool) (e : b ≡ sound_table s.names s.name_size s.nam
         (is_true (sound_table s.names s.name_size s.name_count) (and_left (sound_table s.names s.name_size s.name_count) _ (as_T _ (sym e ∙ t))))).within
 
     module _ (kept : Counts) (so : kept ≡ counts_kept s) where
-      module _ (n : ℕ) (f : Found) (is : f ≡ found_answer s.store kept n) where
+      module _ (n : ℕ) (f : Option Place) (is : f ≡ found_answer s.store kept n) where
         -- a place was found
-        pub sound_there : (p : Place) → f ≡ At p → (T (sound_state s)) × Lies p n s
+        pub sound_there : (p : Place) → f ≡ Some p → (T (sound_state s)) × Lies p n s
         sound_there p q =
             let found = found_sound s.store kept n p (sym is ∙ q) in
             (as_T (sound_state s) (sym (store_decides s b e t kept so true (sym (is_true (sound_counts s.store kept) found.0)))), found.1 ∙ ap (place_of n) (lines_kept s kept so))
 
         -- none was
-        pub unsound_store : f ≡ Unsound → false ≡ sound_state s
+        pub unsound_store : f ≡ None → false ≡ sound_state s
         unsound_store q = store_decides s b e t kept so false (sym (found_unsound s.store kept n (sym is ∙ q)))
+
+-- where a search found no place, the error says so
+pub ok_or_none : (o : Option Place) (r : Result Place Refusal) (k : Refusal) → r ≡ ok_or o Unsound → r ≡ Err k → (o ≡ None) × (k ≡ Unsound)
+ok_or_none None r k v w = (refl, cc)
+ok_or_none (Some p) r k v w = let z : ◌≡◌ {A = ℕ} 0 1 = cc in absurd (omega arith)
 
 -- ---- entering
 
 -- 1
-pub typed_refused : (names values store buffer : List ℕ) (e : Editor) (keep : Bool) (text : List ℕ) (x : Entered) → false ≡ sound_state (state names values store e) → x ≡ refusing 1 no_span e
+pub typed_refused : (names values store buffer : List ℕ) (e : Editor) (keep : Bool) (text : List ℕ) (x : Entered) → false ≡ sound_state (state names values store e) → x ≡ refusing (no_place Unsound) e
     → typed_outcome x names values store buffer ≡ typed keep text (state names values store e) buffer
 unfolding typed same_buffer enter_with enter refusal
 typed_refused names values store buffer e keep text x t q =
@@ -69,9 +76,9 @@ list_so s n p out r t lies h =
     h ∙ ap (λ (k : ℕ). list_sound k s out) same ∙ sym (rw (is_true (sound_state s) t))
 
 -- 1
-pub list_refused : (s : State) (n : ℕ) (out : List ℕ) (x : Listed) → false ≡ sound_state s → x ≡ unlisted 1 → listed x out ≡ list n s out
+pub list_refused : (s : State) (n : ℕ) (out : List ℕ) → false ≡ sound_state s → listed (Err Unsound) out ≡ list n s out
 unfolding list not_listed
-list_refused s n out x t q = rw q (sym (rw (sym t)))
+list_refused s n out t = sym (rw (sym t))
 
 -- ---- listing a line buffer
 
@@ -86,6 +93,6 @@ module _ (buffer names values out : List ℕ) (size count : ℕ) (b : Bool) (e :
   show_so r t h = h ∙ sym (rw (sym e ∙ t))
 
   -- 1
-  pub show_refused : (x : Listed) → b ≡ false → x ≡ unlisted 1 → listed x out ≡ show buffer names size count values out
+  pub show_refused : b ≡ false → listed (Err Unsound) out ≡ show buffer names size count values out
   unfolding show not_listed
-  show_refused x t q = rw q (sym (rw (sym e ∙ t)))
+  show_refused t = sym (rw (sym e ∙ t))

@@ -9,11 +9,12 @@ ghost use Rattle.paper.specs.Direct.{typed, show as show-call};
 ghost use Rattle.editor_edit.specs.States.{state, entered, typed_outcome};
 ghost use Rattle.editor_list.specs.Answers.{listed};
 
-use editor_edit::{Editor, Entered, refused, store_counts};
-use editor_list::{Listed, list_stored, not_listed, show_sound};
+use editor_edit::{Editor, Entered, refused};
+use editor_list::{list_stored, show_sound};
 use enter_item::{LINE_ROOM, NAMES_ROOM};
 use readings::{asked, edit, read};
-use store::Found;
+use refusals::Refusal;
+use store::Counts;
 
 // Enters a text over sound tables and a sound store, or refuses it with 2 to 9; one without a number with 3. `keep` says whether a wrong line is kept.
 pub fn enter_sound(
@@ -31,7 +32,7 @@ pub fn enter_sound(
     let mut fresh = [0u8; NAMES_ROOM];
     let mut buffer = [0u8; 0];
     let reading = read(text, keep, false, names, e, &mut line, &mut fresh);
-    let place = store::find_sound(store, store_counts(e), asked(reading));
+    let place = store::find_sound(store, Counts::from(e), asked(reading));
     edit(
         reading,
         place,
@@ -60,22 +61,21 @@ pub fn enter(
 ) -> Entered
     ensures { typed_outcome result names.new values.new store.new line.new ≡ typed keep text.now (state names.old values.old store.old e) line.old }
 {
-    if names_sound::sound(names, e.name_bytes, e.name_count, values.len()) {
-        let mut bytes = [0u8; LINE_ROOM];
-        let mut fresh = [0u8; NAMES_ROOM];
-        let reading = read(text, keep, true, names, e, &mut bytes, &mut fresh);
-        match store::find(store, store_counts(e), asked(reading)) {
-            Found::Unsound => refused(1, e),
-            Found::At(place) => edit(
-                reading, place, &bytes, &fresh, names, values, store, line, e,
-            ),
-        }
-    } else {
-        refused(1, e)
+    if !names_sound::sound(names, e.name_bytes, e.name_count, values.len()) {
+        return refused(Refusal::Unsound, e);
+    }
+    let mut bytes = [0u8; LINE_ROOM];
+    let mut fresh = [0u8; NAMES_ROOM];
+    let reading = read(text, keep, true, names, e, &mut bytes, &mut fresh);
+    match store::find(store, Counts::from(e), asked(reading)) {
+        Some(place) => edit(
+            reading, place, &bytes, &fresh, names, values, store, line, e,
+        ),
+        None => refused(Refusal::Unsound, e),
     }
 }
 
-// Lists the line with a number into a buffer, or refuses with 1, 9, 10 or 11 and writes nothing.
+// Lists the line with a number into a buffer, and answers how many bytes were written; or refuses with 1, 9, 10 or 11 and writes nothing.
 pub fn list(
     line: usize,
     names: &[u8],
@@ -83,20 +83,17 @@ pub fn list(
     store: &[u8],
     e: Editor,
     out: &mut [u8],
-) -> Listed
+) -> Result<usize, Refusal>
     ensures { listed result out.new ≡ list-call line (state names.now values.now store.now e) out.old }
 {
-    if names_sound::sound(names, e.name_bytes, e.name_count, values.len()) {
-        match store::find(store, store_counts(e), line) {
-            Found::Unsound => not_listed(1),
-            Found::At(place) => list_stored(place, names, values, store, e, out),
-        }
-    } else {
-        not_listed(1)
+    if !names_sound::sound(names, e.name_bytes, e.name_count, values.len()) {
+        return Err(Refusal::Unsound);
     }
+    let place = store::find(store, Counts::from(e), line).ok_or(Refusal::Unsound)?;
+    list_stored(place, names, values, store, e, out)
 }
 
-// Lists the line in a line buffer into another, or refuses with 1, 10 or 11 and writes nothing.
+// Lists the line in a line buffer into another, and answers how many bytes were written; or refuses with 1, 10 or 11 and writes nothing.
 pub fn show(
     line: &[u8],
     names: &[u8],
@@ -104,12 +101,11 @@ pub fn show(
     name_count: usize,
     values: &[u8],
     out: &mut [u8],
-) -> Listed
+) -> Result<usize, Refusal>
     ensures { listed result out.new ≡ show-call line.now names.now name_bytes name_count values.now out.old }
 {
-    if names_sound::sound(names, name_bytes, name_count, values.len()) {
-        show_sound(line, names, name_bytes, out)
-    } else {
-        not_listed(1)
+    if !names_sound::sound(names, name_bytes, name_count, values.len()) {
+        return Err(Refusal::Unsound);
     }
+    show_sound(line, names, name_bytes, out)
 }

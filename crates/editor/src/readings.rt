@@ -9,12 +9,13 @@ use buffers::front;
 use editor_edit::{Editor, Entered, refused_at};
 use enter_item::{LINE_ROOM, NAMES_ROOM};
 use enter_line::{DIRECT_NUMBER, Reading};
+use refusals::{Refusal, RefusedItem};
 use store::Place;
 
 // The most bytes that a text may have.
 const LONGEST_TEXT: usize = 120;
 
-// What a text of any length is read as over sound names, with scratch for its line and for the names that are new in it. `direct` says whether one
+// What a text of any length is read as over sound names, or its refusal, with scratch for its line and for the names that are new in it. `direct` says whether one
 // without a number is a line, `keep` whether a wrong line is kept.
 pub(crate) fn read(
     text: &[u8],
@@ -24,32 +25,37 @@ pub(crate) fn read(
     e: Editor,
     line: &mut [u8; LINE_ROOM],
     fresh: &mut [u8; NAMES_ROOM],
-) -> Reading
+) -> Result<Reading, RefusedItem>
     requires { (e.name_bytes ≤ length names.now) × (255 ≤ length line.old) × (240 ≤ length fresh.old) }
     ensures { Prepared keep direct names.now e text.now line.new fresh.new result }
 {
     if LONGEST_TEXT < text.len() {
-        return Reading::Refused(2, 0, 0);
+        return Err(RefusedItem {
+            refusal: Refusal::LongText,
+            place: 0,
+            end: 0,
+        });
     }
-    enter_line::read(text, keep, direct, names, e.name_bytes, line, fresh)
+    enter_line::read(text, keep, direct, &names[..e.name_bytes], line, fresh)
 }
 
 // The number of the line that a text is about, as it was read; 0 of a text that is refused.
-pub(crate) fn asked(reading: Reading) -> usize
+#[tactic(auto, unfolding(crate::specs::Readings::asked_number))]
+pub(crate) fn asked(reading: Result<Reading, RefusedItem>) -> usize
     ensures { result ≡ asked_number reading }
 {
     match reading {
-        Reading::Refused(_, _, _) => 0,
-        Reading::Delete(number) => number,
-        Reading::Read(l) => l.number,
-        Reading::Kept(l, _, _) => l.number,
+        Ok(Reading::Delete(number)) => number,
+        Ok(Reading::Read(l)) => l.number,
+        Ok(Reading::Kept(l, _)) => l.number,
+        Err(_) => 0,
     }
 }
 
 // What comes of a text that was read, over a sound state and with the place of the number that it asks for: its refusal, or the edit. A line without a
 // number goes to the line buffer, a wrong line that is kept to the store.
 pub(crate) fn edit(
-    reading: Reading,
+    reading: Result<Reading, RefusedItem>,
     place: Place,
     line: &[u8; LINE_ROOM],
     fresh: &[u8; NAMES_ROOM],
@@ -63,8 +69,11 @@ pub(crate) fn edit(
         × (Ready (names_in (take e.name_bytes names.old)) line.now fresh.now reading) }
     ensures { Edits (state names.old values.old store.old e) buffer.old line.now fresh.now reading (typed_outcome result names.new values.new store.new buffer.new) }
 {
+    let reading = match reading {
+        Ok(reading) => reading,
+        Err(item) => return refused_at(item, e),
+    };
     match reading {
-        Reading::Refused(number, at, end) => refused_at(number, at, end, e),
         Reading::Delete(_) => editor_lines::take_out(place, names, values, store, e),
         Reading::Read(l) => {
             let new = front(fresh, l.named);
@@ -74,8 +83,8 @@ pub(crate) fn edit(
                 editor_accept::accept(place, line, l.size, new, names, values, store, e)
             }
         }
-        Reading::Kept(l, at, end) => editor_lines::keep(
-            place, line, l.size, at, end, names, values, store, e,
-        ),
+        Reading::Kept(l, item) => {
+            editor_lines::keep(place, front(line, l.size), item, names, values, store, e)
+        }
     }
 }

@@ -17,6 +17,7 @@ use store::{Counts, Place};
 
 // Puts the first `size` bytes of a buffer, a line that was read, at the place of its number into a sound store, and the names that are new in it
 // into the tables; or refuses it with 6, 7 or 8. Nothing is written before all tests have passed.
+// Stays a buffer with a size beside it: a line that is too long has a size beyond the buffer, and is refused by it.
 pub fn accept(
     place: Place,
     line: &[u8],
@@ -42,6 +43,7 @@ pub fn accept(
 
 // Puts the first `size` bytes of a buffer, a line without a number that was read, to the front of a lent line buffer, and the names that are new in
 // it into the tables; or refuses it with 6, 7 or 8. The store is not looked at. Nothing is written before all tests have passed, nor past the line.
+// Stays a buffer with a size beside it, for the same reason.
 pub fn accept_direct(
     buffer: &mut [u8],
     line: &[u8],

@@ -7,6 +7,8 @@ ghost use Rattle.editor_edit.specs.States.{empty_record, counts_in, counting, re
 use refusals::{Refusal, RefusedItem};
 use store::Counts;
 
+// Stays beside names, values and store, and no struct of all four with an invariant: the invariant would have to hold between the write to the store and
+// that to the record; and of three lent slices in a struct a contract says `lent.exit.1.0.now` where it now says `values.new`.
 // The editor's record: the bytes of the store that are used, how many lines they are and the greatest number of these, 0 if there is none, how many
 // names there are, and how many bytes they have.
 #[derive(Clone, Copy, Default)]

@@ -42,6 +42,9 @@ module _ (s : List ℕ) where
   unfolding direct_whole? direct_number?
   direct_by_number h n e f k g = ap (λ (z : ℕ). eqb z 32768) g ∙ sym (rw (le-leb 6 (length s) h, eq-eqb (get_or s 2 0) (length s) (sym e ∙ f)))
 
+-- all three
+pub ruleset directs = (direct_short, direct_cut, direct_by_number)
+
 -- ---- what may follow sound lines
 
 -- no line, or one of number 32768

@@ -22,7 +22,7 @@ use Rattle.store.specs.Answers.{sound_counts, place_of, found_answer}
 use Rattle.store.specs.Places.{counted, sound_rising}
 use Rattle.store.specs.Pairs.{greatest_next}
 use Rattle.store.specs.Rising.{first_number, First, first_go}
-use Rattle.store.proofs.Walk.{walking, from_start, passed_below, last_greatest, walk_resumed, walk_decides, counts_over}
+use Rattle.store.proofs.Walk.{walking, from_start, passed_below, last_greatest, walk_resumed, walk_decides, counts_over, on_from_start, used_lent}
 
 -- ---- the first of some whole lines
 
@@ -188,6 +188,10 @@ place_end store c n t h =
     let make : ℕ → ℕ → Place = λ x y. record { number = n; at = x; size = 0; before = y } in
     ap₂ make size k.greatest ∙ sym (rw (b.0, b.1) refl)
 
+-- the used bytes of a sound store are all in it
+pub sound_lent : (store : List ℕ) (c : Counts) → T (sound_counts store c) → c.used ≡ length (take c.used store)
+sound_lent store c t = sym (length-take-le c.used store (used_of store c.used (counted store c t).sound).lent)
+
 -- ---- the answer for a whole store
 
 -- in a sound store the used bytes are sound lines
@@ -219,3 +223,9 @@ module _ (store : List ℕ) (c : Counts) (n : ℕ) where
     pub found_unsound : b ≡ false → None ≡ found_answer store c n
     unfolding found_answer
     found_unsound t = sym (rw (sym test_decides ∙ t))
+
+-- what finds a place among sound lines
+pub ruleset finds = (sound_lent, place_end, lines_sound, on_from_start)
+
+-- what finds one in any store
+pub ruleset searches = (used_lent, found_over, test_passed, found_at, found_unsound, lines_sound, on_from_start)

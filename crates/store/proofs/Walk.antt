@@ -105,6 +105,9 @@ module _ (k n : ℕ) (s : List ℕ) where
         let b : ltb (line_number first) n ≡ true = lt-ltb (line_number first) n (omega (arith, number_is)) in
         sym (rw (good_line s long fits lawful, a, b))
 
+-- all six
+pub ruleset sizes = (size_short, size_cut, size_great, size_low, size_high, size_good)
+
 -- ---- a turn of the walk
 
 -- a walk at an offset, past so many lines, whose next number is from k on; and as it goes on over the bytes s
@@ -419,3 +422,14 @@ room_is store n e = go (leb (length store) 65535) refl
 pub rest_decides : (k : ℕ) (s : List ℕ) (u w : Walked) → Begun u → w ≡ walked_on (walking u.at u.lines k) 32768 s → eqb w.at (length s) ≡ sound_lines_from k (lines_in s)
 unfolding walked_on past_lines
 rest_decides k s u w b e = ap (λ (x : Walked). eqb x.at (length s)) (e ∙ ap₂ (λ (x y : ℕ). walked_on (walking x y k) 32768 s) b.0 b.1.0) ∙ ap (λ (i : ℕ). eqb i (length s)) (zero-add (walked k 32768 s)) ∙ sound_walked k s
+
+-- the used bytes that are within the room are all in the store
+pub used_lent : (store : List ℕ) (used : ℕ) → used ≤ room store → used ≡ length (take used store)
+used_lent store used h = sym (length-take-le used store (omega (arith, h, room_lent store)))
+
+-- the test of the walk is the answer
+pub test_decides : (store : List ℕ) (c : Counts) (begun w : Walked) (b : Bool) → b ≡ all_passed c w → w ≡ walked_on begun 32768 (take c.used store) → Begun begun → c.used ≤ room store → b ≡ sound_counts store c
+test_decides store c begun w b e is begins h = e ∙ ap (all_passed c) (on_from_start 32768 _ begun w begins is) ∙ walk_decides store c h
+
+-- what decides whether a store is sound
+pub ruleset decides = (used_lent, counts_over, test_decides)

@@ -1,7 +1,7 @@
 -- What the searches of the store answer.
-use Rattle.std.specs.Prelude.{ℕ, Bool, ◌&&◌, Option, Some, None, List, [], ltb, eqb, length, take}
+use Rattle.std.specs.Prelude.{ℕ, Bool, ◌&&◌, Option, Some, None, List, [], eqb, length, take}
 use Rattle.paper.specs.Bytes.{pick, joined}
-use Rattle.paper.specs.Store.{greatest_number, room, sound_lines, sound_store, lines_in, lines_below, stored?, line_at, take_out, overwritten}
+use Rattle.paper.specs.Store.{greatest_number, sound_lines, sound_store, lines_in, lines_below, stored?, line_at}
 use Rattle.paper.specs.Files.{without_direct}
 use Rattle.store.specs.declared.Counts.{Counts}
 use Rattle.store.specs.declared.Place.{Place}

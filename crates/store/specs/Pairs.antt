@@ -2,7 +2,7 @@
 use Prim.Native.Nat.{ℕ, suc, ◌+◌, ◌-◌, ◌≤◌}
 use Rattle.std.proofs.Common.{arith, ◌∙◌, ltb→lt, leb-true, leb-false, ltb-true, ltb-false}
 use Rattle.std.proofs.Math.Path.{◌≡◌, refl, sym, ap}
-use Rattle.std.specs.Prelude.{Bool, false, leb, ltb, eqb, length, drop}
+use Rattle.std.specs.Prelude.{Bool, false, leb, ltb, length, drop}
 use Rattle.std.proofs.Math.Bool.{true}
 use mathlib.Core.List.{List, [], ◌∷◌, ◌++◌}
 use Rattle.std.proofs.Math.Dec.{T, eqb→eq}

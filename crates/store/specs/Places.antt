@@ -1,7 +1,7 @@
 -- What callers know of a place that was found, and of the answers to edits.
 use Prim.Native.Nat.{ℕ, ◌+◌, ◌≤◌}
 use Rattle.std.proofs.Common.{arith, ◌∙◌, leb→le, eqb→eq, take-append-drop}
-use Rattle.std.specs.Prelude.{◌≡◌, refl, Bool, leb, eqb, length, Option, Some, None}
+use Rattle.std.specs.Prelude.{◌≡◌, refl, Bool, leb, eqb, length, Some, None}
 use Rattle.std.proofs.Math.Path.{sym, ap, subst}
 use Rattle.std.proofs.Math.Bool.{true, false}
 use mathlib.Core.List.{List, [], ◌∷◌, ◌++◌, append_assoc}

@@ -19,6 +19,7 @@ const SHORTEST_LINE: usize = 6;
 pub const GREATEST_NUMBER: usize = 32767;
 
 // The room of a store: its length, or the most that a store may use.
+#[tactic(auto, using(crate::proofs::Walk::room_is))]
 pub fn room_of(store: &[u8]) -> usize
     ensures { result ≡ room store.now }
 {
@@ -26,7 +27,7 @@ pub fn room_of(store: &[u8]) -> usize
 }
 
 // The size of the line that some bytes begin with, if it is whole and its number is from `least` on and below `number`.
-#[tactic(auto, using(crate::proofs::Walk::size_short, crate::proofs::Walk::size_cut, crate::proofs::Walk::size_great, crate::proofs::Walk::size_low, crate::proofs::Walk::size_high, crate::proofs::Walk::size_good))]
+#[tactic(auto, using(crate::proofs::Walk::sizes))]
 pub fn passing(rest: &[u8], least: usize, number: usize) -> Option<usize>
     ensures { result ≡ passing_size least number rest.now }
 {
@@ -59,6 +60,7 @@ fn first_not_below(lines: &[u8], walk: Walked, number: usize) -> Walked
     let mut rest = &lines[begin..];
     let mut count = walk.lines;
     let mut least = walk.least;
+    // Stays a loop that is left with its value: document 01 has the search yield the offset so, and the lines end to end are no sequence to iterate over.
     let at = loop {
         let Some(size) = passing(rest, least, number) else {
             break lines.len() - rest.len();
@@ -75,6 +77,7 @@ fn first_not_below(lines: &[u8], walk: Walked, number: usize) -> Walked
 }
 
 // Whether bytes are whole lines whose numbers rise, the first from `least` on.
+#[tactic(auto, using(crate::proofs::Walk::rest_decides))]
 pub fn sound_from(lines: &[u8], least: usize) -> bool
     ensures { result ≡ sound_lines_from least (lines_in lines.now) }
 {
@@ -123,6 +126,7 @@ fn agrees(counts: Counts, walk: Walked) -> bool
 }
 
 // Whether the used bytes of a store are whole lines in rising order, within the room, and the counts are theirs.
+#[tactic(auto, using(crate::proofs::Walk::decides))]
 pub fn sound(store: &[u8], counts: Counts) -> bool
     ensures { result ≡ sound_counts store.now counts }
 {
@@ -134,7 +138,9 @@ pub fn sound(store: &[u8], counts: Counts) -> bool
         )
 }
 
-// Where the line with a number begins, or would begin; its size is 0 if it is not stored. And the number of the line before it, 0 if there is none.
+// Where the line with a number begins, or would begin; how many bytes of it stand there, 0 if it is not stored. And the number of the line before it, 0
+// if there is none.
+// Stays a size and no Option of one: an edit subtracts the bytes that stand at the place, whether there are any or not.
 #[derive(Clone, Copy)]
 pub struct Place {
     pub number: usize,
@@ -144,6 +150,7 @@ pub struct Place {
 }
 
 // The place of a line number among sound lines, to which a walk past the lines below it has come.
+#[tactic(auto, using(crate::proofs::Search::place_same, crate::proofs::Search::place_other, crate::proofs::Walk::walk_inside, crate::specs::Rising::past))]
 fn place_at(lines: &[u8], walk: Walked, number: usize) -> Place
     requires { (T (sound_lines (lines_in lines.now))) × (walk ≡ walked_on start number lines.now) }
     ensures { result ≡ place_of number (lines_in lines.now) }
@@ -165,6 +172,7 @@ fn place_at(lines: &[u8], walk: Walked, number: usize) -> Place
 }
 
 // The place of a line number in a sound store. No line is searched for above the greatest number: its place is the end.
+#[tactic(auto, using(crate::proofs::Search::finds))]
 pub fn find_sound(store: &[u8], counts: Counts, number: usize) -> Place
     requires { T (sound_counts store.now counts) }
     ensures { result ≡ place_of number (lines_in (take counts.used store.now)) }
@@ -187,6 +195,7 @@ pub fn find_sound(store: &[u8], counts: Counts, number: usize) -> Place
 }
 
 // The place of a line number in a store, if that is sound and has these counts, in one walk over its lines: up to the place, and from there on.
+#[tactic(auto, using(crate::proofs::Search::searches))]
 pub fn find(store: &[u8], counts: Counts, number: usize) -> Option<Place>
     ensures { result ≡ found_answer store.now counts number }
 {
@@ -208,7 +217,7 @@ pub fn find(store: &[u8], counts: Counts, number: usize) -> Option<Place>
 const DIRECT_NUMBER: usize = GREATEST_NUMBER + 1;
 
 // Whether bytes are one whole line without a number.
-#[tactic(auto, using(crate::proofs::Programs::direct_short, crate::proofs::Programs::direct_cut, crate::proofs::Programs::direct_by_number))]
+#[tactic(auto, using(crate::proofs::Programs::directs))]
 fn is_direct(line: &[u8]) -> bool
     ensures { result ≡ direct_whole? line.now }
 {

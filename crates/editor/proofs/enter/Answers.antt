@@ -10,31 +10,31 @@ pub read-reading-requires : goal.read-reading-requires
 read-reading-requires c =
     let args = c.args in
     let s = state args.names.now args.values.now args.store.now args.e in
-    (names_within s _ c.sound.ensures c.if-sound.true, omega arith, omega arith)
+    (names_within s _ c.sound.ensures c.if-not-sound.false, omega arith, omega arith)
 
 pub edit-requires : goal.edit-requires
 edit-requires c =
     let args = c.args in
     let s = state args.names.now args.values.now args.store.now args.e in
-    let there = sound_there s _ c.sound.ensures c.if-sound.true _ c.store_counts.ensures _ _ (c.find.ensures ∙ ap (found_answer args.store.now _) c.asked.ensures) c.in-At.place c.in-At.is in
+    let there = sound_there s _ c.sound.ensures c.if-not-sound.false _ c.from.ensures _ _ (c.find.ensures ∙ ap (found_answer args.store.now _) c.asked.ensures) c.in-Some.place c.in-Some.is in
     (there.0, there.1, c.read-reading.ensures.ready)
 
-pub returns-in-Unsound : goal.returns-in-Unsound
-returns-in-Unsound c =
+pub returns-in-None : goal.returns-in-None
+returns-in-None c =
     let args = c.args in
     let s = state args.names.now args.values.now args.store.now args.e in
     typed_refused args.names.now args.values.now args.store.now args.line.now args.e args.keep args.text.now _
-    (unsound_store s _ c.sound.ensures c.if-sound.true _ c.store_counts.ensures _ _ (c.find.ensures ∙ ap (found_answer args.store.now _) c.asked.ensures) c.in-Unsound.is) c.refused.ensures
+    (unsound_store s _ c.sound.ensures c.if-not-sound.false _ c.from.ensures _ _ (c.find.ensures ∙ ap (found_answer args.store.now _) c.asked.ensures) c.in-None.is) c.refused-in-None.ensures
 
-pub returns-in-At : goal.returns-in-At
-returns-in-At c =
+pub returns-in-Some : goal.returns-in-Some
+returns-in-Some c =
     let args = c.args in
     let s = state args.names.now args.values.now args.store.now args.e in
-    let there = sound_there s _ c.sound.ensures c.if-sound.true _ c.store_counts.ensures _ _ (c.find.ensures ∙ ap (found_answer args.store.now _) c.asked.ensures) c.in-At.place c.in-At.is in
+    let there = sound_there s _ c.sound.ensures c.if-not-sound.false _ c.from.ensures _ _ (c.find.ensures ∙ ap (found_answer args.store.now _) c.asked.ensures) c.in-Some.place c.in-Some.is in
     c.read-reading.ensures.gives args.values.now args.store.now args.line.now there.0 _ c.edit.ensures
 
-pub returns-else-sound : goal.returns-else-sound
-returns-else-sound c =
+pub returns-then-not-sound : goal.returns-then-not-sound
+returns-then-not-sound c =
     let args = c.args in
     let s = state args.names.now args.values.now args.store.now args.e in
-    typed_refused args.names.now args.values.now args.store.now args.line.now args.e args.keep args.text.now _ (unsound_tables s _ c.sound.ensures c.if-sound.false) c.refused-else-sound.ensures
+    typed_refused args.names.now args.values.now args.store.now args.line.now args.e args.keep args.text.now _ (unsound_tables s _ c.sound.ensures c.if-not-sound.true) c.refused.ensures

@@ -18,13 +18,13 @@ pub find_sound-place-requires : goal.find_sound-place-requires
 find_sound-place-requires c =
     let args = c.args in
     let s = state args.names.now args.values.now args.store.now args.e in
-    counts_sound s _ c.store_counts.ensures c.requires
+    counts_sound s _ c.from.ensures c.requires
 
 pub edit-requires : goal.edit-requires
 edit-requires c =
     let args = c.args in
     let s = state args.names.now args.values.now args.store.now args.e in
-    let there = c.find_sound-place.ensures ∙ ap (place_of _) (lines_kept s _ c.store_counts.ensures) ∙ ap (λ (n : ℕ). place_of n (lines_of s)) c.asked.ensures in
+    let there = c.find_sound-place.ensures ∙ ap (place_of _) (lines_kept s _ c.from.ensures) ∙ ap (λ (n : ℕ). place_of n (lines_of s)) c.asked.ensures in
     (c.requires, there, c.read-reading.ensures.ready)
 
 pub returns : goal.returns

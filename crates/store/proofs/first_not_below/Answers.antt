@@ -1,6 +1,5 @@
 -- The invariant: the walk over `rest`, from its offset on, comes to where the whole walk comes.
 use mathlib.Core.Path.{refl, sym, ◌∙◌}
-use Prim.Native.Nat.{◌-◌}
 use native.Mathlib.Omega.{arith}
 use lib.ListN.{length}
 use Rattle.store.specs.Rising.{past, goes_by}

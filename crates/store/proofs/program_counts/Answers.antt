@@ -1,16 +1,10 @@
 use mathlib.Core.Path.{◌≡◌, sym, ◌∙◌}
 use lib.ListN.{drop}
 use Rattle.paper.specs.Store.{lines_in}
-use Rattle.store.proofs.Walk.{start_within, on_from_start}
+use Rattle.store.proofs.Walk.{on_from_start}
 use Rattle.store.proofs.Programs.{ends_well, none_follow, some_follow, program_so, program_not_so}
 use Rattle.store.proofs.program_counts.Goals.{then-is_empty, else-is_empty}
 use Rattle.store.proofs.program_counts.Goals as goal
-
-pub first_not_below-walk-requires : goal.first_not_below-walk-requires
-first_not_below-walk-requires c = start_within c.args.lines.now _ c.default.ensures
-
-pub slice_bounds-rest-count : goal.slice_bounds-rest-count
-slice_bounds-rest-count c = c.first_not_below-walk.ensures.1.0
 
 pub returns-then-is_direct : goal.returns-then-is_direct
 returns-then-is_direct c =

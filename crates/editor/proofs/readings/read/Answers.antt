@@ -8,7 +8,7 @@ returns-then-text-gt-LONGEST_TEXT c =
     long_text args.keep args.direct args.names.now args.e args.text.now args.line.now args.fresh.now c.if-text-gt-LONGEST_TEXT.true
 
 pub read-requires : goal.read-requires
-read-requires c = (omega arith, c.requires.0, c.requires.2)
+read-requires c = (omega arith, c.requires.2)
 
 pub returns : goal.returns
 returns c =
