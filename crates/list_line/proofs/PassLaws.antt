@@ -120,9 +120,9 @@ measuring_first direct ns l room frames k total h low f w e =
 
 module _ {direct : Bool} {ns : List (List ℕ)} {l : List ℕ} {room : ℕ} {frames : List ℕ} {at end depth total : ℕ} (m : Measuring direct ns l room frames at end depth total) where
   pub measuring_next : {c : Piece} {new : List ℕ} {d : ℕ} → at < length l → piece_at at end (drop at l) ≡ c → Onward ns l at end c frames depth d new
-      → {old out : List ℕ} {k : ℕ} → Writes (piece_text ns (drop at l) c) 0 old k out → {more stop step : ℕ} → more ≡ capped room (total + k) → stop ≡ end_after end (drop at l) c → step ≡ size_of c
-      → Measuring direct ns l room new (at + step) stop d more
-  measuring_next {c} {new} {d} h p o {k = k} w {more} {stop} {step} e f g =
+      → {old out : List ℕ} {k : ℕ} → Writes (piece_text ns (drop at l) c) 0 old k out → {more stop to : ℕ} → more ≡ capped room (total + k) → stop ≡ end_after end (drop at l) c → to ≡ at + size_of c
+      → Measuring direct ns l room new to stop d more
+  measuring_next {c} {new} {d} h p o {k = k} w {more} {stop} {to} e f g =
       let t = text_first ns l at end c h p in
       let n = length-append (piece_text ns (drop at l) c) (body_text (tokens_at ns l (at + size_of c) (end_after end (drop at l) c))) in
       let next : Measuring direct ns l room new (at + size_of c) (end_after end (drop at l) c) d more = record {
@@ -131,7 +131,7 @@ module _ {direct : Bool} {ns : List (List ℕ)} {l : List ℕ} {room : ℕ} {fra
         count = e ∙ ap (λ (z : ℕ). capped room (z + k)) m.count ∙ capped_more room m.before k;
         sum = omega (arith, m.sum, n, ap length t, w.size);
       } in
-      subst (λ (z : ℕ). Measuring direct ns l room new (at + z) stop d more) (sym g) (subst (λ (z : ℕ). Measuring direct ns l room new (at + size_of c) z d more) (sym f) next)
+      subst (λ (z : ℕ). Measuring direct ns l room new z stop d more) (sym g) (subst (λ (z : ℕ). Measuring direct ns l room new (at + size_of c) z d more) (sym f) next)
 
   -- the rest is not that of a well-formed line
   pub measuring_fails : (Rest ns (stack frames depth) at end (drop at l) → ⊥) → None ≡ measured direct ns l room
@@ -193,9 +193,9 @@ module _ {ns : List (List ℕ)} {l old : List ℕ} {n₀ at end n : ℕ} {out : 
       let t = text_first ns l at end c h e in
       omega (arith, m.place, ap length m.whole, length-append m.text (body_text (tokens_at ns l at end)), ap length t, length-append (piece_text ns (drop at l) c) (body_text (tokens_at ns l (at + size_of c) (end_after end (drop at l) c))))
 
-  pub writing_next : {c : Piece} → at < length l → piece_at at end (drop at l) ≡ c → {new : List ℕ} {k : ℕ} → Writes (piece_text ns (drop at l) c) n out k new → {stop step : ℕ} → stop ≡ end_after end (drop at l) c → step ≡ size_of c
-      → Writing ns l old n₀ (at + step) stop (n + k) new
-  writing_next {c} h e {new} {k} w {stop} {step} f g =
+  pub writing_next : {c : Piece} → at < length l → piece_at at end (drop at l) ≡ c → {new : List ℕ} {k : ℕ} → Writes (piece_text ns (drop at l) c) n out k new → {stop to : ℕ} → stop ≡ end_after end (drop at l) c → to ≡ at + size_of c
+      → Writing ns l old n₀ to stop (n + k) new
+  writing_next {c} h e {new} {k} w {stop} {to} f g =
       let r = written_here ns at end (drop at l) c (omega (arith, length-drop at l)) e m.written in
       let d : drop (size_of c) (drop at l) ≡ drop (at + size_of c) l = drop-drop (size_of c) at l in
       let t = text_first ns l at end c h e in
@@ -208,7 +208,7 @@ module _ {ns : List (List ℕ)} {l old : List ℕ} {n₀ at end n : ℕ} {out : 
         bytes = w.bytes ∙ ap₂ (λ (o : List ℕ) (z : ℕ). sets o z p) m.bytes m.place ∙ sym (sets_append old n₀ m.text p);
         whole = append_assoc m.text p _ ∙ ap (λ (z : List ℕ). m.text ++ z) (sym t) ∙ m.whole;
       } in
-      subst (λ (z : ℕ). Writing ns l old n₀ (at + z) stop (n + k) new) (sym g) (subst (λ (z : ℕ). Writing ns l old n₀ (at + size_of c) z (n + k) new) (sym f) next)
+      subst (λ (z : ℕ). Writing ns l old n₀ z stop (n + k) new) (sym g) (subst (λ (z : ℕ). Writing ns l old n₀ (at + size_of c) z (n + k) new) (sym f) next)
 
   -- all is written
   writing_body : length l ≤ at → out ≡ sets old n₀ (body_text (tokens_at ns l 3 3))

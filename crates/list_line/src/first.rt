@@ -6,6 +6,7 @@ ghost use Rattle.list_head.specs.Heads.{lawful_for};
 ghost use Rattle.list_line.specs.Listed.{capped, measured};
 
 use list_alone::DEEPEST;
+use list_pieces::Pieces;
 
 // The sum of two lengths, or the first that is longer than the room.
 fn longer(total: usize, more: usize, room: usize) -> usize
@@ -35,19 +36,15 @@ fn measure_body(
     requires { Head (lawful_for direct) line.now × Sound names.now size × (room < 2 ^ 63) × (2056 ≤ length frames.old) × (get_or frames.old 0 0 ≡ 0) }
     ensures { result ≡ measured direct (names_in (take size names.now)) line.now room }
 {
-    let mut at: usize = 3;
-    let mut end: usize = 3;
     let mut depth: usize = 1;
     let mut total = longer(0, list_head::write_head(line, direct, none), room);
-    while at < line.len() {
-        let piece = list_pieces::piece_at(line, at, end);
+    let mut pieces = Pieces::of(line);
+    while let Some((at, piece)) = pieces.next() {
         depth = list_check::check_piece(line, at, piece, names, size, frames, depth)?;
         let text = list_text::write_piece(line, at, piece, names, size, none, 0);
         total = longer(total, text, room);
-        end = list_pieces::end_after(line, at, end, piece);
-        at += list_pieces::size_of(piece);
     }
-    if end != at {
+    if pieces.end != pieces.at {
         return None;
     }
     if depth != 0 {

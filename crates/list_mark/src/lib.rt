@@ -4,21 +4,16 @@
 ghost use Rattle.std.specs.Prelude.{◌≡◌};
 ghost use Rattle.list_mark.specs.Marks.{marked_piece, Readable, Marked};
 
-use list_pieces::Piece;
+use list_pieces::{Piece, Pieces};
 
 // Marks the variable of a piece, if it has one.
 fn mark_piece(piece: Piece, marks: &mut [u8])
     ensures { marks.new ≡ marked_piece piece marks.old }
 {
     match piece {
-        Piece::Word(_) => {}
-        Piece::Text(_, _) => {}
         Piece::Target(variable) => buffers::put(marks, variable.number as usize, 1),
-        Piece::NoTarget => {}
         Piece::Variable(variable) => buffers::put(marks, variable.number as usize, 1),
-        Piece::Constant => {}
-        Piece::Quoted(_) => {}
-        Piece::Operator(_) => {}
+        _ => {}
     }
 }
 
@@ -27,12 +22,8 @@ pub fn mark_line(line: &[u8], marks: &mut [u8])
     requires { Readable line.now }
     ensures { Marked line.now marks.old marks.new }
 {
-    let mut at: usize = 3;
-    let mut end: usize = 3;
-    while at < line.len() {
-        let piece = list_pieces::piece_at(line, at, end);
+    let mut pieces = Pieces::of(line);
+    while let Some((_, piece)) = pieces.next() {
         mark_piece(piece, marks);
-        end = list_pieces::end_after(line, at, end, piece);
-        at += list_pieces::size_of(piece);
     }
 }

@@ -19,13 +19,17 @@ pub counting_first : {ns new : List (List ℕ)} {numbers : List ℕ} {from end :
 counting_first l k = record { passing = k; count = omega arith }
 
 module _ {ns new : List (List ℕ)} {numbers l : List ℕ} {from end at n : ℕ} (k : Counting ns new numbers l from end at n) where
-  pub counting_next : {c : Piece} → at < length l → piece_at at end (drop at l) ≡ c → (at ≡ end → ⊥) → {more step : ℕ} → more ≡ new_size numbers c → step ≡ size_of c → Counting ns new numbers l from end (at + step) (n + more)
-  counting_next {c} h e f {more} {step} m g =
+  pub counting_next : {c : Piece} → at < length l → piece_at at end (drop at l) ≡ c → (at ≡ end → ⊥) → {more to : ℕ} → more ≡ new_size numbers c → to ≡ at + size_of c → Counting ns new numbers l from end to (n + more)
+  counting_next {c} h e f {more} {to} m g =
       let s : end_after end (drop at l) c ≡ end = passing_within l k.passing c h e f in
       let p : Passing ns new numbers (at + size_of c) end (drop (at + size_of c) l) = subst (λ (z : ℕ). Passing ns new numbers (at + size_of c) z (drop (at + size_of c) l)) s (passing_next l k.passing c h e) in
       let t : to_next new (tokens_at ns l at end) ≡ new_size numbers c + to_next new (tokens_at ns l (at + size_of c) end) = passing_far l k.passing c h e f ∙ ap (λ (z : ℕ). new_size numbers c + to_next new (tokens_at ns l (at + size_of c) z)) s in
       let next : Counting ns new numbers l from end (at + size_of c) (n + more) = record { passing = p; count = omega (arith, k.count, t, m) } in
-      subst (λ (z : ℕ). Counting ns new numbers l from end (at + z) (n + more)) (sym g) next
+      subst (λ (z : ℕ). Counting ns new numbers l from end z (n + more)) (sym g) next
+
+  -- the statement ends there still
+  pub counting_so : {c : Piece} → at < length l → piece_at at end (drop at l) ≡ c → (at ≡ end → ⊥) → end_after end (drop at l) c ≡ end
+  counting_so {c} h e f = passing_within l k.passing c h e f
 
   -- the next statement begins here
   pub counting_begins : at ≡ end → n ≡ to_next new (tokens_at ns l from end)

@@ -7,7 +7,7 @@ ghost use Rattle.list_pieces.specs.Pieces.{piece_at, size_of, end_after};
 ghost use Rattle.list_mark.specs.Walks.{tokens_at};
 ghost use Rattle.list_measure.specs.Numbers.{new_size, Passing, Passes};
 
-use list_pieces::Piece;
+use list_pieces::{Piece, Pieces};
 
 // The first number whose token has two bytes.
 pub const FIRST_LONG: u8 = 128;
@@ -41,15 +41,12 @@ fn to_next(line: &[u8], from: usize, end: usize, numbers: &[u8]) -> usize
     requires { (from ≤ length line.now) × Passes numbers.now from end (drop from line.now) }
     ensures { (from + result ≤ length line.now) × ((ns new : List (List ℕ)) → Passing ns new numbers.now from end (drop from line.now) → result ≡ to_next new (tokens_at ns line.now from end)) }
 {
-    let mut at = from;
     let mut n: usize = 0;
-    while at < line.len() {
+    for (at, piece) in Pieces::within(line, from, end) {
         if at == end {
             return n;
         }
-        let piece = list_pieces::piece_at(line, at, end);
         n += new_size(piece, numbers);
-        at += list_pieces::size_of(piece);
     }
     n
 }

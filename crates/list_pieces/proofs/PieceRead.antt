@@ -3,19 +3,37 @@ use Prim.Native.Nat.{ℕ, ◌+◌, ◌-◌, ◌≤◌, ◌<◌}
 use native.Mathlib.Omega.{arith}
 use native.Mathlib.Nat.{add-zero}
 use mathlib.Core.Path.{◌≡◌, refl, sym, ap, ◌∙◌}
-use mathlib.Core.Bool.{true, false}
+use mathlib.Core.Bool.{Bool, true, false}
 use mathlib.Core.List.{List}
+use mathlib.Core.Logic.{◌⊎◌, inl, inr}
+use Rattle.list_pieces.specs.declared.Piece.{Piece}
 use lib.Dec.{eqb}
 use lib.ListN.{drop, get_or}
 use lib.Seq.{drop-drop, get_or-drop}
-use borrow.Author.Tests.{eq-eqb, ne_eqb, le-leb, lt-leb}
+use borrow.Author.Tests.{eq-eqb, ne_eqb, le-leb, lt-leb, eqb-true, eqb-false}
 use Rattle.paper.specs.Bytes.{pick, run}
 use Rattle.paper.specs.Items.{raw_byte?}
 use Rattle.paper.specs.Line.{variable_byte?, variable_size, variable_number, raw_statement?}
 use Rattle.list_pieces.specs.declared.VariableToken.{VariableToken}
 use Rattle.list_pieces.specs.declared.Piece.TheVariants.{Word, Text, Target, NoTarget, Variable, Constant, Quoted, Operator}
-use Rattle.list_pieces.specs.Variables.{variable_at}
-use Rattle.list_pieces.specs.Pieces.{piece_at}
+use Rattle.std.specs.Prelude.{Some, None}
+use Rattle.list_pieces.specs.Variables.{variable_at, told}
+use Rattle.list_pieces.specs.Pieces.{piece_at, end_after}
+
+-- a variable's token that stands there, or none
+pub told_some : (v x : VariableToken) → Some x ≡ told v → (x ≡ v) × (v.size ≡ 0 → ⊥)
+told_some v x e = go (eqb v.size 0) refl e
+  where
+    go : (b : Bool) → eqb v.size 0 ≡ b → Some x ≡ pick b None (Some v) → (x ≡ v) × (v.size ≡ 0 → ⊥)
+    go true q f = absurd (let z : ◌≡◌ {A = ℕ} 0 1 = cc in omega arith)
+    go false q f = (cc, eqb-false v.size 0 q)
+
+pub told_none : (v : VariableToken) → None ≡ told v → v.size ≡ 0
+told_none v e = go (eqb v.size 0) refl e
+  where
+    go : (b : Bool) → eqb v.size 0 ≡ b → None ≡ pick b None (Some v) → v.size ≡ 0
+    go true q f = eqb-true v.size 0 q
+    go false q f = absurd (let z : ◌≡◌ {A = ℕ} 0 1 = cc in omega arith)
 
 module _ (l : List ℕ) (at : ℕ) where
   pub byte_0 : get_or (drop at l) 0 0 ≡ get_or l at 0
@@ -37,6 +55,28 @@ module _ (l : List ℕ) (at : ℕ) where
   pub high_read : (b : ℕ) → b ≡ get_or l at 0 → (b ≡ 0 → ⊥) → 0x80 ≤ b → record { number = b - 0x80; size = 1 } ≡ variable_at (drop at l)
   unfolding variable_at variable_byte? variable_size variable_number
   high_read b e n h = rw (byte_0, ← e, ne_eqb b 0 n, le-leb 0x80 b h)
+
+  -- ---- where the statement after a piece ends
+
+  -- as the offset of a piece that begins a statement says
+  pub ends_told : (end : ℕ) (c : Piece) → ((x : ℕ) × c ≡ Word x) ⊎ ((x : ℕ) × (y : ℕ) × c ≡ Text x y) ⊎ ((x : VariableToken) × c ≡ Target x) ⊎ (c ≡ NoTarget) → get_or l at 0 ≡ end_after end (drop at l) c
+  unfolding end_after
+  ends_told end c (inl w) = rw w.1 (sym byte_0)
+  ends_told end c (inr (inl w)) = rw w.2 (sym byte_0)
+  ends_told end c (inr (inr (inl w))) = rw w.1 (sym byte_0)
+  ends_told end c (inr (inr (inr w))) = rw w (sym byte_0)
+
+  -- or as before
+  pub ends_so : (end : ℕ) (c : Piece) → ((x : ℕ) → c ≡ Word x → ⊥) → ((x y : ℕ) → c ≡ Text x y → ⊥) → ((x : VariableToken) → c ≡ Target x → ⊥) → (c ≡ NoTarget → ⊥) → end ≡ end_after end (drop at l) c
+  unfolding end_after
+  ends_so end (Word t) w x y z = absurd (w t refl)
+  ends_so end (Text t n) w x y z = absurd (x t n refl)
+  ends_so end (Target v) w x y z = absurd (y v refl)
+  ends_so end NoTarget w x y z = absurd (z refl)
+  ends_so end (Variable v) w x y z = refl
+  ends_so end Constant w x y z = refl
+  ends_so end (Quoted n) w x y z = refl
+  ends_so end (Operator t) w x y z = refl
 
   -- ---- at a statement's beginning
 

@@ -1,5 +1,6 @@
 pub mod Variables
 pub mod Pieces
+pub mod Walk
 pub mod Rest
 pub mod Written
 pub mod VariableLaws

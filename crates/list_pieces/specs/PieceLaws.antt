@@ -14,7 +14,7 @@ use Rattle.paper.specs.Bytes.{pick, run, every}
 use Rattle.paper.specs.Tokens.{Token, statement, assigned, operator, variable, constant, string, raw}
 use Rattle.paper.specs.Names.{number_of, known?}
 use Rattle.paper.specs.Items.{raw_byte?}
-use Rattle.paper.specs.Line.{own_bytes, begins?, number_bytes, variable_bytes, raw_statement?}
+use Rattle.paper.specs.Line.{own_bytes, begins?, number_bytes, variable_byte?, variable_size, variable_bytes, raw_statement?}
 use Rattle.paper.specs.WellFormed.{right_token?}
 use Rattle.laws.specs.Tests.{and_left, and_right, and_both, as_T}
 use Rattle.laws.specs.Variables.{byte_form}
@@ -83,6 +83,30 @@ is_some p end s (Operator t) i = omega arith
 
 pub piece_some : (p end : ℕ) (s : List ℕ) (c : Piece) → piece_at p end s ≡ c → 1 ≤ size_of c
 piece_some p end s c e = is_some p end s c (subst (Is p end s) e (piece_is p end s))
+
+-- and few more than are left of the line
+token_most : (s : List ℕ) → (variable_at s).size ≤ 2
+unfolding variable_at variable_size
+token_most s = go (variable_byte? (get_or s 0 0)) (eqb (get_or s 0 0) 0)
+  where
+    go : (a b : Bool) → pick a (pick b 2 1) 0 ≤ 2
+    go true true = omega arith
+    go true false = omega arith
+    go false b = omega arith
+
+is_few : (p end : ℕ) (s : List ℕ) (c : Piece) → get_or s 1 0 < 256 → Is p end s c → size_of c ≤ 258 + length s
+unfolding size_of
+is_few p end s (Word t) h i = omega arith
+is_few p end s (Text t n) h i = omega (arith, i.2, run_within raw_byte? (drop 2 s), length-drop 2 s)
+is_few p end s (Target v) h i = omega (arith, ap (λ (z : VariableToken). z.size) i.2, token_most (drop 2 s))
+is_few p end s NoTarget h i = omega arith
+is_few p end s (Variable v) h i = omega (arith, ap (λ (z : VariableToken). z.size) i.0, token_most s)
+is_few p end s Constant h i = omega arith
+is_few p end s (Quoted n) h i = omega (arith, i.1)
+is_few p end s (Operator t) h i = omega arith
+
+pub piece_few : (p end : ℕ) (s : List ℕ) (c : Piece) → get_or s 1 0 < 256 → piece_at p end s ≡ c → size_of c ≤ 258 + length s
+piece_few p end s c h e = is_few p end s c h (subst (Is p end s) e (piece_is p end s))
 
 -- A variable's token that is told of bytes has the form of its number: it is right if its number is that of a name and its bytes are there.
 told : (ns : List (List ℕ)) (s : List ℕ) (v : VariableToken) → v ≡ variable_at s → (v.size ≡ 0 → ⊥) → get_or s 0 0 < 256 → v.number < length ns → v.size ≤ length s → Named ns s v

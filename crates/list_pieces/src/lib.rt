@@ -2,12 +2,13 @@
 #![tactic(auto)]
 
 ghost use Rattle.std.specs.Prelude.{◌≡◌, ◌+◌, ◌<◌, ◌^◌, length, drop};
-ghost use Rattle.list_pieces.specs.Variables.{variable_at};
+ghost use Rattle.list_pieces.specs.Variables.{variable_at, told};
 ghost use Rattle.list_pieces.specs.Pieces.{piece_at, size_of, end_after};
+ghost use Rattle.list_pieces.specs.Walk.{Steps, pieces_left};
 
 use tokens::{OperatorToken, StatementToken};
 
-// A variable's token: the variable's number, and how many bytes the token is; no bytes where no such token stands.
+// A variable's token: the variable's number, and how many bytes the token is.
 #[derive(Clone, Copy)]
 pub struct VariableToken {
     pub number: u16,
@@ -37,26 +38,26 @@ const LONG_FORM: u8 = 0;
 
 const FIRST_LONG: u16 = 128;
 
-// The variable's token at a place of a line.
-fn variable_at(line: &[u8], at: usize) -> VariableToken
+// The variable's token at a place of a line, if one stands there.
+fn variable_at(line: &[u8], at: usize) -> Option<VariableToken>
     requires { at < length line.now + 2 }
-    ensures { result ≡ variable_at (drop at line.now) }
+    ensures { result ≡ told (variable_at (drop at line.now)) }
 {
     let b = buffers::byte_at(line, at);
     if b == LONG_FORM {
         let low = buffers::byte_at(line, at + 1);
-        return VariableToken {
+        return Some(VariableToken {
             number: FIRST_LONG + low as u16,
             size: 2,
-        };
+        });
     }
     if b < FIRST_VARIABLE {
-        return VariableToken { number: 0, size: 0 };
+        return None;
     }
-    VariableToken {
+    Some(VariableToken {
         number: (b - FIRST_VARIABLE) as u16,
         size: 1,
-    }
+    })
 }
 
 // The piece that begins a statement at a place.
@@ -66,11 +67,10 @@ fn first_piece(line: &[u8], at: usize) -> Piece
 {
     let token = buffers::byte_at(line, at + 1);
     if token == StatementToken::LET_WITHOUT_WORD.0 {
-        let variable = variable_at(line, at + 2);
-        if variable.size == 0 {
-            return Piece::NoTarget;
-        }
-        return Piece::Target(variable);
+        return match variable_at(line, at + 2) {
+            Some(variable) => Piece::Target(variable),
+            None => Piece::NoTarget,
+        };
     }
     if tokens::is_raw_statement(StatementToken(token)) {
         let from = at + 2;
@@ -90,8 +90,7 @@ pub fn piece_at(line: &[u8], at: usize, end: usize) -> Piece
     if at == end {
         return first_piece(line, at);
     }
-    let variable = variable_at(line, at);
-    if variable.size != 0 {
+    if let Some(variable) = variable_at(line, at) {
         return Piece::Variable(variable);
     }
     let b = line[at];
@@ -127,13 +126,61 @@ pub fn end_after(line: &[u8], at: usize, end: usize, piece: Piece) -> usize
     ensures { result ≡ end_after end (drop at line.now) piece }
 {
     match piece {
-        Piece::Word(_) => line[at] as usize,
-        Piece::Text(_, _) => line[at] as usize,
-        Piece::Target(_) => line[at] as usize,
-        Piece::NoTarget => line[at] as usize,
-        Piece::Variable(_) => end,
-        Piece::Constant => end,
-        Piece::Quoted(_) => end,
-        Piece::Operator(_) => end,
+        Piece::Word(_) | Piece::Text(_, _) | Piece::Target(_) | Piece::NoTarget =>
+            line[at] as usize,
+        _ => end,
+    }
+}
+
+// The piece at a place of a line, in a statement that ends at `end`, and the place after the piece.
+fn step(line: &[u8], at: usize, end: usize) -> (Piece, usize)
+    requires { at < length line.now }
+    ensures { (piece_at at end (drop at line.now) ≡ result.0) × (result.1 ≡ at + size_of result.0) }
+{
+    let piece = piece_at(line, at, end);
+    (piece, at + size_of(piece))
+}
+
+// The pieces of a line, each with its place.
+#[derive(Clone, Copy)]
+pub struct Pieces<'a> {
+    pub line: &'a [u8],
+    pub at: usize,
+    pub end: usize,
+}
+
+impl<'a> Pieces<'a> {
+    // The pieces of a line from a place on, in a statement that ends at `end`.
+    pub fn within(line: &'a [u8], at: usize, end: usize) -> Pieces<'a>
+        ensures { (result.line.now ≡ line.now) × (result.at ≡ at) × (result.end ≡ end) }
+    {
+        Pieces { line, at, end }
+    }
+
+    // All pieces of a line: from its first statement on.
+    pub fn of(line: &'a [u8]) -> Pieces<'a>
+        ensures { (result.line.now ≡ line.now) × (result.at ≡ 3) × (result.end ≡ 3) }
+    {
+        Pieces::within(line, 3, 3)
+    }
+}
+
+impl<'a> Iterator for Pieces<'a> {
+    type Item = (usize, Piece);
+
+    ghost next_gives = { Steps };
+
+    ghost remaining = { pieces_left };
+
+    // The next piece and its place.
+    fn next(&mut self) -> Option<(usize, Piece)> {
+        let at = self.at;
+        if self.line.len() <= at {
+            return None;
+        }
+        let (piece, after) = step(self.line, at, self.end);
+        self.end = end_after(self.line, at, self.end, piece);
+        self.at = after;
+        Some((at, piece))
     }
 }

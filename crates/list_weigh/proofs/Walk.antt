@@ -84,8 +84,8 @@ module _ (names : List ℕ) (size : ℕ) {l : List ℕ} {at end : ℕ} {w : Weig
     weighed_small = subst (λ (k : ℕ). Small (size_of c) (piece_weight c k)) (sym counted) (piece_small names size few (drop at l) c weighed_holds.0 (piece_some at end (drop at l) c is))
 
     -- and then after it
-    pub weighed_next : Sound names size → {new : Weight} {stop step : ℕ} → new ≡ plus w (piece_weight c text) → stop ≡ end_after end (drop at l) c → step ≡ size_of c → Weighed ns l (at + step) stop new
-    weighed_next sound {new} {stop} {step} e f g =
+    pub weighed_next : Sound names size → {new : Weight} {stop to : ℕ} → new ≡ plus w (piece_weight c text) → stop ≡ end_after end (drop at l) c → to ≡ at + size_of c → Weighed ns l to stop new
+    weighed_next sound {new} {stop} {to} e f g =
         let r = written_here ns at end (drop at l) c (omega (arith, length-drop at l)) is m.written in
         let d : drop (size_of c) (drop at l) ≡ drop (at + size_of c) l = drop-drop (size_of c) at l in
         let rest : Weight = tokens_weight ns (tokens_at ns l (at + size_of c) (end_after end (drop at l) c)) in
@@ -101,7 +101,7 @@ module _ (names : List ℕ) (size : ℕ) {l : List ℕ} {at end : ℕ} {w : Weig
           sum = ap (λ (z : Weight). plus z rest) e ∙ plus_assoc w (piece_weight c text) rest ∙ ap (plus w) (sym both) ∙ m.sum;
           small = subst (Small (at + size_of c)) (sym e) (small_plus at (size_of c) w (piece_weight c text) m.small weighed_small);
         } in
-        subst (λ (z : ℕ). Weighed ns l (at + z) stop new) (sym g) (subst (λ (z : ℕ). Weighed ns l (at + size_of c) z new) (sym f) next)
+        subst (λ (z : ℕ). Weighed ns l z stop new) (sym g) (subst (λ (z : ℕ). Weighed ns l (at + size_of c) z new) (sym f) next)
 
 -- all is weighed
 pub weighed_done : {ns : List (List ℕ)} {l : List ℕ} {at end : ℕ} {w : Weight} → Weighed ns l at end w → length l ≤ at → (w ≡ formed_weight ns l) × Small (length l) w

@@ -10,7 +10,7 @@ ghost use Rattle.names_kinds.specs.Kinds.{Kinds};
 ghost use Rattle.list_pieces.specs.Rest.{Sound};
 ghost use Rattle.list_weigh.specs.Weights.{Small, nothing as no-weight, plus, piece_weight, head_weight, formed_weight, error_weight, weighing, Slight};
 
-use list_pieces::Piece;
+use list_pieces::{Piece, Pieces};
 use store::{GREATEST_NUMBER, heads};
 
 // What some bytes of a program weigh: how many bytes their listing has, and how many of them are in variable tokens, in numbers, in strings, in raw text and in
@@ -98,14 +98,9 @@ fn weigh_formed(line: &[u8], names: &[u8], size: usize) -> Weight
 {
     let mut none = [0u8; 0];
     let mut total = weight_of_head(line);
-    let mut at: usize = 3;
-    let mut end: usize = 3;
-    while at < line.len() {
-        let piece = list_pieces::piece_at(line, at, end);
+    for (at, piece) in Pieces::of(line) {
         let text = list_text::write_piece(line, at, piece, names, size, &mut none, 0);
         total = added(total, weight_of(piece, text));
-        end = list_pieces::end_after(line, at, end, piece);
-        at += list_pieces::size_of(piece);
     }
     total
 }

@@ -1,12 +1,13 @@
-use mathlib.Core.Path.{sym, ◌∙◌}
-use Rattle.list_pieces.proofs.PieceRead.{target_read, no_target_read, text_read, word_read}
+use mathlib.Core.Path.{refl, sym, ap, ◌∙◌}
+use Rattle.list_pieces.specs.declared.Piece.TheVariants.{Target}
+use Rattle.list_pieces.proofs.PieceRead.{told_some, told_none, target_read, no_target_read, text_read, word_read}
 use Rattle.list_pieces.proofs.first_piece.Goals as goal
 
-pub returns-then-variable-eq0 : goal.returns-then-variable-eq0
-returns-then-variable-eq0 c = let a = c.args in no_target_read a.line.now a.at c.byte_at-token.result c.byte_at-token.ensures c.if-token.true c.variable_at-variable.result c.variable_at-variable.ensures c.if-variable-eq0.true
+pub returns-in-Some : goal.returns-in-Some
+returns-in-Some c = let a = c.args in let t = told_some _ _ c.in-Some.ensures in ap Target t.0 ∙ target_read a.line.now a.at c.byte_at-token.result c.byte_at-token.ensures c.if-token.true _ refl t.1
 
-pub returns-then-token : goal.returns-then-token
-returns-then-token c = let a = c.args in target_read a.line.now a.at c.byte_at-token.result c.byte_at-token.ensures c.if-token.true c.variable_at-variable.result c.variable_at-variable.ensures c.if-variable-eq0.false
+pub returns-in-None : goal.returns-in-None
+returns-in-None c = let a = c.args in no_target_read a.line.now a.at c.byte_at-token.result c.byte_at-token.ensures c.if-token.true _ refl (told_none _ c.in-None.ensures)
 
 pub returns-then-is_raw_statement : goal.returns-then-is_raw_statement
 returns-then-is_raw_statement c = let a = c.args in text_read a.line.now a.at c.byte_at-token.result c.byte_at-token.ensures c.if-token.false (sym c.is_raw_statement.ensures ∙ c.if-is_raw_statement.true) c.run_end.result c.run_end.ensures.0
