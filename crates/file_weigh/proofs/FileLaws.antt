@@ -8,6 +8,7 @@ use lib.Dec.{T}
 use lib.ListN.{length, take, drop}
 use lib.Seq.{take-length}
 use borrow.Author.Tests.{lt-ltb, le-ltb}
+use Rattle.std.specs.Prelude.{Option, Some, None, Result, Ok, Err}
 use Rattle.paper.specs.Bytes.{pick, every, joined}
 use Rattle.paper.specs.Line.{lawful_number?}
 use Rattle.paper.specs.Names.{names_in, sound_table}
@@ -20,26 +21,27 @@ use Rattle.laws.specs.Tests.{and_left}
 use Rattle.laws.specs.Lines.{lines_back}
 use Rattle.list_pieces.specs.Rest.{Sound}
 use Rattle.editor_edit.specs.declared.Editor.{Editor}
-use Rattle.file_load.specs.declared.Opened.TheVariants.{Refused, Holds}
+use Rattle.refusals.specs.Numbers.{number_of}
+use Rattle.refusals.specs.declared.Refusal.{Refusal}
+use Rattle.refusals.specs.declared.Refusal.TheVariants.{NotWellFormed, NoFile}
 use Rattle.file_load.specs.Answers.{record_of_parts, opened}
 use Rattle.file_load.specs.Lies.{Lies, lies, faultless, faulty}
 use Rattle.list_weigh.specs.declared.Weight.{Weight}
-use Rattle.list_weigh.specs.declared.Weighing.{Weighing}
-use Rattle.list_weigh.specs.declared.Weighing.TheVariants.{NotListable, Weighs}
 use Rattle.list_weigh.specs.Weights.{nothing, plus, Small}
 use Rattle.list_weigh.proofs.Bounds.{small_more}
-use Rattle.file_weigh.specs.declared.Weighed.{Weighed}
-use Rattle.file_weigh.specs.Answers.{columns, weighed, refusal, lines_weight, lines_weighing, Sized}
+use Rattle.file_weigh.specs.declared.Columns.{Columns}
+use Rattle.file_weigh.specs.Answers.{columns_in, weighed, lines_weight, lines_weighing, Sized}
 use Rattle.file_weigh.specs.Sizes.{none_sized}
 use Rattle.file_weigh.proofs.LinesLaws.{program_columns, lines_few}
 
 -- a refusal, as the code has it
-refused : (k : ℕ) (r : Weighed) → r ≡ refusal k → weighed r ≡ unweighed k
+refused : (k : Refusal) → weighed (Err k) ≡ unweighed (number_of k)
 unfolding unweighed no_columns
-refused k r e = ap weighed e
+refused k = refl
 
-refused_sized : (k : ℕ) (r : Weighed) → r ≡ refusal k → Sized 65535 r.columns
-refused_sized k r e = subst (λ (x : Weighed). Sized 65535 x.columns) (sym e) (none_sized 65535)
+-- its columns are those of nothing
+abbrev Answers : List ℕ → Result Columns Refusal → Type 0
+Answers file r = (weighed r ≡ weigh file) × Sized 65535 (columns_in r)
 
 -- a part of a file, as a slice has it
 pub part : (file : List ℕ) (from size : ℕ) → take (from + size - from) (drop from file) ≡ take size (drop from file)
@@ -47,18 +49,18 @@ part file from size = let e : from + size - from ≡ size = omega arith in ap (�
 
 module _ (file : List ℕ) where
   -- 14
-  pub too_long : 65535 < length file → (r : Weighed) → r ≡ refusal 14 → (weighed r ≡ weigh file) × Sized 65535 r.columns
+  pub too_long : 65535 < length file → Answers file (Err NoFile)
   unfolding weigh
-  too_long h r e = (refused 14 r e ∙ sym (rw (lt-ltb 65535 (length file) h)), refused_sized 14 r e)
+  too_long h = (refused NoFile ∙ sym (rw (lt-ltb 65535 (length file) h)), none_sized 65535)
 
   module _ (few : length file ≤ 65535) where
     -- 12, 13, 1
-    pub not_opened : (k : ℕ) → opened file ≡ Refused k → (r : Weighed) → r ≡ refusal k → (weighed r ≡ weigh file) × Sized 65535 r.columns
+    pub not_opened : (k : Refusal) → opened file ≡ Err k → Answers file (Err k)
     unfolding weigh
-    not_opened k o r e = (refused k r e ∙ sym (rw (le-ltb 65535 (length file) few) (faulty unweighed file _ k o)), refused_sized k r e)
+    not_opened k o = (refused k ∙ sym (rw (le-ltb 65535 (length file) few) (faulty unweighed file _ k o)), none_sized 65535)
 
     -- a program
-    module _ (held : Editor) (o : opened file ≡ Holds held) where
+    module _ (held : Editor) (o : opened file ≡ Ok held) where
       abbrev ls : List (List ℕ)
       ls = (parts_of file).lines
 
@@ -105,39 +107,37 @@ module _ (file : List ℕ) where
                 let n : List ℕ = (parts_of file).names in
                 subst (Sound n) place.name_size (subst (λ (z : List ℕ). T (sound_table n (length n) (length (names_in z)))) (sym (take-length n)) place.names_sound)
 
-        module _ (a : Weighing) (is : a ≡ lines_weighing nothing (names_in (take held.name_bytes names)) (lines_in lines)) where
+        module _ (a : Option Weight) (is : a ≡ lines_weighing nothing (names_in (take held.name_bytes names)) (lines_in lines)) where
           found : a ≡ lines_weighing nothing ns ls
           found = is ∙ ap₂ (λ (n : List ℕ) (z : List (List ℕ)). lines_weighing nothing (names_in n) z) all_names lines_are
 
           -- 10
-          pub not_listable : a ≡ NotListable → (r : Weighed) → r ≡ refusal 10 → (weighed r ≡ weigh file) × Sized 65535 r.columns
+          pub not_listable : a ≡ None → Answers file (Err NotWellFormed)
           unfolding lines_weighing
-          not_listable e r g = (refused 10 r g ∙ sym (outcome ∙ go (every (listable? lawful_number? ns) ls) (sym found ∙ e)), refused_sized 10 r g)
+          not_listable e = (refused NotWellFormed ∙ sym (outcome ∙ go (every (listable? lawful_number? ns) ls) (sym found ∙ e)), none_sized 65535)
             where
-              go : (b : Bool) → pick b (Weighs (plus nothing (lines_weight ns ls))) NotListable ≡ NotListable → pick (not b) (unweighed 10) (record { number = 0; columns = columns_of ns ls }) ≡ unweighed 10
+              go : (b : Bool) → pick b (Some (plus nothing (lines_weight ns ls))) None ≡ None → pick (not b) (unweighed 10) (record { number = 0; columns = columns_of ns ls }) ≡ unweighed 10
               go true e = let z : ◌≡◌ {A = ℕ} 0 1 = cc in absurd (omega arith)
               go false e = refl
 
           -- the columns
-          pub counted : (w : Weight) → a ≡ Weighs w → Small (length lines) w → (r : Weighed) → r ≡ record { number = 0; columns = record { lines = held.lines; names = held.name_count; used = held.used; weight = w } }
-              → (weighed r ≡ weigh file) × Sized 65535 r.columns
+          pub counted : (w : Weight) → a ≡ Some w → Small (length lines) w → Answers file (Ok (record { lines = held.lines; names = held.name_count; used = held.used; weight = w }))
           unfolding lines_weighing record_of_parts
-          counted w e small r g =
+          counted w e small =
               let k = go (every (listable? lawful_number? ns) ls) (sym found ∙ e) in
               let is = place.is in
               let all : length ls ≤ length (joined ls) = lines_few ls lines_whole in
               let same = program_columns ns ls held.lines held.name_count held.used w (ap (λ (h : Editor). h.lines) is) (ap (λ (h : Editor). h.name_count) is) (ap (λ (h : Editor). h.used) is) k.1 in
               let made : Sums → Outcome = λ c. record { number = 0; columns = c } in (
-                ap weighed g ∙ ap made same ∙ sym (outcome ∙ rw k.0),
-                subst (λ (x : Weighed). Sized 65535 x.columns) (sym g)
-                    (record {
-                      lines = omega (arith, all, ap (λ (h : Editor). h.lines) is, place.line_size, place.inside);
-                      names = omega (arith, place.inside);
-                      used = omega (arith, place.inside);
-                      weight = small_more (length lines) 65535 w (omega (arith, lines_long, place.inside)) small;
-                    }),
+                ap made same ∙ sym (outcome ∙ rw k.0),
+                record {
+                  lines = omega (arith, all, ap (λ (h : Editor). h.lines) is, place.line_size, place.inside);
+                  names = omega (arith, place.inside);
+                  used = omega (arith, place.inside);
+                  weight = small_more (length lines) 65535 w (omega (arith, lines_long, place.inside)) small;
+                },
               )
             where
-              go : (b : Bool) → pick b (Weighs (plus nothing (lines_weight ns ls))) NotListable ≡ Weighs w → (b ≡ true) × (w ≡ plus nothing (lines_weight ns ls))
+              go : (b : Bool) → pick b (Some (plus nothing (lines_weight ns ls))) None ≡ Some w → (b ≡ true) × (w ≡ plus nothing (lines_weight ns ls))
               go true e = (refl, (cc))
               go false e = let z : ◌≡◌ {A = ℕ} 0 1 = cc in absurd (omega arith)

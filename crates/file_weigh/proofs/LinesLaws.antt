@@ -7,6 +7,7 @@ use mathlib.Core.List.{List, [], ◌∷◌}
 use lib.Dec.{T, leb, leb→le}
 use lib.ListN.{length, take, drop, get_or, length-append, length-drop}
 use lib.Seq.{length-take-le}
+use Rattle.std.specs.Prelude.{Some, None}
 use Rattle.paper.specs.Bytes.{pick, every, joined}
 use Rattle.paper.specs.Line.{lawful_number?}
 use Rattle.paper.specs.Errors.{listable?, line_listing}
@@ -16,7 +17,6 @@ use Rattle.laws.specs.Tests.{and_left, and_right}
 use Rattle.laws.specs.Lines.{lines_next}
 use Rattle.store.specs.Rising.{first_go}
 use Rattle.list_weigh.specs.declared.Weight.{Weight}
-use Rattle.list_weigh.specs.declared.Weighing.TheVariants.{NotListable, Weighs}
 use Rattle.list_weigh.specs.Weights.{nothing, plus, line_weight, weighing, Small}
 use Rattle.list_weigh.proofs.Sums.{plus_assoc, plus_nothing, nothing_plus}
 use Rattle.list_weigh.proofs.Bounds.{small_plus, small_more}
@@ -49,40 +49,40 @@ first_line s h t =
 
 -- ---- the walk
 
-weighing_listed : (ns : List (List ℕ)) (l : List ℕ) (w : Weight) → weighing ns l ≡ Weighs w → (listable? lawful_number? ns l ≡ true) × (w ≡ line_weight ns l)
+weighing_listed : (ns : List (List ℕ)) (l : List ℕ) (w : Weight) → weighing ns l ≡ Some w → (listable? lawful_number? ns l ≡ true) × (w ≡ line_weight ns l)
 unfolding weighing
 weighing_listed ns l w e = go (listable? lawful_number? ns l) e
   where
-    go : (b : Bool) → pick b (Weighs (line_weight ns l)) NotListable ≡ Weighs w → (b ≡ true) × (w ≡ line_weight ns l)
+    go : (b : Bool) → pick b (Some (line_weight ns l)) None ≡ Some w → (b ≡ true) × (w ≡ line_weight ns l)
     go true e = (refl, (cc))
     go false e = let z : ◌≡◌ {A = ℕ} 0 1 = cc in absurd (omega arith)
 
-weighing_none : (ns : List (List ℕ)) (l : List ℕ) → weighing ns l ≡ NotListable → listable? lawful_number? ns l ≡ false
+weighing_none : (ns : List (List ℕ)) (l : List ℕ) → weighing ns l ≡ None → listable? lawful_number? ns l ≡ false
 unfolding weighing
 weighing_none ns l e = go (listable? lawful_number? ns l) e
   where
-    go : (b : Bool) → pick b (Weighs (line_weight ns l)) NotListable ≡ NotListable → b ≡ false
+    go : (b : Bool) → pick b (Some (line_weight ns l)) None ≡ None → b ≡ false
     go true e = let z : ◌≡◌ {A = ℕ} 0 1 = cc in absurd (omega arith)
     go false e = refl
 
 module _ (ns : List (List ℕ)) (before : Weight) (s : List ℕ) where
   -- no line is left
-  pub none_left : length s ≤ 0 → Weighs before ≡ lines_weighing before ns (lines_in s)
+  pub none_left : length s ≤ 0 → Some before ≡ lines_weighing before ns (lines_in s)
   unfolding lines_weighing lines_weight every lines_in lines_from
   none_left h = go s h
     where
-      go : (s : List ℕ) → length s ≤ 0 → Weighs before ≡ lines_weighing before ns (lines_in s)
-      go [] h = ap Weighs (sym (plus_nothing before))
+      go : (s : List ℕ) → length s ≤ 0 → Some before ≡ lines_weighing before ns (lines_in s)
+      go [] h = ap Some (sym (plus_nothing before))
       go (b ∷ s) h = absurd (omega arith)
 
   module _ (f : First s) where
     -- a line that cannot be listed
-    pub line_refused : NotListable ≡ weighing ns (take (get_or s 2 0) s) → NotListable ≡ lines_weighing before ns (lines_in s)
+    pub line_refused : None ≡ weighing ns (take (get_or s 2 0) s) → None ≡ lines_weighing before ns (lines_in s)
     unfolding lines_weighing every
     line_refused e = sym (rw (f.first, weighing_none ns (take (get_or s 2 0) s) (sym e)))
 
     -- one that can: the walk goes on after it
-    pub line_added : (w new : Weight) → Weighs w ≡ weighing ns (take (get_or s 2 0) s) → new ≡ plus before w → (rest : List ℕ) → rest ≡ drop (get_or s 2 0) s
+    pub line_added : (w new : Weight) → Some w ≡ weighing ns (take (get_or s 2 0) s) → new ≡ plus before w → (rest : List ℕ) → rest ≡ drop (get_or s 2 0) s
         → lines_weighing new ns (lines_in rest) ≡ lines_weighing before ns (lines_in s)
     unfolding lines_weighing lines_weight every
     line_added w new e g rest d =
@@ -92,7 +92,7 @@ module _ (ns : List (List ℕ)) (before : Weight) (s : List ℕ) where
         let sums : plus new (lines_weight ns later) ≡ plus before (plus (line_weight ns l) (lines_weight ns later)) =
         ap (λ (x : Weight). plus x (lines_weight ns later)) (g ∙ ap (plus before) k.1) ∙ plus_assoc before (line_weight ns l) (lines_weight ns later) in
         ap (λ (z : List ℕ). lines_weighing new ns (lines_in z)) d
-        ∙ ap (λ (x : Weight). pick (every (listable? lawful_number? ns) later) (Weighs x) NotListable) sums
+        ∙ ap (λ (x : Weight). pick (every (listable? lawful_number? ns) later) (Some x) None) sums
         ∙ sym (rw (f.first, k.0))
 
 -- Before a line: whole lines are left; what comes of these after those before is what comes of all; and the weight so far is small.
@@ -112,7 +112,7 @@ going_first ns lines total t e = record {
 
 module _ {ns : List (List ℕ)} {lines rest : List ℕ} {total : Weight} (g : Going ns lines rest total) where
   -- no line is left
-  pub going_done : length rest ≤ 0 → (Weighs total ≡ lines_weighing nothing ns (lines_in lines)) × Small (length lines) total
+  pub going_done : length rest ≤ 0 → (Some total ≡ lines_weighing nothing ns (lines_in lines)) × Small (length lines) total
   going_done h = (none_left ns total rest h ∙ g.same, small_more (length lines - length rest) (length lines) total (omega arith) g.small)
 
   -- what is so far is small
@@ -124,29 +124,29 @@ module _ {ns : List (List ℕ)} {lines rest : List ℕ} {total : Weight} (g : Go
     pub going_line : First rest
     going_line = first_line rest h g.whole
 
-    module _ (own : ℕ) (is : own ≡ get_or rest 2 0) where
+    module _ (line : List ℕ) (is : line ≡ take (get_or rest 2 0) rest) where
       -- it cannot be listed
-      pub going_refused : NotListable ≡ weighing ns (take own rest) → NotListable ≡ lines_weighing nothing ns (lines_in lines)
-      going_refused e = line_refused ns total rest going_line (e ∙ ap (λ (k : ℕ). weighing ns (take k rest)) is) ∙ g.same
+      pub going_refused : None ≡ weighing ns line → None ≡ lines_weighing nothing ns (lines_in lines)
+      going_refused e = line_refused ns total rest going_line (e ∙ ap (weighing ns) is) ∙ g.same
 
       -- it can: so after it
-      module _ (w : Weight) (listed : Weighs w ≡ weighing ns (take own rest)) (light : Small (length (take own rest)) w) where
-        long : length (take own rest) ≡ own
-        long = length-take-le own rest (omega (arith, going_line.fits))
+      module _ (w : Weight) (listed : Some w ≡ weighing ns line) (light : Small (length line) w) where
+        long : length line ≡ get_or rest 2 0
+        long = ap length is ∙ length-take-le (get_or rest 2 0) rest going_line.fits
 
         pub going_light : length lines ≤ 65535 → Small (2 ^ 46) w
-        going_light k = small_more (length (take own rest)) (2 ^ 46) w (omega (arith, long, going_line.fits, g.within)) light
+        going_light k = small_more (length line) (2 ^ 46) w (omega (arith, long, going_line.fits, g.within)) light
 
         pub going_next : (new : Weight) → new ≡ plus total w → (later : List ℕ) → later ≡ drop (get_or rest 2 0) rest → Going ns lines later new
         going_next new e later d = record {
           whole = subst (λ (z : List ℕ). T (every whole_line? (lines_in z))) (sym d) going_line.rest;
-          same = line_added ns total rest going_line w new (listed ∙ ap (λ (k : ℕ). weighing ns (take k rest)) is) e later d ∙ g.same;
+          same = line_added ns total rest going_line w new (listed ∙ ap (weighing ns) is) e later d ∙ g.same;
           within = omega (arith, ap length d, length-drop (get_or rest 2 0) rest, g.within);
           small =
               subst (Small (length lines - length later)) (sym e)
-              (small_more ((length lines - length rest) + length (take own rest)) (length lines - length later) (plus total w)
+              (small_more ((length lines - length rest) + length line) (length lines - length later) (plus total w)
               (omega (arith, long, ap length d, length-drop (get_or rest 2 0) rest, g.within, going_line.fits))
-              (small_plus (length lines - length rest) (length (take own rest)) total w g.small light));
+              (small_plus (length lines - length rest) (length line) total w g.small light));
         }
 
 -- ---- the sums

@@ -1,7 +1,7 @@
 // What saved program files weigh (document 02, §13): the columns of the program in a file, as it lies there, and columns added up.
 #![tactic(auto)]
 
-ghost use Rattle.std.specs.Prelude.{◌≡◌, ◌≤◌, ◌^◌, T, length, take};
+ghost use Rattle.std.specs.Prelude.{◌≡◌, ◌≤◌, ◌^◌, Ok, T, length, take};
 ghost use Rattle.paper.specs.Bytes.{every};
 ghost use Rattle.paper.specs.Names.{names_in};
 ghost use Rattle.paper.specs.Store.{lines_in, whole_line?};
@@ -9,14 +9,14 @@ ghost use Rattle.paper.specs.Weigh.{weigh as weigh-call, added_up};
 ghost use Rattle.list_pieces.specs.Rest.{Sound};
 ghost use Rattle.list_weigh.specs.Weights.{nothing, Slight};
 ghost use Rattle.file_load.specs.Answers.{opened};
-ghost use Rattle.file_load.specs.declared.Opened.TheVariants.{Holds};
-ghost use Rattle.file_weigh.specs.Answers.{columns, weighed, lines_weighing, none as no-sums, refusal, Sized};
+ghost use Rattle.file_weigh.specs.Answers.{columns, columns_in, weighed, lines_weighing, none as no-sums, Sized};
 
 use editor_edit::Editor;
-use file_load::{HEAD, Opened};
+use file_load::HEAD;
 use list_alone::DEEPEST;
-use list_weigh::{Weighing, Weight};
+use list_weigh::Weight;
 use names_kinds::{KINDS, list_kinds};
+use refusals::Refusal;
 use store::heads;
 
 // How many bytes a file may have.
@@ -31,14 +31,8 @@ pub struct Columns {
     pub weight: Weight,
 }
 
-// What weighing a file answers: 0 and the columns, or the number of the refusal and columns of zeros.
-#[derive(Clone, Copy)]
-pub struct Weighed {
-    pub number: u8,
-    pub columns: Columns,
-}
-
 // The columns of nothing.
+// Stays in full, and no derived Default: the edit refused_adds makes one of its zeros a one.
 pub fn no_columns() -> Columns
     ensures { result ≡ no-sums }
 {
@@ -50,33 +44,21 @@ pub fn no_columns() -> Columns
     }
 }
 
-// A refusal.
-pub fn unweighed(number: u8) -> Weighed
-    ensures { result ≡ refusal number }
-{
-    Weighed {
-        number,
-        columns: no_columns(),
-    }
-}
-
 // Two programs' columns added up.
 pub fn added(a: Columns, b: Columns) -> Columns
     requires { Sized (2 ^ 46) a × Sized (2 ^ 46) b }
     ensures { columns result ≡ added_up (columns a) (columns b) }
 {
-    let x = a.weight;
-    let y = b.weight;
     Columns {
         lines: a.lines + b.lines,
         names: a.names + b.names,
         used: a.used + b.used,
-        weight: list_weigh::added(x, y),
+        weight: list_weigh::added(a.weight, b.weight),
     }
 }
 
 // The weight of whole lines over a sound name table of `size` bytes, if each can be listed. The kinds of the names are listed before, once for all lines.
-fn weigh_lines(lines: &[u8], names: &[u8], size: usize) -> Weighing
+fn weigh_lines(lines: &[u8], names: &[u8], size: usize) -> Option<Weight>
     requires { Sound names.now size × (size ≤ 65535) × (length lines.now ≤ 65535) × T (every whole_line? (lines_in lines.now)) }
     ensures { (result ≡ lines_weighing nothing (names_in (take size names.now)) (lines_in lines.now)) × Slight (length lines.now) result }
 {
@@ -85,53 +67,41 @@ fn weigh_lines(lines: &[u8], names: &[u8], size: usize) -> Weighing
     let mut frames = [0u8; DEEPEST];
     let mut total = list_weigh::nothing();
     let mut rest = lines;
-    while 0 < rest.len() {
-        let own = heads::size(rest);
-        match list_weigh::weigh(&rest[..own], names, size, &kinds, &mut frames) {
-            Weighing::NotListable => return Weighing::NotListable,
-            Weighing::Weighs(w) => total = list_weigh::added(total, w),
-        }
-        rest = &rest[own..];
+    while !rest.is_empty() {
+        let (line, after) = rest.split_at(heads::size(rest));
+        let own = list_weigh::weigh(line, names, size, &kinds, &mut frames)?;
+        total = list_weigh::added(total, own);
+        rest = after;
     }
-    Weighing::Weighs(total)
+    Some(total)
 }
 
 // What the program in a file weighs, whose record was found there: 10, or its columns.
-fn weigh_held(file: &[u8], held: Editor) -> Weighed
-    requires { (opened file.now ≡ Holds held) × (length file.now ≤ 65535) }
-    ensures { (weighed result ≡ weigh-call file.now) × Sized 65535 result.columns }
+fn weigh_held(file: &[u8], held: Editor) -> Result<Columns, Refusal>
+    requires { (opened file.now ≡ Ok held) × (length file.now ≤ 65535) }
+    ensures { (weighed result ≡ weigh-call file.now) × Sized 65535 (columns_in result) }
 {
-    let name_bytes = held.name_bytes;
-    let names_end = HEAD + name_bytes;
+    let names_end = HEAD + held.name_bytes;
     let lines_at = names_end + 1 + 8 * held.name_count;
     let lines_end = lines_at + held.used;
-    match weigh_lines(
-        &file[lines_at..lines_end],
-        &file[HEAD..names_end],
-        name_bytes,
-    ) {
-        Weighing::NotListable => unweighed(10),
-        Weighing::Weighs(weight) => Weighed {
-            number: 0,
-            columns: Columns {
-                lines: held.lines,
-                names: held.name_count,
-                used: held.used,
-                weight,
-            },
-        },
-    }
+    let lines = &file[lines_at..lines_end];
+    let names = &file[HEAD..names_end];
+    let weight = weigh_lines(lines, names, held.name_bytes).ok_or(Refusal::NotWellFormed)?;
+    Ok(Columns {
+        lines: held.lines,
+        names: held.name_count,
+        used: held.used,
+        weight,
+    })
 }
 
 // What a file weighs: 14 for more than 65,535 bytes, 12, 13, 1 or 10, or its columns. Nothing of the file is copied.
-pub fn weigh(file: &[u8]) -> Weighed
-    ensures { (weighed result ≡ weigh-call file.now) × Sized 65535 result.columns }
+pub fn weigh(file: &[u8]) -> Result<Columns, Refusal>
+    ensures { (weighed result ≡ weigh-call file.now) × Sized 65535 (columns_in result) }
 {
     if MOST < file.len() {
-        return unweighed(14);
+        return Err(Refusal::NoFile);
     }
-    match file_load::open(file) {
-        Opened::Refused(number) => unweighed(number),
-        Opened::Holds(held) => weigh_held(file, held),
-    }
+    let held = file_load::open(file)?;
+    weigh_held(file, held)
 }
