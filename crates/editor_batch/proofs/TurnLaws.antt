@@ -3,11 +3,13 @@ use Prim.Native.Nat.{ℕ, suc, ◌+◌, ◌<◌, ◌≤◌}
 use native.Mathlib.Omega.{arith}
 use native.Mathlib.Numerals.{add-one}
 use mathlib.Core.Path.{◌≡◌, refl, sym, ap, ap₂, ◌∙◌}
-use mathlib.Core.Bool.{Bool}
+use mathlib.Core.Bool.{Bool, true, false}
 use mathlib.Core.List.{List, [], ◌∷◌}
+use lib.Dec.{eqb}
 use lib.ListN.{length, take, drop}
 use Rattle.std.proofs.Common.{drop-drop}
-use Rattle.paper.specs.Bytes.{run}
+use Rattle.paper.specs.Bytes.{pick, run}
+use Rattle.paper.specs.Names.{in_front}
 use Rattle.paper.specs.Items.{raw_byte?}
 use Rattle.paper.specs.Calls.{State, Entered, sound_state, enter_with}
 use Rattle.paper.specs.Batch.{text_lines, answers_to, none_refused, Batched, no_lines, with_answer, with_answers, batch}
@@ -18,20 +20,25 @@ use Rattle.editor_edit.specs.States.{state}
 use Rattle.editor_batch.specs.declared.Batched.{Batched as Answer}
 use Rattle.editor_batch.specs.Answers.{batched, nothing_entered}
 
--- the call going on with a text
-abbrev pub going_on : Bool → Batched → List ℕ → Batched
-going_on keep b text = with_answers b (answers_to keep (text_lines text) b.after)
+-- the call going on with lines
+abbrev pub going_on : Bool → Batched → List (List ℕ) → Batched
+going_on keep b ls = with_answers b (answers_to keep ls b.after)
 
 -- from no line on
-pub begins : (keep : Bool) (b : Answer) (e : Editor) (names values store text : List ℕ) → b ≡ nothing_entered e → going_on keep (batched b names values store) text ≡ batch keep text (state names values store e)
+pub begins : (keep : Bool) (b : Answer) (e : Editor) (names values store text : List ℕ) → b ≡ nothing_entered e → going_on keep (batched b names values store) (text_lines text) ≡ batch keep text (state names values store e)
 unfolding batch no_lines none_refused
-begins keep b e names values store text h = ap (λ (z : Answer). going_on keep (batched z names values store) text) h
+begins keep b e names values store text h = ap (λ (z : Answer). going_on keep (batched z names values store) (text_lines text)) h
 
--- with no more text it is done
-pub done : (keep : Bool) (b : Batched) (text : List ℕ) → length text ≤ 0 → going_on keep b text ≡ b
-unfolding with_answers answers_to text_lines
-done keep b [] h = refl
-done keep b (x ∷ text) h = absurd (omega arith)
+-- with no more lines it is done
+pub done : (keep : Bool) (b : Batched) (ls : List (List ℕ)) → ls ≡ [] → going_on keep b ls ≡ b
+unfolding with_answers answers_to
+done keep b ls e = rw e
+
+-- no bytes are no line
+pub no_line : (text : List ℕ) → length text ≤ 0 → text_lines text ≡ []
+unfolding text_lines
+no_line [] h = refl
+no_line (x ∷ text) h = absurd (omega arith)
 
 module _ (rest : List ℕ) (end : ℕ) (ends : end ≡ 0 + run raw_byte? (drop 0 rest)) where
   -- the line ends among the bytes
@@ -66,10 +73,25 @@ module _ (b c : Batched) (e : Entered) (is : c ≡ with_answer b e) where
     as_sound = ap sound_state same_after ∙ ap (λ (z : Entered). sound_state z.after) so ∙ same_soundness keep line b.after
 
     -- and the call comes to the same
-    pub comes_to : (rest next : List ℕ) → text_lines rest ≡ line ∷ text_lines next → going_on keep c next ≡ going_on keep b rest
+    pub comes_to : (left next : List (List ℕ)) → left ≡ line ∷ next → going_on keep c next ≡ going_on keep b left
     unfolding with_answers answers_to
-    comes_to rest next h =
-        ap (λ (z : State). with_answers c (answers_to keep (text_lines next) z)) same_after
-        ∙ ap (λ (z : Batched). with_answers z (answers_to keep (text_lines next) e.after)) is
-        ∙ ap (λ (z : Entered). with_answers (with_answer b z) (answers_to keep (text_lines next) z.after)) so
+    comes_to left next h =
+        ap (λ (z : State). with_answers c (answers_to keep next z)) same_after
+        ∙ ap (λ (z : Batched). with_answers z (answers_to keep next e.after)) is
+        ∙ ap (λ (z : Entered). with_answers (with_answer b z) (answers_to keep next z.after)) so
         ∙ ap (λ (z : List (List ℕ)). with_answers b (answers_to keep z b.after)) (sym h)
+
+-- a text has no more lines than bytes
+one_more : (b n : ℕ) (ls : List (List ℕ)) → length ls ≤ n → length (in_front b ls) ≤ suc n
+unfolding in_front
+one_more b n [] h = omega arith
+one_more b n (l ∷ ls) h = omega arith
+
+few_go : (b n : ℕ) (ls : List (List ℕ)) (t : Bool) → length ls ≤ n → length (pick t ([] ∷ ls) (in_front b ls)) ≤ suc n
+few_go b n ls true h = omega arith
+few_go b n ls false h = one_more b n ls h
+
+pub few : (text : List ℕ) → length (text_lines text) ≤ length text
+unfolding text_lines
+few [] = omega arith
+few (b ∷ s) = few_go b (length s) (text_lines s) (eqb b 0x9b) (few s)

@@ -2,11 +2,13 @@
 #![tactic(auto)]
 
 ghost use Rattle.std.specs.Prelude.{◌≡◌, List, ℕ, ◌+◌, ◌<◌, drop, length};
+ghost use Rattle.std.specs.Iterator.{YieldsFirstRef, item_count};
 ghost use Rattle.paper.specs.Calls.{sound_state, enter_with};
 ghost use Rattle.paper.specs.Batch.{text_lines, with_answer, batch as batch-call};
 ghost use Rattle.requested.specs.RequestTerms.{all_unsound};
 ghost use Rattle.editor_edit.specs.States.{state, entered};
 ghost use Rattle.editor_batch.specs.Answers.{batched, nothing_entered, Firsts};
+ghost use Rattle.editor_batch.specs.Lines.{coming};
 
 use buffers::{Run, run_end};
 use editor_edit::{Editor, Entered, refused};
@@ -83,15 +85,37 @@ fn enter_tested(
     }
 }
 
-// The lines after one: what stands past the 9B that ends it, if there is one.
-fn past_end(rest: &[u8]) -> &[u8]
-    ensures { result.now ≡ drop 1 rest.now }
+// What stands past the 9B that ends a line, if there is one.
+fn past_end(end: &[u8]) -> &[u8]
+    ensures { result.now ≡ drop 1 end.now }
 {
-    rest.get(1..).unwrap_or(rest)
+    end.get(1..).unwrap_or(end)
 }
 
-// Enters the lines of a text one after another, as single calls would, going on after a refusal. Each 9B ends a line, and bytes after the last 9B are a line
-// too. Tables, store and record are tested once: what a line leaves is sound again. `keep` says whether wrong lines are kept.
+// The lines of a text, one after another: each 9B ends one, and bytes after the last 9B are a line too.
+#[derive(Clone, Copy, Drop)]
+struct TextLines<'a> {
+    rest: &'a [u8],
+}
+
+impl<'a> Iterator for TextLines<'a> {
+    type Item = &'a [u8];
+
+    ghost next_gives = { YieldsFirstRef coming };
+
+    ghost remaining = { item_count coming };
+
+    fn next(&mut self) -> Option<&'a [u8]> {
+        if self.rest.is_empty() {
+            return None;
+        }
+        let (line, end) = self.rest.split_at(run_end(self.rest, 0, Run::RawBytes));
+        self.rest = past_end(end);
+        Some(line)
+    }
+}
+
+// Enters the lines of a text one after another, as single calls would, going on after a refusal. Tables, store and record are tested once: what a line leaves is sound again. `keep` says whether wrong lines are kept.
 pub fn batch(
     text: &[u8],
     keep: bool,
@@ -103,13 +127,10 @@ pub fn batch(
     ensures { batched result names.new values.new store.new ≡ batch-call keep text.now (state names.old values.old store.old e) }
 {
     let sound = editor_sound::sound(names, values, store, e);
-    let mut rest = text;
     let mut b = no_lines(e);
-    while !rest.is_empty() {
-        let (line, after) = rest.split_at(run_end(rest, 0, Run::RawBytes));
+    for line in (TextLines { rest: text }) {
         let answer = enter_tested(sound, line, keep, names, values, store, b.editor);
         b = with_answer(b, answer);
-        rest = past_end(after);
     }
     b
 }
