@@ -1,5 +1,5 @@
 -- What a reader of a statement's rest says: another statement follows, the line ends, or a refusal.
-use Rattle.std.specs.Prelude.{ℕ, ◌≤◌, ◌≡◌, true, false, List, [], ◌∷◌}
+use Rattle.std.specs.Prelude.{ℕ, ◌≤◌, ◌≡◌, true, false, List, [], ◌∷◌, Result, Ok, Err}
 use Rattle.paper.specs.Items.{Item}
 use Rattle.paper.specs.Machine.{Taken, left, bad, read}
 use Rattle.paper.specs.MachineLaws.{all_taken}
@@ -10,7 +10,9 @@ use Rattle.enter_item.specs.Draft.{still}
 use Rattle.enter_item.specs.Says.{Env, Mem, Asks, Wrote, items_at}
 use Rattle.enter_item.specs.declared.Spot.{Spot}
 use Rattle.enter_statement.specs.declared.Ended.{Ended}
-use Rattle.enter_statement.specs.declared.Ended.TheVariants.{More, Last, Refused}
+use Rattle.enter_statement.specs.declared.Ended.TheVariants.{More, Last}
+use Rattle.refusals.specs.Numbers.{number_of}
+use Rattle.refusals.specs.declared.RefusedAt.{RefusedAt}
 
 -- the frames fs read the items `is`, and a statement is to follow
 pub record Goes (fs : List ℕ) (is : List Item) (E : Env) (q : Spot) (m : Mem) (q' : Spot) (m' : Mem) : Type 0 where
@@ -39,11 +41,11 @@ pub record Halts (fs : List ℕ) (is : List Item) (k p : ℕ) : Type 0 where
   pub place : p ≡ item.place
 
 -- what a reader of the frames fs, which end a statement, says of the items `is`
-pub record Reads (fs : List ℕ) (is : List Item) (E : Env) (q : Spot) (m m' : Mem) (r : Ended) : Type 0 where
-  pub more : (q' : Spot) → r ≡ More q' → Goes fs is E q m q' m'
-  pub last : (q' : Spot) → r ≡ Last q' → Closes fs is E q m q' m'
-  pub stop : (k p : ℕ) → r ≡ Refused k p → Halts fs is k p
+pub record Reads (fs : List ℕ) (is : List Item) (E : Env) (q : Spot) (m m' : Mem) (r : Result Ended RefusedAt) : Type 0 where
+  pub more : (q' : Spot) → r ≡ Ok (More q') → Goes fs is E q m q' m'
+  pub last : (q' : Spot) → r ≡ Ok (Last q') → Closes fs is E q m q' m'
+  pub stop : (e : RefusedAt) → r ≡ Err e → Halts fs is (number_of e.refusal) e.place
 
 -- the same of the items from its place on
-abbrev pub Ends : List ℕ → Env → Spot → Mem → Mem → Ended → Type 0
+abbrev pub Ends : List ℕ → Env → Spot → Mem → Mem → Result Ended RefusedAt → Type 0
 Ends fs E q m m' r = Reads fs (items_at E false q.at) E q m m' r

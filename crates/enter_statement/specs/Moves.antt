@@ -1,34 +1,34 @@
 -- One step of reading a statement: a term, or an item that the stack of frames takes.
-use Rattle.std.specs.Prelude.{ℕ, zero, suc, ◌+◌, ◌*◌, ◌-◌, ◌≤◌, ◌<◌, ◌≡◌, refl, Bool, true, false, List, [], ◌∷◌, T, eqb, get_or, set}
+use Rattle.std.specs.Prelude.{ℕ, zero, suc, ◌+◌, ◌*◌, ◌-◌, ◌≤◌, ◌<◌, ◌≡◌, refl, Bool, true, false, List, [], ◌∷◌, T, eqb, get_or, set, Result, Ok, Err}
 use Rattle.std.proofs.Common.{arith, subst, sym, ap, ◌∙◌, append-nil, ne_eqb}
 use Rattle.paper.specs.Bytes.{same, among}
 use Rattle.paper.specs.Classes.{line_end, colon, then_word, number}
 use Rattle.paper.specs.Frames.{want_statement, want_after_then, want_end, want_operand}
 use Rattle.paper.specs.Tokens.{Token, operator, out_of_range?, class}
 use Rattle.paper.specs.Items.{Item, opens}
-use Rattle.paper.specs.Machine.{take, took, step_act, step}
+use Rattle.paper.specs.Machine.{take, took, refused, step_act, step}
 use Rattle.paper.specs.Grammar.{Gives, itself, given, look, look_in_range}
 use Rattle.laws.specs.Classes.{class_low}
 use Rattle.laws.specs.Counts.{class_count}
 use Rattle.enter_scan.specs.Sees.{token_at}
 use Rattle.grammar.specs.Stack.{stack, gives_of}
-use Rattle.grammar.specs.declared.Step.TheVariants as act
 use Rattle.enter_item.specs.ClassLaws.{own_of, in_range_by_class, operator_by_class, small_operator}
 use Rattle.enter_item.specs.Says.{Env, env, Mem, mem, spot, items_at, item_of, Asks, Next, Took, Says, Counts}
 use Rattle.enter_item.specs.Sees.{Shows}
 use Rattle.enter_item.specs.TookLaws.{calm?, calm_end, next_calm, sign?, sign, passed_operator}
 use Rattle.enter_item.specs.declared.Spot.{Spot}
 use Rattle.enter_item.specs.declared.Seen.{Seen}
-use Rattle.enter_item.specs.declared.Step.{Step}
-use Rattle.enter_item.specs.declared.Step.TheVariants.{Done, Refused as Halted}
 use Rattle.enter_statement.specs.Ends.{Reads, Ends}
 use Rattle.enter_statement.specs.EndLaws.{reads_same, ends_then, ends_first, ends_step, ends_refuse, ends_last, reads_none, took_opener, then_statement}
 use Rattle.enter_statement.specs.Stacks.{inner?, final?, good?, fine?, stepped?, stepped, not_taken, at_colon, at_end, at_then, at_other, good_below, step_near, step_far, step_refused}
 use Rattle.enter_statement.specs.Rows.{after_then_number, after_then_same}
 use Rattle.enter_statement.specs.declared.Ended.{Ended}
-use Rattle.enter_statement.specs.declared.Ended.TheVariants.{More, Last, Refused}
+use Rattle.enter_statement.specs.declared.Ended.TheVariants.{More, Last}
 use Rattle.enter_statement.specs.declared.Moved.{Moved}
-use Rattle.enter_statement.specs.declared.Moved.TheVariants as moved
+use Rattle.enter_statement.specs.declared.Moved.TheVariants.{On, End}
+use Rattle.refusals.specs.Numbers.{number_of}
+use Rattle.refusals.specs.declared.Refusal.TheVariants.{NoReading}
+use Rattle.refusals.specs.declared.RefusedAt.{RefusedAt}
 
 -- ---- an item that is taken, written
 
@@ -37,38 +37,35 @@ abbrev pub token_of : List ℕ → Seen → Token
 token_of s v = token_at s false v.item
 
 -- the item was written as is given for it; or it is a constant out of range
-pub record Passes (s : List ℕ) (o : ℕ) (n : List ℕ) (v : Seen) (g : Gives) (q : Spot) (m m' : Mem) (r : Step) : Type 0 where
-  pub done : (q' : Spot) → r ≡ Done q'
+pub record Passes (s : List ℕ) (o : ℕ) (n : List ℕ) (v : Seen) (g : Gives) (q : Spot) (m m' : Mem) (r : Result Spot RefusedAt) : Type 0 where
+  pub done : (q' : Spot) → r ≡ Ok q'
       → (out_of_range? (token_of s v) ≡ false) × Took (env s o n) false q m g (item_of (env s o n) (token_of s v) v.item.at v.item.end) false q' m'
-  pub stop : (k p : ℕ) → r ≡ Halted k p → (k ≡ 5) × ((out_of_range? (token_of s v) ≡ true) × (p ≡ o + v.item.at))
-
-no_halt : {A : Type 0} {q : Spot} {k p : ℕ} → Done q ≡ Halted k p → A
-no_halt e = let z : ◌≡◌ {A = ℕ} 0 1 = cc in absurd (omega arith)
+  pub stop : (x : RefusedAt) → r ≡ Err x → (number_of x.refusal ≡ 5) × ((out_of_range? (token_of s v) ≡ true) × (x.place ≡ o + v.item.at))
 
 -- a constant
-pub passes_constant : {s n : List ℕ} {o : ℕ} {v : Seen} {g : Gives} {q : Spot} {m m' : Mem} {r : Step} → g ≡ itself
+pub passes_constant : {s n : List ℕ} {o : ℕ} {v : Seen} {g : Gives} {q : Spot} {m m' : Mem} {r : Result Spot RefusedAt} → g ≡ itself
     → Counts (env s o n) false (token_of s v) v.item.at v.item.end q m m' r → Passes s o n v g q m m' r
 passes_constant {s} {n} {o} {v} {g} {q} {m} {m'} e x = record {
   done = λ q' y. let z = x.inside q' y in
       (z.near, subst (λ (h : Gives). Took (env s o n) false q m h (item_of (env s o n) (token_of s v) v.item.at v.item.end) false q' m') (sym e) z.took);
-  stop = λ k p y. let z = x.outside k p y in (z.number, (z.far, z.place));
+  stop = λ h y. let z = x.outside h y in (z.number, (z.far, z.place));
 }
 
 -- anything else
 pub passes_other : {s n : List ℕ} {o : ℕ} {v : Seen} {g : Gives} {q q' : Spot} {m m' : Mem} → (class (token_of s v) ≡ number → ⊥)
-    → Took (env s o n) false q m g (item_of (env s o n) (token_of s v) v.item.at v.item.end) false q' m' → Passes s o n v g q m m' (Done q')
+    → Took (env s o n) false q m g (item_of (env s o n) (token_of s v) v.item.at v.item.end) false q' m' → Passes s o n v g q m m' (Ok q')
 passes_other {s} {n} {o} {v} {g} {q} {q'} {m} {m'} h t = record {
   done = λ z e. let i : q' ≡ z = cc in
       (in_range_by_class (token_of s v) (ne_eqb (class (token_of s v)) number h), subst (λ (x : Spot). Took (env s o n) false q m g (item_of (env s o n) (token_of s v) v.item.at v.item.end) false x m') i t);
-  stop = λ k p e. no_halt e;
+  stop = λ x e. let z : ◌≡◌ {A = ℕ} 0 1 = cc in absurd (omega arith);
 }
 
 pub given_itself : {E : Env} {q q' : Spot} {m m' : Mem} {i : Item} {g : Gives} → g ≡ itself → Took E false q m itself i false q' m' → Took E false q m g i false q' m'
 given_itself {E} {q} {q'} {m} {m'} {i} h x = subst (λ (g : Gives). Took E false q m g i false q' m') (sym h) x
 
 -- a symbol or a word, written as what is given for it
-pub took_given : {E : Env} {q q' : Spot} {m : Mem} {t : Token} {a e : ℕ} {new : List ℕ} {b : ℕ} (g c own : ℕ) → sign? c ≡ true → Asks E q m → Next E false q.at t a e → class t ≡ c → own ≡ own_of t
-    → (own < 128 → operator b ≡ given (gives_of g) (operator own)) → new ≡ set m.line q.written b → q' ≡ spot e (q.written + 1) q.named → Took E false q m (gives_of g) (item_of E t a e) false q' (mem new m.fresh)
+pub took_given : {E : Env} {q q' : Spot} {m m' : Mem} {t : Token} {a e : ℕ} {b : ℕ} (g c own : ℕ) → sign? c ≡ true → Asks E q m → Next E false q.at t a e → class t ≡ c → own ≡ own_of t
+    → (own < 128 → operator b ≡ given (gives_of g) (operator own)) → m' ≡ mem (set m.line q.written b) m.fresh → q' ≡ spot e (q.written + 1) q.named → Took E false q m (gives_of g) (item_of E t a e) false q' m'
 took_given {t = t} {b = b} g c own k ask s h o w n st =
     let x = sign c k in
     let cm : calm? (class t) ≡ true = ap calm? h ∙ x.calm in
@@ -83,48 +80,35 @@ took_given {t = t} {b = b} g c own k ask s h o w n st =
 pub record Onward (fs gs : List ℕ) (first : Bool) (E : Env) (q : Spot) (m : Mem) (p : Spot) (m' : Mem) : Type 0 where
   pub asks : Asks E p m'
   pub good : T (good? gs)
-  pub goes : (n : Mem) (r : Ended) → Ends gs E p m' n r → Reads fs (items_at E first q.at) E q m n r
+  pub goes : (n : Mem) (r : Result Ended RefusedAt) → Ends gs E p m' n r → Reads fs (items_at E first q.at) E q m n r
 
 -- what a step of the frames fs says: it goes on with the frames of a stack, or the rest is read
-pub record Moves (fs : List ℕ) (first : Bool) (depth : ℕ) (E : Env) (q : Spot) (m m' : Mem) (new : List ℕ) (r : Moved) : Type 0 where
-  pub on : (p : Spot) (k : ℕ) → r ≡ moved.On p k → Onward fs (stack new k) first E q m p m' × (k + 9 * q.at < depth + 9 * p.at)
-  pub more : (p : Spot) → r ≡ moved.More p → Reads fs (items_at E first q.at) E q m m' (More p)
-  pub last : (p : Spot) → r ≡ moved.Last p → Reads fs (items_at E first q.at) E q m m' (Last p)
-  pub stop : (k p : ℕ) → r ≡ moved.Refused k p → Reads fs (items_at E first q.at) E q m m' (Refused k p)
+pub record Moves (fs : List ℕ) (first : Bool) (depth : ℕ) (E : Env) (q : Spot) (m m' : Mem) (new : List ℕ) (r : Result Moved RefusedAt) : Type 0 where
+  pub on : (p : Spot) (k : ℕ) → r ≡ Ok (On p k) → Onward fs (stack new k) first E q m p m' × (k + 9 * q.at < depth + 9 * p.at)
+  pub over : (x : Ended) → r ≡ Ok (End x) → Reads fs (items_at E first q.at) E q m m' (Ok x)
+  pub stop : (x : RefusedAt) → r ≡ Err x → Reads fs (items_at E first q.at) E q m m' (Err x)
 
 pub moves_on : {fs : List ℕ} {first : Bool} {depth : ℕ} {E : Env} {q p : Spot} {m m' : Mem} {new : List ℕ} {k : ℕ} → Onward fs (stack new k) first E q m p m' → k + 9 * q.at < depth + 9 * p.at
-    → Moves fs first depth E q m m' new (moved.On p k)
+    → Moves fs first depth E q m m' new (Ok (On p k))
 moves_on {fs} {first} {depth} {E} {q} {p} {m} {m'} {new} {k} o f = record {
   on = λ z j e. let h : p ≡ z = cc in let i : k ≡ j = cc in
       (subst (λ (x : ℕ). Onward fs (stack new x) first E q m z m') i (subst (λ (x : Spot). Onward fs (stack new k) first E q m x m') h o), omega (arith, f, i, ap (λ (x : Spot). x.at) h));
-  more = λ z e. let x : ◌≡◌ {A = ℕ} 0 1 = cc in absurd (omega arith);
-  last = λ z e. let x : ◌≡◌ {A = ℕ} 0 1 = cc in absurd (omega arith);
-  stop = λ n z e. let x : ◌≡◌ {A = ℕ} 0 1 = cc in absurd (omega arith);
+  over = λ z e. let x : ◌≡◌ {A = ℕ} 0 1 = cc in absurd (omega arith);
+  stop = λ z e. let x : ◌≡◌ {A = ℕ} 0 1 = cc in absurd (omega arith);
 }
 
-pub moves_more : {fs : List ℕ} {first : Bool} {depth : ℕ} {E : Env} {q p : Spot} {m m' : Mem} (new : List ℕ) → Reads fs (items_at E first q.at) E q m m' (More p) → Moves fs first depth E q m m' new (moved.More p)
-moves_more {fs} {first} {depth} {E} {q} {p} {m} {m'} new o = record {
+pub moves_over : {fs : List ℕ} {first : Bool} {depth : ℕ} {E : Env} {q : Spot} {m m' : Mem} {r : Ended} (new : List ℕ) → Reads fs (items_at E first q.at) E q m m' (Ok r) → Moves fs first depth E q m m' new (Ok (End r))
+moves_over {fs} {first} {depth} {E} {q} {m} {m'} {r} new o = record {
   on = λ z j e. let x : ◌≡◌ {A = ℕ} 0 1 = cc in absurd (omega arith);
-  more = λ z e. let h : p ≡ z = cc in subst (λ (x : Spot). Reads fs (items_at E first q.at) E q m m' (More x)) h o;
-  last = λ z e. let x : ◌≡◌ {A = ℕ} 0 1 = cc in absurd (omega arith);
-  stop = λ n z e. let x : ◌≡◌ {A = ℕ} 0 1 = cc in absurd (omega arith);
+  over = λ z e. let h : r ≡ z = cc in subst (λ (x : Ended). Reads fs (items_at E first q.at) E q m m' (Ok x)) h o;
+  stop = λ z e. let x : ◌≡◌ {A = ℕ} 0 1 = cc in absurd (omega arith);
 }
 
-pub moves_last : {fs : List ℕ} {first : Bool} {depth : ℕ} {E : Env} {q p : Spot} {m m' : Mem} (new : List ℕ) → Reads fs (items_at E first q.at) E q m m' (Last p) → Moves fs first depth E q m m' new (moved.Last p)
-moves_last {fs} {first} {depth} {E} {q} {p} {m} {m'} new o = record {
+pub moves_stop : {fs : List ℕ} {first : Bool} {depth : ℕ} {E : Env} {q : Spot} {m m' : Mem} {r : RefusedAt} (new : List ℕ) → Reads fs (items_at E first q.at) E q m m' (Err r) → Moves fs first depth E q m m' new (Err r)
+moves_stop {fs} {first} {depth} {E} {q} {m} {m'} {r} new o = record {
   on = λ z j e. let x : ◌≡◌ {A = ℕ} 0 1 = cc in absurd (omega arith);
-  more = λ z e. let x : ◌≡◌ {A = ℕ} 0 1 = cc in absurd (omega arith);
-  last = λ z e. let h : p ≡ z = cc in subst (λ (x : Spot). Reads fs (items_at E first q.at) E q m m' (Last x)) h o;
-  stop = λ n z e. let x : ◌≡◌ {A = ℕ} 0 1 = cc in absurd (omega arith);
-}
-
-pub moves_stop : {fs : List ℕ} {first : Bool} {depth : ℕ} {E : Env} {q : Spot} {m m' : Mem} {k p : ℕ} (new : List ℕ) → Reads fs (items_at E first q.at) E q m m' (Refused k p) → Moves fs first depth E q m m' new (moved.Refused k p)
-moves_stop {fs} {first} {depth} {E} {q} {m} {m'} {k} {p} new o = record {
-  on = λ z j e. let x : ◌≡◌ {A = ℕ} 0 1 = cc in absurd (omega arith);
-  more = λ z e. let x : ◌≡◌ {A = ℕ} 0 1 = cc in absurd (omega arith);
-  last = λ z e. let x : ◌≡◌ {A = ℕ} 0 1 = cc in absurd (omega arith);
-  stop = λ n z e. let h : k ≡ n = cc in let i : p ≡ z = cc in
-      subst (λ (x : ℕ). Reads fs (items_at E first q.at) E q m m' (Refused n x)) i (subst (λ (x : ℕ). Reads fs (items_at E first q.at) E q m m' (Refused x p)) h o);
+  over = λ z e. let x : ◌≡◌ {A = ℕ} 0 1 = cc in absurd (omega arith);
+  stop = λ z e. let h : r ≡ z = cc in subst (λ (x : RefusedAt). Reads fs (items_at E first q.at) E q m m' (Err x)) h o;
 }
 
 -- ---- after THEN
@@ -145,8 +129,8 @@ unfolding stack
 one_frame l f h = ap (λ (x : ℕ). x ∷ []) h
 
 -- a constant after THEN
-pub moves_number : {E : Env} {q p : Spot} {m m' : Mem} {t : Token} {a e : ℕ} {r : Step} (new : List ℕ) → class t ≡ number → get_or new 0 0 ≡ want_end → Counts E true t a e q m m' r → r ≡ Done p
-    → Moves (want_after_then ∷ []) true 1 E q m m' new (moved.On p 1)
+pub moves_number : {E : Env} {q p : Spot} {m m' : Mem} {t : Token} {a e : ℕ} {r : Result Spot RefusedAt} (new : List ℕ) → class t ≡ number → get_or new 0 0 ≡ want_end → Counts E true t a e q m m' r → r ≡ Ok p
+    → Moves (want_after_then ∷ []) true 1 E q m m' new (Ok (On p 1))
 moves_number {E} {q} {p} {m} {m'} {t} {a} {e} new h w x y =
     let z = x.inside p y in
     let st : step look_in_range (want_after_then ∷ []) (item_of E t a e) ≡ took itself (want_end ∷ []) =
@@ -157,18 +141,17 @@ moves_number {E} {q} {p} {m} {m'} {t} {a} {e} new h w x y =
     (omega (arith, z.took.pass.ahead))
 
 -- one out of range
-pub moves_far : {E : Env} {q : Spot} {m m' : Mem} {t : Token} {a e k p : ℕ} {r : Step} (new : List ℕ) → class t ≡ number → Next E true q.at t a e → Counts E true t a e q m m' r → r ≡ Halted k p
-    → Moves (want_after_then ∷ []) true 1 E q m m' new (moved.Refused k p)
-moves_far {E} {q} {m} {m'} {t} {a} {e} {k} {p} new h s x y =
-    let z = x.outside k p y in
+pub moves_far : {E : Env} {q : Spot} {m m' : Mem} {t : Token} {a e : ℕ} {r : Result Spot RefusedAt} {h : RefusedAt} (new : List ℕ) → class t ≡ number → Next E true q.at t a e → Counts E true t a e q m m' r → r ≡ Err h
+    → Moves (want_after_then ∷ []) true 1 E q m m' new (Err h)
+moves_far {E} {q} {m} {m'} {t} {a} {e} {r} {h} new i s x y =
+    let z = x.outside h y in
     moves_stop new
-    (subst (λ (n : ℕ). Reads (want_after_then ∷ []) (items_at E true q.at) E q m m' (Refused n p)) (sym z.number)
-    (ends_refuse (want_after_then ∷ []) m m' s
-    (step_far (want_after_then ∷ []) (item_of E t a e) itself (want_end ∷ []) z.far (one_step want_after_then (class t) itself (want_end ∷ []) (then_step (class t) h))) z.place))
+    (ends_refuse h (want_after_then ∷ []) m m' s
+    (step_far (want_after_then ∷ []) (item_of E t a e) itself (want_end ∷ []) z.far (one_step want_after_then (class t) itself (want_end ∷ []) (then_step (class t) i)) ∙ ap refused (sym z.number)) z.place)
 
 -- another statement
-pub moves_statement : {E : Env} {q : Spot} {m : Mem} {t : Token} {a e : ℕ} (new : List ℕ) → Asks E q m → (class t ≡ number → ⊥) → Next E true q.at t a e → Moves (want_after_then ∷ []) true 1 E q m m new (moved.More q)
-moves_statement {t = t} new g h s = moves_more new (reads_same (then_statement s (after_then_same (class t) h)) (reads_none g))
+pub moves_statement : {E : Env} {q : Spot} {m : Mem} {t : Token} {a e : ℕ} (new : List ℕ) → Asks E q m → (class t ≡ number → ⊥) → Next E true q.at t a e → Moves (want_after_then ∷ []) true 1 E q m m new (Ok (End (More q)))
+moves_statement {t = t} new g h s = moves_over new (reads_same (then_statement s (after_then_same (class t) h)) (reads_none g))
 
 -- ---- an item that the stack took
 
@@ -199,29 +182,29 @@ known_step : {E : Env} {q : Spot} {m : Mem} {t : Token} {a e c : ℕ} {g : Gives
 known_step {gs = gs} x n z = near_step x (in_range x n) ∙ ap (λ (y : Gives). took y gs) z.0 ∙ ap (took itself) z.1
 
 -- a colon
-pub taken_colon : {E : Env} {q q' : Spot} {m : Mem} {t : Token} {a e c b : ℕ} {g : Gives} {fs gs l : List ℕ} (depth : ℕ) (new : List ℕ) → Taking E q m t a e c g fs gs → c ≡ colon → b ≡ own_of t
-    → l ≡ set m.line q.written b → q' ≡ spot e (q.written + 1) q.named → Moves fs false depth E q m (mem l m.fresh) new (moved.More q')
+pub taken_colon : {E : Env} {q q' : Spot} {m m' : Mem} {t : Token} {a e c b : ℕ} {g : Gives} {fs gs : List ℕ} (depth : ℕ) (new : List ℕ) → Taking E q m t a e c g fs gs → c ≡ colon → b ≡ own_of t
+    → m' ≡ mem (set m.line q.written b) m.fresh → q' ≡ spot e (q.written + 1) q.named → Moves fs false depth E q m m' new (Ok (End (More q')))
 unfolding opens
 taken_colon {g = g} {fs = fs} {gs = gs} depth new x k w n z =
     let tk = took_opener colon refl (omega arith) (omega arith) x.asks x.next (x.class ∙ k) w n z in
-    moves_more new
+    moves_over new
     (ends_step fs (want_statement ∷ []) (known_step x (λ y. absurd (omega (arith, k))) (at_colon g gs (subst (λ (y : ℕ). T (stepped? y g gs)) k (left_so x)))) tk (reads_none tk.pass.asks))
 
 -- the line's end
-pub taken_last : {E : Env} {q q' : Spot} {m : Mem} {t : Token} {a e c b : ℕ} {g : Gives} {fs gs l : List ℕ} (depth : ℕ) (new : List ℕ) → Taking E q m t a e c g fs gs → c ≡ line_end → b ≡ own_of t
-    → l ≡ set m.line q.written b → q' ≡ spot e (q.written + 1) q.named → Moves fs false depth E q m (mem l m.fresh) new (moved.Last q')
+pub taken_last : {E : Env} {q q' : Spot} {m m' : Mem} {t : Token} {a e c b : ℕ} {g : Gives} {fs gs : List ℕ} (depth : ℕ) (new : List ℕ) → Taking E q m t a e c g fs gs → c ≡ line_end → b ≡ own_of t
+    → m' ≡ mem (set m.line q.written b) m.fresh → q' ≡ spot e (q.written + 1) q.named → Moves fs false depth E q m m' new (Ok (End (Last q')))
 taken_last {g = g} {fs = fs} {gs = gs} depth new x k w n z =
-    moves_last new
+    moves_over new
     (ends_last fs (known_step x (λ y. absurd (omega (arith, k))) (at_end g gs (subst (λ (y : ℕ). T (stepped? y g gs)) k (left_so x)))) x.asks x.next (x.class ∙ k) w n z)
 
 -- THEN, as it is passed
-pub then_passed : {E : Env} {q q₁ : Spot} {m : Mem} {t : Token} {a e c b : ℕ} {g : Gives} {fs gs l : List ℕ} → Taking E q m t a e c g fs gs → c ≡ then_word → b ≡ own_of t → l ≡ set m.line q.written b
-    → q₁ ≡ spot e (q.written + 1) q.named → Took E false q m itself (item_of E t a e) true q₁ (mem l m.fresh)
+pub then_passed : {E : Env} {q q₁ : Spot} {m m₁ : Mem} {t : Token} {a e c b : ℕ} {g : Gives} {fs gs : List ℕ} → Taking E q m t a e c g fs gs → c ≡ then_word → b ≡ own_of t → m₁ ≡ mem (set m.line q.written b) m.fresh
+    → q₁ ≡ spot e (q.written + 1) q.named → Took E false q m itself (item_of E t a e) true q₁ m₁
 unfolding opens
 then_passed x k w n z = took_opener then_word refl (omega arith) (omega arith) x.asks x.next (x.class ∙ k) w n z
 
 -- and what comes after it
-pub taken_then : {E : Env} {q q₁ : Spot} {m m₁ m' : Mem} {t : Token} {a e c : ℕ} {g : Gives} {fs gs new : List ℕ} {r : Moved} (depth : ℕ) → Taking E q m t a e c g fs gs → c ≡ then_word
+pub taken_then : {E : Env} {q q₁ : Spot} {m m₁ m' : Mem} {t : Token} {a e c : ℕ} {g : Gives} {fs gs new : List ℕ} {r : Result Moved RefusedAt} (depth : ℕ) → Taking E q m t a e c g fs gs → c ≡ then_word
     → Took E false q m itself (item_of E t a e) true q₁ m₁ → Moves (want_after_then ∷ []) true 1 E q₁ m₁ m' new r → Moves fs false depth E q m m' new r
 taken_then {g = g} {fs = fs} {gs = gs} depth x k tk v =
     let sp = known_step x (λ y. absurd (omega (arith, k))) (at_then g gs (subst (λ (y : ℕ). T (stepped? y g gs)) k (left_so x))) in
@@ -229,9 +212,8 @@ taken_then {g = g} {fs = fs} {gs = gs} depth x k tk v =
       on = λ p j y.
           let u = v.on p j y in
           (record { asks = u.0.asks; good = u.0.good; goes = λ i r b. ends_step fs (want_after_then ∷ []) sp tk (u.0.goes i r b) }, omega (arith, u.1, tk.pass.ahead));
-      more = λ p y. ends_step fs (want_after_then ∷ []) sp tk (v.more p y);
-      last = λ p y. ends_step fs (want_after_then ∷ []) sp tk (v.last p y);
-      stop = λ n p y. ends_step fs (want_after_then ∷ []) sp tk (v.stop n p y);
+      over = λ z y. ends_step fs (want_after_then ∷ []) sp tk (v.over z y);
+      stop = λ z y. ends_step fs (want_after_then ∷ []) sp tk (v.stop z y);
     }
 
 -- any other item: what is asked of it, and how the reading goes on
@@ -239,25 +221,23 @@ pub taken_fine : {E : Env} {q : Spot} {m : Mem} {t : Token} {a e c : ℕ} {g : G
 taken_fine {c = c} {g = g} {gs = gs} v x y z = (at_other c g gs x y z (left_so v)).0
 
 pub taken_on : {E : Env} {q q' : Spot} {m m' : Mem} {t : Token} {a e c : ℕ} {g : Gives} {fs : List ℕ} (depth d : ℕ) (new : List ℕ) → Taking E q m t a e c g fs (stack new d) → (c ≡ colon → ⊥) → (c ≡ line_end → ⊥)
-    → (c ≡ then_word → ⊥) → d ≤ depth + 8 → (out_of_range? t ≡ false) × Took E false q m g (item_of E t a e) false q' m' → Moves fs false depth E q m m' new (moved.On q' d)
+    → (c ≡ then_word → ⊥) → d ≤ depth + 8 → (out_of_range? t ≡ false) × Took E false q m g (item_of E t a e) false q' m' → Moves fs false depth E q m m' new (Ok (On q' d))
 taken_on {c = c} {g = g} {fs = fs} depth d new v x y z f w =
     moves_on
     (record { asks = w.1.pass.asks; good = (at_other c g (stack new d) x y z (left_so v)).1; goes = λ i r b. ends_step fs (stack new d) (near_step v w.0) w.1 b })
     (omega (arith, f, w.1.pass.ahead))
 
 -- a constant out of range
-pub taken_far : {E : Env} {q : Spot} {m : Mem} {t : Token} {a e c k p : ℕ} {g : Gives} {fs gs : List ℕ} (depth : ℕ) (m' : Mem) (new : List ℕ) → Taking E q m t a e c g fs gs
-    → (k ≡ 5) × ((out_of_range? t ≡ true) × (p ≡ E.from + a)) → Moves fs false depth E q m m' new (moved.Refused k p)
-taken_far {E} {q} {m} {t} {a} {e} {c} {k} {p} {g} {fs} {gs} depth m' new x z =
-    moves_stop new
-    (subst (λ (n : ℕ). Reads fs (items_at E false q.at) E q m m' (Refused n p)) (sym z.0)
-    (ends_refuse fs m m' x.next (step_far fs (item_of E t a e) g gs z.1.0 (ap (step look fs) x.class ∙ x.stepped)) z.1.1))
+pub taken_far : {E : Env} {q : Spot} {m : Mem} {t : Token} {a e c : ℕ} {g : Gives} {fs gs : List ℕ} {h : RefusedAt} (depth : ℕ) (m' : Mem) (new : List ℕ) → Taking E q m t a e c g fs gs
+    → (number_of h.refusal ≡ 5) × ((out_of_range? t ≡ true) × (h.place ≡ E.from + a)) → Moves fs false depth E q m m' new (Err h)
+taken_far {E} {q} {m} {t} {a} {e} {c} {g} {fs} {gs} {h} depth m' new x z =
+    moves_stop new (ends_refuse h fs m m' x.next (step_far fs (item_of E t a e) g gs z.1.0 (ap (step look fs) x.class ∙ x.stepped) ∙ ap refused (sym z.0)) z.1.1)
 
 -- the stack does not take the item
 pub moves_refused : {E : Env} {q : Spot} {m m' : Mem} {t : Token} {a e c p depth : ℕ} (fs new : List ℕ) → T (good? fs) → Next E false q.at t a e → class t ≡ c
-    → ((g : Gives) (gs : List ℕ) → step look fs c ≡ took g gs → ⊥) → p ≡ E.from + a → Moves fs false depth E q m m' new (moved.Refused 4 p)
+    → ((g : Gives) (gs : List ℕ) → step look fs c ≡ took g gs → ⊥) → p ≡ E.from + a → Moves fs false depth E q m m' new (Err (record { refusal = NoReading; place = p }))
 moves_refused {E} {q} {m} {m'} {t} {a} {e} {c} {p} fs new good s h n w =
-    moves_stop new (ends_refuse fs m m' s (step_refused fs (item_of E t a e) 4 (ap (step look fs) h ∙ not_taken fs c good n)) w)
+    moves_stop new (ends_refuse (record { refusal = NoReading; place = p }) fs m m' s (step_refused fs (item_of E t a e) 4 (ap (step look fs) h ∙ not_taken fs c good n)) w)
 
 -- the class of an item is one that the stack knows
 pub seen_low : {s : List ℕ} {at : ℕ} {first : Bool} {v : Seen} → Shows s at first v → v.class < class_count
@@ -282,8 +262,8 @@ operand_inner = tt
 term_stack : (l : List ℕ) (d : ℕ) → T (good? (stack l d)) → get_or l (d - 1) 0 ≡ want_operand → stack l d ≡ want_operand ∷ stack l (d - 1)
 term_stack l d g h = top_of l d (good_deep l d g) ∙ ap (λ (f : ℕ). f ∷ stack l (d - 1)) h
 
-pub moves_term : {E : Env} {q p : Spot} {m m' : Mem} {r : Step} (l : List ℕ) (d : ℕ) → T (good? (stack l d)) → get_or l (d - 1) 0 ≡ want_operand → Says (want_operand ∷ []) E q m m' r → r ≡ Done p
-    → Moves (stack l d) false d E q m m' l (moved.On p (d - 1))
+pub moves_term : {E : Env} {q p : Spot} {m m' : Mem} {r : Result Spot RefusedAt} (l : List ℕ) (d : ℕ) → T (good? (stack l d)) → get_or l (d - 1) 0 ≡ want_operand → Says (want_operand ∷ []) E q m m' r → r ≡ Ok p
+    → Moves (stack l d) false d E q m m' l (Ok (On p (d - 1)))
 moves_term {E} {q} {p} {m} {m'} l d g h x y =
     let w = term_stack l d g h in
     let z = x.got p y in
@@ -295,10 +275,10 @@ moves_term {E} {q} {p} {m} {m'} l d g h x y =
     })
     (omega (arith, z.ahead, good_deep l d g))
 
-pub moves_no_term : {E : Env} {q : Spot} {m m' : Mem} {r : Step} {k p : ℕ} (l : List ℕ) (d : ℕ) → T (good? (stack l d)) → get_or l (d - 1) 0 ≡ want_operand → Says (want_operand ∷ []) E q m m' r → r ≡ Halted k p
-    → Moves (stack l d) false d E q m m' l (moved.Refused k p)
-moves_no_term {E} {q} {m} {m'} {r} {k} {p} l d g h x y =
-    moves_stop l (subst (λ (fs : List ℕ). Ends fs E q m m' (Refused k p)) (sym (term_stack l d g h)) (ends_first (stack l (d - 1)) m' x y))
+pub moves_no_term : {E : Env} {q : Spot} {m m' : Mem} {r : Result Spot RefusedAt} {h : RefusedAt} (l : List ℕ) (d : ℕ) → T (good? (stack l d)) → get_or l (d - 1) 0 ≡ want_operand → Says (want_operand ∷ []) E q m m' r → r ≡ Err h
+    → Moves (stack l d) false d E q m m' l (Err h)
+moves_no_term {E} {q} {m} {m'} {r} {h} l d g f x y =
+    moves_stop l (subst (λ (fs : List ℕ). Ends fs E q m m' (Err h)) (sym (term_stack l d g f)) (ends_first h (stack l (d - 1)) m' x y))
 
 -- ---- all steps of a statement
 
@@ -307,12 +287,12 @@ pub record Following (fs : List ℕ) (E : Env) (q₀ : Spot) (m₀ : Mem) (gs : 
   pub asks : Asks E q m
   pub good : T (good? gs)
   pub shallow : depth ≤ 9 + 9 * q.at
-  pub goes : (n : Mem) (r : Ended) → Ends gs E q m n r → Ends fs E q₀ m₀ n r
+  pub goes : (n : Mem) (r : Result Ended RefusedAt) → Ends gs E q m n r → Ends fs E q₀ m₀ n r
 
 pub following_first : {fs : List ℕ} {E : Env} {q : Spot} {m : Mem} {depth : ℕ} → Asks E q m → T (good? fs) → depth ≤ 9 + 9 * q.at → Following fs E q m fs depth q m
 following_first a g s = record { asks = a; good = g; shallow = s; goes = λ n r b. b }
 
-pub following_next : {fs gs new : List ℕ} {E : Env} {q₀ q p : Spot} {m₀ m m' : Mem} {depth k : ℕ} {r : Moved} → Following fs E q₀ m₀ gs depth q m → Moves gs false depth E q m m' new r → r ≡ moved.On p k
+pub following_next : {fs gs new : List ℕ} {E : Env} {q₀ q p : Spot} {m₀ m m' : Mem} {depth k : ℕ} {r : Result Moved RefusedAt} → Following fs E q₀ m₀ gs depth q m → Moves gs false depth E q m m' new r → r ≡ Ok (On p k)
     → Following fs E q₀ m₀ (stack new k) k p m'
 following_next {p = p} {k = k} f v e =
     let u = v.on p k e in
