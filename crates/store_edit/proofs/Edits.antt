@@ -18,7 +18,7 @@ use Rattle.store.specs.declared.Place.{Place}
 use Rattle.std.specs.Prelude.{max, Some, None}
 use Rattle.store.specs.Answers.{sound_counts, place_of, counts_of}
 use Rattle.store_edit.specs.Answers.{too_long, stored_answer, stored_bytes, removed_answer, removed_bytes}
-use Rattle.store.specs.Places.{counted, sound_rising, there, missing}
+use Rattle.store.specs.Places.{counted, sound_rising, place_within, there, missing}
 use Rattle.store.specs.Pairs.{count_more, count_same, greatest_put, count_less, greatest_before, greatest_stays}
 
 -- ---- used bytes in three parts, the middle one replaced
@@ -267,3 +267,13 @@ module _ (store : List ℕ) (c : Counts) (n : ℕ) (sound : T (sound_counts stor
   out_other z =
       counts_are (take_out n all) _ used_are lines_are
       ((counted store c sound).greatest ∙ sym (greatest_stays n all is_there (λ q. z (number_is ∙ q ∙ sym (counted store c sound).greatest))))
+
+-- what is known of the place of a number in a sound store
+pub place_inside : (store : List ℕ) (c : Counts) (n : ℕ) (p : Place) → T (sound_counts store c) → p ≡ place_of n (lines_in (take c.used store)) → p.at + p.size ≤ c.used
+place_inside store c n p t e = place_within store c.used n (counted store c t).sound p e
+
+pub used_few : (store : List ℕ) (c : Counts) → T (sound_counts store c) → (c.used ≤ 65535) × (c.used ≤ length store) × (room store ≤ length store)
+used_few store c t = let u = used_of store c.used (counted store c t).sound in (u.most, u.lent, room_lent store)
+
+-- what both edits need to be known to be within the store
+pub ruleset insides = (place_inside, used_few, few_lines, some_lines)

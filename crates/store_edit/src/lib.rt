@@ -11,6 +11,7 @@ use store::{Counts, Place, room_of};
 
 // Puts a line in at the place of its number, and there in the place of a stored line, and answers the counts afterwards. Nothing is written if the
 // store would pass its room.
+#[tactic(auto, using(crate::proofs::Edits::insides))]
 pub fn put_in(store: &mut [u8], counts: Counts, place: Place, line: &[u8]) -> Option<Counts>
     requires { (T (sound_counts store.old counts)) × (place ≡ place_of (line_number line.now) (lines_in (take counts.used store.old))) }
     ensures { (result ≡ stored_answer store.old (put_line line.now (lines_in (take counts.used store.old))))
@@ -39,6 +40,7 @@ pub fn put_in(store: &mut [u8], counts: Counts, place: Place, line: &[u8]) -> Op
 }
 
 // Takes the line at a place out, and answers the counts afterwards; or none, where there is no line with the number.
+#[tactic(auto, using(crate::proofs::Edits::insides))]
 pub fn take_out(store: &mut [u8], counts: Counts, place: Place) -> Option<Counts>
     requires { (T (sound_counts store.old counts)) × (place ≡ place_of place.number (lines_in (take counts.used store.old))) }
     ensures { (result ≡ removed_answer place.number (lines_in (take counts.used store.old)))

@@ -1,8 +1,6 @@
-use native.Mathlib.Omega.{arith}
-use Rattle.laws.specs.Lines.{used_of}
-use Rattle.store.specs.Places.{counted, place_within}
+use Rattle.store.specs.Places.{counted}
 use Rattle.store_gap.specs.MoveLaws.{tail_placed}
-use Rattle.store_edit.proofs.Edits.{out_refused, out_done, some_lines, out_last, out_other}
+use Rattle.store_edit.proofs.Edits.{out_refused, out_done, out_last, out_other}
 use Rattle.store_edit.proofs.take_out.Goals as goal
 
 pub returns-then-old-eq0 : goal.returns-then-old-eq0
@@ -10,23 +8,6 @@ returns-then-old-eq0 c =
     let args = c.args in
     let sound = (counted args.store.now args.counts c.requires.0).sound in
     out_refused args.store.now args.counts.used args.place.number sound args.place c.requires.1 c.if-old-eq0.true
-
-pub resize-requires : goal.resize-requires
-resize-requires c =
-    let args = c.args in
-    let sound = (counted args.store.now args.counts c.requires.0).sound in
-    let u = used_of args.store.now args.counts.used sound in
-    let inside = place_within args.store.now args.counts.used args.place.number sound args.place c.requires.1 in
-    (inside, u.lent, omega (arith, u.lent))
-
-pub overflow_sub-used : goal.overflow_sub-used
-overflow_sub-used c =
-    let args = c.args in
-    let sound = (counted args.store.now args.counts c.requires.0).sound in
-    omega (arith, place_within args.store.now args.counts.used args.place.number sound args.place c.requires.1)
-
-pub overflow_sub-lines : goal.overflow_sub-lines
-overflow_sub-lines c = some_lines c.args.store.now c.args.counts c.args.place.number c.requires.0 c.args.place c.requires.1 c.if-old-eq0.false
 
 pub returns-then-place-counts : goal.returns-then-place-counts
 returns-then-place-counts c =
