@@ -9,10 +9,11 @@ use mathlib.Core.List.{List, [], ◌∷◌, ◌++◌}
 use lib.Dec.{leb}
 use lib.ListN.{length, drop, get_or, set, length-append, drop_of_length-le}
 use lib.Seq.{sets, slice, length-slice, drop-cons}
-use borrow.Author.Tests.{ne_eqb, eq-eqb, le-leb, lt-leb}
+use borrow.Author.Tests.{le-leb, lt-leb}
 use Rattle.paper.specs.Bytes.{every}
 use Rattle.paper.specs.Constants.{with_point, power_text}
 use Rattle.buffers.specs.Sets.{sets_append, sets_out}
+use Rattle.std.specs.Prelude.{Some, None}
 use Rattle.constant_text.specs.declared.texts.Layout.{Layout}
 use Rattle.constant_text.specs.Texts.{digits_most, lead, power_part, laid, Ordered, Shaped, Wrote, size_of}
 use Rattle.constant_text.proofs.TextDigits.{slice_more}
@@ -102,17 +103,17 @@ fraction_next ds {x = x} o l w =
 
 -- ---- the power of ten
 
-pub wrote_no_power : (old : List ℕ) (n x : ℕ) → x ≡ 0 → Wrote n old old (power_part x) n
+pub wrote_no_power : (old : List ℕ) (n : ℕ) → Wrote n old old (power_part None) n
 unfolding power_part
-wrote_no_power old n x z = rw (eq-eqb x 0 z) (record { next = sym (add-zero n); wrote = refl })
+wrote_no_power old n = record { next = sym (add-zero n); wrote = refl }
 
-pub wrote_up : (old new : List ℕ) (n x : ℕ) → (x ≡ 0 → ⊥) → 137 ≤ x → new ≡ sets old n (69 ∷ 43 ∷ (48 + (x - 137) / 10) ∷ (48 + (x - 137) % 10) ∷ []) → Wrote n old new (power_part x) (n + 4)
+pub wrote_up : (old new : List ℕ) (n x : ℕ) → 137 ≤ x → new ≡ sets old n (69 ∷ 43 ∷ (48 + (x - 137) / 10) ∷ (48 + (x - 137) % 10) ∷ []) → Wrote n old new (power_part (Some x)) (n + 4)
 unfolding power_part power_text
-wrote_up old new n x z h e = rw (ne_eqb x 0 z, le-leb 137 x h) (record { next = refl; wrote = e })
+wrote_up old new n x h e = rw (le-leb 137 x h) (record { next = refl; wrote = e })
 
-pub wrote_down : (old new : List ℕ) (n x : ℕ) → (x ≡ 0 → ⊥) → x < 137 → new ≡ sets old n (69 ∷ 45 ∷ (48 + (137 - x) / 10) ∷ (48 + (137 - x) % 10) ∷ []) → Wrote n old new (power_part x) (n + 4)
+pub wrote_down : (old new : List ℕ) (n x : ℕ) → x < 137 → new ≡ sets old n (69 ∷ 45 ∷ (48 + (137 - x) / 10) ∷ (48 + (137 - x) % 10) ∷ []) → Wrote n old new (power_part (Some x)) (n + 4)
 unfolding power_part power_text
-wrote_down old new n x z h e = rw (ne_eqb x 0 z, lt-leb 137 x h) (record { next = refl; wrote = e })
+wrote_down old new n x h e = rw (lt-leb 137 x h) (record { next = refl; wrote = e })
 
 -- ---- the whole
 

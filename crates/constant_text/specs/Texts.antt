@@ -1,5 +1,5 @@
 -- Six bytes at a place of a list, and how their text is laid out.
-use Rattle.std.specs.Prelude.{ℕ, ◌+◌, ◌-◌, ◌/◌, ◌%◌, ◌≤◌, ◌≡◌, Bool, ◌&&◌, List, [], ◌∷◌, ◌++◌, leb, ltb, eqb, length, drop, get_or}
+use Rattle.std.specs.Prelude.{ℕ, ◌+◌, ◌-◌, ◌/◌, ◌%◌, ◌≤◌, ◌≡◌, Bool, ◌&&◌, Option, Some, None, IfSome, List, [], ◌∷◌, ◌++◌, leb, ltb, length, drop, get_or}
 use Rattle.std.proofs.lemmas.List.Edits.{sets}
 use Rattle.std.proofs.Math.Seq.{slice}
 use Rattle.paper.specs.Bytes.{pick}
@@ -26,8 +26,9 @@ lead [] = 48 ∷ []
 lead (d ∷ ds) = d ∷ ds
 
 -- the power of ten's text, if there is one
-unfoldable pub power_part : ℕ → List ℕ
-power_part x = pick (eqb x 0) [] (power_text x)
+unfoldable pub power_part : Option ℕ → List ℕ
+power_part (Some x) = power_text x
+power_part None = []
 
 -- ten digits laid out: those before the point, those after it, and the power of ten
 unfoldable pub laid : Layout → List ℕ → List ℕ
@@ -44,7 +45,7 @@ pub record Ordered (x : Layout) : Type 0 where
   pub whole : x.from ≤ x.point
   pub fraction : x.point ≤ x.end
   pub ten : x.end ≤ 10
-  pub small : x.power ≤ 520
+  pub small : IfSome x.power (λ p. p ≤ 520)
 
 -- a text is laid out so
 pub record Shaped (ds text : List ℕ) (x : Layout) : Type 0 where
@@ -55,9 +56,14 @@ pub record Shaped (ds text : List ℕ) (x : Layout) : Type 0 where
 unfoldable pub part_size : ℕ → ℕ → ℕ → ℕ → ℕ
 part_size from to none more = pick (ltb from to) (to - from + more) none
 
+-- the length of the power of ten's text
+unfoldable pub power_size : Option ℕ → ℕ
+power_size (Some x) = 4
+power_size None = 0
+
 -- the length of what is laid out
 unfoldable pub size_of : Layout → ℕ
-size_of x = part_size x.from x.point 1 0 + part_size x.point x.end 0 1 + pick (eqb x.power 0) 0 4
+size_of x = part_size x.from x.point 1 0 + part_size x.point x.end 0 1 + power_size x.power
 
 -- bytes were written at a place, and the next place is told
 pub record Wrote (n : ℕ) (old new bytes : List ℕ) (r : ℕ) : Type 0 where

@@ -15,17 +15,17 @@ const PLAIN_MOST: u8 = 0x44;
 // How many digits five bytes have.
 const DIGITS: usize = 10;
 
-// A layout's `power` for the power of ten that is 0.
+// What is added to a power of ten in a layout.
 const UNIT: usize = 137;
 
 // How the ten digits of a constant are laid out: those from `from` to `point` stand before the point, a zero if there are none; those
-// from `point` to `end` after it, with no point if there are none; then the power of ten, which is `power - UNIT`, if `power` is not 0.
+// from `point` to `end` after it, with no point if there are none; then the power of ten and `UNIT`, if there is one.
 #[derive(Clone, Copy)]
 pub struct Layout {
     pub from: usize,
     pub point: usize,
     pub end: usize,
-    pub power: usize,
+    pub power: Option<usize>,
 }
 
 // A digit of a constant, as text.
@@ -62,31 +62,31 @@ pub fn skipped(six: &[u8; 6]) -> usize
 }
 
 // The layout with no power of ten.
-pub fn plain(six: &[u8; 6], first: u8) -> Layout
-    requires { (0x3f ≤ first) × (first ≤ 0x44) × (first ≡ get_or six.now 0 0) }
+pub fn plain(six: &[u8; 6]) -> Layout
+    requires { (0x3f ≤ get_or six.now 0 0) × (get_or six.now 0 0 ≤ 0x44) }
     ensures { Shaped (digits_here six.now 0) (constant_text (six_here six.now 0)) result }
 {
-    let point = 2 * (first - PLAIN_LEAST) as usize;
+    let point = 2 * (six[0] - PLAIN_LEAST) as usize;
     let end = last(six, point);
     if point == 0 {
         return Layout {
             from: 0,
             point,
             end,
-            power: 0,
+            power: None,
         };
     }
     Layout {
         from: skipped(six),
         point,
         end,
-        power: 0,
+        power: None,
     }
 }
 
 // The layout with a power of ten.
-pub fn powered(six: &[u8; 6], first: u8) -> Layout
-    requires { (first ≡ 0 → ⊥) × ((leb 0x3f first && leb first 0x44) ≡ false) × (first ≡ get_or six.now 0 0) }
+pub fn powered(six: &[u8; 6]) -> Layout
+    requires { (get_or six.now 0 0 ≡ 0 → ⊥) × ((leb 0x3f (get_or six.now 0 0) && leb (get_or six.now 0 0) 0x44) ≡ false) }
     ensures { Shaped (digits_here six.now 0) (constant_text (six_here six.now 0)) result }
 {
     let from = skipped(six);
@@ -95,7 +95,7 @@ pub fn powered(six: &[u8; 6], first: u8) -> Layout
         from,
         point,
         end: last(six, point),
-        power: 2 * first as usize + DIGITS - from,
+        power: Some(2 * six[0] as usize + DIGITS - from),
     }
 }
 
@@ -109,16 +109,16 @@ pub fn laid_out(six: &[u8; 6]) -> Layout
             from: 0,
             point: 0,
             end: 0,
-            power: 0,
+            power: None,
         };
     }
     if first < PLAIN_LEAST {
-        return powered(six, first);
+        return powered(six);
     }
     if PLAIN_MOST < first {
-        return powered(six, first);
+        return powered(six);
     }
-    plain(six, first)
+    plain(six)
 }
 
 // The length of digits from one place to another: `none` if there are none, else `more` bytes more.
@@ -135,7 +135,10 @@ pub fn size(x: Layout) -> usize
     ensures { result ≡ size_of x }
 {
     let digits = part_size(x.from, x.point, 1, 0) + part_size(x.point, x.end, 0, 1);
-    if x.power == 0 { digits } else { digits + 4 }
+    match x.power {
+        Some(_) => digits + 4,
+        None => digits,
+    }
 }
 
 // Writes digits from one place to another.
@@ -192,14 +195,11 @@ pub fn write_power(x: Layout, out: &mut [u8], n: usize) -> usize
     requires { Ordered x × (n ≤ length out.old + 21) }
     ensures { Wrote n out.old out.new (power_part x.power) result }
 {
-    let power = x.power;
-    if power == 0 {
-        return n;
-    }
+    let Some(power) = x.power else { return n };
     if UNIT <= power {
         write_exponent(out, n, b'+', power - UNIT);
-        return n + 4;
+    } else {
+        write_exponent(out, n, b'-', UNIT - power);
     }
-    write_exponent(out, n, b'-', UNIT - power);
     n + 4
 }

@@ -7,7 +7,7 @@ pub returns-then-first-eq0 : goal.returns-then-first-eq0
 returns-then-first-eq0 c = shaped_zero c.args.six.now 0 _ refl c.if-first-eq0.true
 
 pub powered-requires : goal.powered-requires
-powered-requires c = (c.if-first-eq0.false, below_plain _ c.if-first-lt-PLAIN_LEAST.true, refl)
+powered-requires c = (c.if-first-eq0.false, below_plain _ c.if-first-lt-PLAIN_LEAST.true)
 
 pub powered-requires-then-first-gt-PLAIN_MOST : goal.powered-requires-then-first-gt-PLAIN_MOST
-powered-requires-then-first-gt-PLAIN_MOST c = (c.if-first-eq0.false, above_plain _ c.if-first-gt-PLAIN_MOST.true, refl)
+powered-requires-then-first-gt-PLAIN_MOST c = (c.if-first-eq0.false, above_plain _ c.if-first-gt-PLAIN_MOST.true)

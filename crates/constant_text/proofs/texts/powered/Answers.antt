@@ -12,4 +12,4 @@ pub last-requires : goal.last-requires
 last-requires c = omega (arith, zeros_most (get_or (digits_here c.args.six.now 0) 0 48) c.skipped-from.result c.skipped-from.ensures)
 
 pub returns : goal.returns
-returns c = let a = c.args in shaped_powered a.six.now 0 a.first c.skipped-from.result c.last.result _ c.requires.2 c.requires.0 c.requires.1 (omega arith) c.skipped-from.ensures refl c.last.ensures
+returns c = let a = c.args in shaped_powered a.six.now 0 _ c.skipped-from.result c.last.result _ refl c.requires.0 c.requires.1 (omega arith) c.skipped-from.ensures refl c.last.ensures

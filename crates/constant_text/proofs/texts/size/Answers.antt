@@ -1,13 +1,12 @@
--- `size` meets its contract: with and without a power of ten.
+-- With and without a power of ten.
 use native.Mathlib.Omega.{arith}
-use borrow.Author.Tests.{eq-eqb, ne_eqb}
-use Rattle.constant_text.specs.Texts.{size_of}
+use Rattle.constant_text.specs.Texts.{power_size, size_of}
 use Rattle.constant_text.proofs.texts.size.Goals as goal
 
-pub returns-then-x-eq0 : goal.returns-then-x-eq0
-unfolding size_of
-returns-then-x-eq0 c = rw (eq-eqb _ _ c.if-x-eq0.true, ← c.part_size.ensures.0, ← c.part_size-2.ensures.0) (omega arith)
+pub returns-in-Some : goal.returns-in-Some
+unfolding size_of power_size
+returns-in-Some c = rw (c.in-Some.is, ← c.part_size.ensures.0, ← c.part_size-2.ensures.0)
 
-pub returns-else-x-eq0 : goal.returns-else-x-eq0
-unfolding size_of
-returns-else-x-eq0 c = rw (ne_eqb _ _ c.if-x-eq0.false, ← c.part_size.ensures.0, ← c.part_size-2.ensures.0)
+pub returns-in-None : goal.returns-in-None
+unfolding size_of power_size
+returns-in-None c = rw (c.in-None.is, ← c.part_size.ensures.0, ← c.part_size-2.ensures.0) (omega arith)

@@ -1,12 +1,16 @@
--- `write_power` meets its contract: none, one above zero, and one below.
+-- None, one above zero, and one below.
+use mathlib.Core.Path.{◌∙◌}
 use Rattle.constant_text.proofs.TextWrites.{wrote_no_power, wrote_up, wrote_down}
 use Rattle.constant_text.proofs.texts.write_power.Goals as goal
+use Rattle.constant_text.proofs.texts.write_power.Goals.{then-power-ge-UNIT, else-power-ge-UNIT}
 
-pub returns-then-power-eq0 : goal.returns-then-power-eq0
-returns-then-power-eq0 c = wrote_no_power _ c.args.n _ c.if-power-eq0.true
-
-pub returns-then-power-ge-UNIT : goal.returns-then-power-ge-UNIT
-returns-then-power-ge-UNIT c = wrote_up _ _ c.args.n _ c.if-power-eq0.false c.if-power-ge-UNIT.true c.write_exponent.ensures
+pub returns-in_default : goal.returns-in_default
+returns-in_default c = rw c.in_default.is (wrote_no_power c.args.out.now c.args.n)
 
 pub returns : goal.returns
-returns c = wrote_down _ _ c.args.n _ c.if-power-eq0.false c.if-power-ge-UNIT.false c.write_exponent-2.ensures
+returns c =
+    rw c.in-Some.is
+    elim c.if-power-ge-UNIT.branch [
+      | then-power-ge-UNIT w ↦ wrote_up c.args.out.now _ c.args.n _ w.if-power-ge-UNIT.true (w.out-is ∙ w.write_exponent.ensures)
+      | else-power-ge-UNIT w ↦ wrote_down c.args.out.now _ c.args.n _ w.if-power-ge-UNIT.false (w.out-is ∙ w.write_exponent-else-power-ge-UNIT.ensures)
+    ]
