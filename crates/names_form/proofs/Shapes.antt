@@ -8,41 +8,54 @@ use lib.Dec.{leb, ltb, eqb}
 use lib.ListN.{length, take, drop, get_or, set, length-append}
 use lib.Seq.{sets}
 use borrow.Author.Tests.{eq-eqb, ne_eqb, leb-true}
+use Rattle.std.specs.Bool.{MatchBool}
+use Rattle.std.specs.List.{AllWithin, HoldsAt}
 use Rattle.paper.specs.Bytes.{pick, letter?, letter_or_digit?, run, same, every, bytes}
 use Rattle.paper.specs.Words.{Word, word, Found, found, nowhere, find_word, found?, statements, operators, read_operators, functions, placed_operators, reserved?, statement_word?}
 use Rattle.paper.specs.Names.{name_end?, name?, less_open}
-use Rattle.buffers.specs.Sets.{sets_append, front}
-use Rattle.tokens.specs.declared.OperatorToken.{OperatorToken}
-use Rattle.tokens.specs.declared.FunctionToken.{FunctionToken}
-use Rattle.tokens.specs.declared.StatementToken.{StatementToken}
-use Rattle.tokens.specs.declared.Statement.{Statement}
-use Rattle.tokens.specs.declared.Statement.TheVariants.{Word as AWord, Nothing as NoStatement}
-use Rattle.tokens.specs.declared.Reserved.{Reserved}
-use Rattle.tokens.specs.declared.Reserved.TheVariants.{Operator, Function, Nothing as NotReserved}
+use Rattle.buffers.specs.Sets.{sets_append, front as whole}
+use Rattle.std.specs.Option.{is_some, MatchOption}
+use Rattle.std.specs.Prelude.{Option, Some, None}
+use denote.Ref.{Bor}
 use Rattle.tokens.specs.Tables.{statement_found, reserved_found}
 use Rattle.laws.specs.Names.{same_ne, every_first, every_rest}
-use Rattle.names_form.specs.Shapes.{bare_last}
-use Rattle.names_form.specs.Answers.{Bare}
+use Rattle.names_form.specs.Shapes.{bare_last, kind_last}
+use Rattle.paper.specs.Tokens.{by_kind}
 
 -- ---- the shape
 
-run_inside : (q : ℕ → Bool) (xs ys : List ℕ) → run q xs < length xs → run q (xs ++ ys) ≡ run q xs
-unfolding run
-run_inside q [] ys h = absurd (omega arith)
-run_inside q (x ∷ xs) ys h = go (q x) h (λ k. run_inside q xs ys k)
-  where
-    go : (t : Bool) → pick t (suc (run q xs)) 0 < suc (length xs) → (run q xs < length xs → run q (xs ++ ys) ≡ run q xs) → pick t (suc (run q (xs ++ ys))) 0 ≡ pick t (suc (run q xs)) 0
-    go true k f = ap suc (f (omega arith))
-    go false k f = refl
+pub every_true : (p : ℕ → Bool) (xs : List ℕ) → AllWithin (λ x. p x ≡ true) xs 0 (length xs) → true ≡ every p xs
+unfolding every
+every_true p [] a = refl
+every_true p (x ∷ xs) a =
+    let here : p x ≡ true = a 0 0 (omega arith) (omega arith) in
+    rw (here) (every_true p xs (λ k d l h. a (suc k) d (omega arith) (omega arith)))
 
-run_through : (q : ℕ → Bool) (xs ys : List ℕ) → length xs ≤ run q xs → run q (xs ++ ys) ≡ length xs + run q ys
-unfolding run
-run_through q [] ys h = let z : run q ys ≡ 0 + run q ys = omega arith in z
-run_through q (x ∷ xs) ys h = go (q x) h (λ k. run_through q xs ys k)
+pub every_false : (p : ℕ → Bool) (xs : List ℕ) (k : ℕ) → k < length xs → HoldsAt (λ x. p x ≡ false) xs k → false ≡ every p xs
+unfolding every
+every_false p [] k l h = absurd (omega arith)
+every_false p (x ∷ xs) zero l h = let here : p x ≡ false = h 0 in rw (here)
+every_false p (x ∷ xs) (suc k) l h = rw (← every_false p xs k (omega arith) h) (sym (and-false (p x)))
+
+pub every_cases : (p : ℕ → Bool) (xs : List ℕ) (r : Bool) → MatchBool r (AllWithin (λ x. p x ≡ true) xs 0 (length xs)) ((k : ℕ) × (k < length xs) × HoldsAt (λ x. p x ≡ false) xs k) → r ≡ every p xs
+every_cases p xs true a = every_true p xs a
+every_cases p xs false (k, l, h) = every_false p xs k l h
+
+-- letters and digits only go on to their end; others do not
+run_every : (q : ℕ → Bool) (xs ys : List ℕ) → every q xs ≡ true → run q (xs ++ ys) ≡ length xs + run q ys
+unfolding run every
+run_every q [] ys h = let z : run q ys ≡ 0 + run q ys = omega arith in z
+run_every q (x ∷ xs) ys h =
+    rw (every_first q x xs h) (let z : suc (run q (xs ++ ys)) ≡ suc (length xs) + run q ys = omega (arith, run_every q xs ys (every_rest q x xs h)) in z)
+
+run_some : (q : ℕ → Bool) (xs ys : List ℕ) → every q xs ≡ false → run q (xs ++ ys) < length xs
+unfolding run every
+run_some q [] ys h = let z : ◌≡◌ {A = ℕ} 0 1 = cc in absurd (omega arith)
+run_some q (x ∷ xs) ys h = go (q x) h (λ k. run_some q xs ys k)
   where
-    go : (t : Bool) → suc (length xs) ≤ pick t (suc (run q xs)) 0 → (length xs ≤ run q xs → run q (xs ++ ys) ≡ length xs + run q ys) → pick t (suc (run q (xs ++ ys))) 0 ≡ suc (length xs) + run q ys
-    go true k f = let z : suc (run q (xs ++ ys)) ≡ suc (length xs) + run q ys = omega (arith, f (omega arith)) in z
-    go false k f = absurd (omega arith)
+    go : (t : Bool) → t && every q xs ≡ false → (every q xs ≡ false → run q (xs ++ ys) < length xs) → pick t (suc (run q (xs ++ ys))) 0 < suc (length xs)
+    go true k f = omega (arith, f k)
+    go false k f = omega arith
 
 -- more than one byte ends no name
 long_end : (k : ℕ) (xs : List ℕ) (y : ℕ) → k < length xs → name_end? (drop k (xs ++ y ∷ [])) ≡ false
@@ -52,55 +65,60 @@ long_end zero (x ∷ []) y h = refl
 long_end zero (x ∷ z ∷ xs) y h = refl
 long_end (suc k) (x ∷ xs) y h = long_end k xs y (omega arith)
 
-pub no_letter : (front : List ℕ) (last : ℕ) {b : ℕ} {r : Bool} → b ≡ get_or (front ++ last ∷ []) 0 0 → r ≡ letter? b → r ≡ false → false ≡ name? (front ++ last ∷ [])
-unfolding name?
-no_letter front last {b} {r} e f h =
-    let z : letter? (get_or (front ++ last ∷ []) 0 0) ≡ false = ap letter? (sym e) ∙ sym f ∙ h in
-    sym (rw (z))
+-- a name's shape, part by part
+module _ (front : List ℕ) (last : ℕ) where
+  abbrev n : List ℕ
+  n = front ++ last ∷ []
 
-pub no_run : (front : List ℕ) (last : ℕ) {e : ℕ} → e ≡ run letter_or_digit? front → e < length front → false ≡ name? (front ++ last ∷ [])
-unfolding name?
-no_run front last {e} h k =
-    let inside : run letter_or_digit? front < length front = omega arith in
-    let end : name_end? (drop (run letter_or_digit? (front ++ last ∷ [])) (front ++ last ∷ [])) ≡ false =
-    ap (λ (j : ℕ). name_end? (drop j (front ++ last ∷ []))) (run_inside letter_or_digit? front (last ∷ []) inside) ∙ long_end (run letter_or_digit? front) front last inside in
-    sym (rw (end) (and-false (letter? (get_or (front ++ last ∷ []) 0 0))))
+  pub no_letter : letter? (get_or n 0 0) ≡ false → false ≡ name? n
+  unfolding name?
+  no_letter h = sym (rw (h))
 
-pub full_run : (front : List ℕ) (last : ℕ) {b e : ℕ} {r : Bool} → b ≡ get_or (front ++ last ∷ []) 0 0 → r ≡ letter? b → r ≡ true
-    → e ≡ run letter_or_digit? front → length front ≤ e → letter_or_digit? last || (eqb last 36 || eqb last 40) ≡ name? (front ++ last ∷ [])
-unfolding name? run name_end?
-full_run front last {b} {e} {r} p f h q k =
-    let z : letter? (get_or (front ++ last ∷ []) 0 0) ≡ true = ap letter? (sym p) ∙ sym f ∙ h in
-    let all : run letter_or_digit? (front ++ last ∷ []) ≡ length front + run letter_or_digit? (last ∷ []) = run_through letter_or_digit? front (last ∷ []) (omega arith) in
-    sym (rw (z, all, past front (run letter_or_digit? (last ∷ [])) (last ∷ [])) (go (letter_or_digit? last)))
-  where
-    past : (xs : List ℕ) (n : ℕ) (ys : List ℕ) → drop (length xs + n) (xs ++ ys) ≡ drop n ys
-    past [] n ys = let w : 0 + n ≡ n = omega arith in ap (λ (j : ℕ). drop j ys) w
-    past (x ∷ xs) n ys = let w : suc (length xs) + n ≡ suc (length xs + n) = omega arith in ap (λ (j : ℕ). drop j (x ∷ xs ++ ys)) w ∙ past xs n ys
+  pub no_run : every letter_or_digit? front ≡ false → false ≡ name? n
+  unfolding name?
+  no_run h =
+      let end : name_end? (drop (run letter_or_digit? n) n) ≡ false = long_end (run letter_or_digit? n) front last (run_some letter_or_digit? front (last ∷ []) h) in
+      sym (rw (end) (and-false (letter? (get_or n 0 0))))
 
-    go : (t : Bool) → name_end? (drop (pick t 1 0) (last ∷ [])) ≡ t || (eqb last 36 || eqb last 40)
-    go true = refl
-    go false = refl
+  pub full_run : letter? (get_or n 0 0) ≡ true → every letter_or_digit? front ≡ true → letter_or_digit? last || (eqb last 36 || eqb last 40) ≡ name? n
+  unfolding name? run name_end?
+  full_run h k = sym (rw (h, run_every letter_or_digit? front (last ∷ []) k, past front (run letter_or_digit? (last ∷ [])) (last ∷ [])) (go (letter_or_digit? last)))
+    where
+      past : (xs : List ℕ) (n : ℕ) (ys : List ℕ) → drop (length xs + n) (xs ++ ys) ≡ drop n ys
+      past [] n ys = let w : 0 + n ≡ n = omega arith in ap (λ (j : ℕ). drop j ys) w
+      past (x ∷ xs) n ys = let w : suc (length xs) + n ≡ suc (length xs + n) = omega arith in ap (λ (j : ℕ). drop j (x ∷ xs ++ ys)) w ∙ past xs n ys
+
+      go : (t : Bool) → name_end? (drop (pick t 1 0) (last ∷ [])) ≡ t || (eqb last 36 || eqb last 40)
+      go true = refl
+      go false = refl
 
 -- ---- the name less its `(`
 
-pub bare_array : (xs : List ℕ) (last : ℕ) {word : List ℕ} (old : List ℕ) → last ≡ 40 → word ≡ sets old 0 xs → length word ≡ length old → Bare (less_open (xs ++ last ∷ [])) word (length xs)
-bare_array xs last {word} old h e k =
-    let less : less_open (xs ++ last ∷ []) ≡ xs = bare_last xs last ∙ rw (eq-eqb last 40 h) in
-    record { size = ap length (sym less); bytes = λ f. ap (take (length xs)) e ∙ front old xs (omega arith) ∙ sym less }
+module _ (front : List ℕ) (last : ℕ) where
+  pub bare_array : last ≡ 40 → less_open (front ++ last ∷ []) ≡ front
+  bare_array h = bare_last front last ∙ rw (eq-eqb last 40 h)
 
-pub bare_other : (xs : List ℕ) (last : ℕ) {mid word : List ℕ} (old : List ℕ) → (last ≡ 40 → ⊥) → mid ≡ sets old 0 xs → word ≡ set mid (length xs) last → length word ≡ length old
-    → Bare (less_open (xs ++ last ∷ [])) word (length xs + 1)
-bare_other xs last {mid} {word} old h d e k =
-    let less : less_open (xs ++ last ∷ []) ≡ xs ++ last ∷ [] = bare_last xs last ∙ rw (ne_eqb last 40 h) in
-    let n : length (xs ++ last ∷ []) ≡ length xs + 1 = length-append xs (last ∷ []) in
-    let z : length xs ≡ 0 + length xs = omega arith in
-    let w : word ≡ sets old 0 (xs ++ last ∷ []) =
-    e ∙ ap (λ (l : List ℕ). set l (length xs) last) d ∙ ap (λ (j : ℕ). set (sets old 0 xs) j last) z ∙ sym (sets_append old 0 xs (last ∷ [])) in
-    record {
-      size = sym (ap length less ∙ n);
-      bytes = λ f. ap (λ (j : ℕ). take j word) (sym n) ∙ ap (take (length (xs ++ last ∷ []))) w ∙ front old (xs ++ last ∷ []) (omega arith) ∙ sym less;
-    }
+  pub bare_other : (last ≡ 40 → ⊥) → less_open (front ++ last ∷ []) ≡ front ++ last ∷ []
+  bare_other h = bare_last front last ∙ rw (ne_eqb last 40 h)
+
+  pub bare_long : length front ≤ length (less_open (front ++ last ∷ []))
+  bare_long = rw (bare_last front last) (go (eqb last 40))
+    where
+      go : (t : Bool) → length front ≤ length (pick t front (front ++ last ∷ []))
+      go true = omega arith
+      go false = omega (arith, length-append front (last ∷ []))
+
+  module _ {written : List ℕ} (old : List ℕ) (copied : written ≡ sets old 0 front) where
+    pub array_written : length front ≤ length old → last ≡ 40 → take (length front) written ≡ less_open (front ++ last ∷ [])
+    array_written h k = ap (take (length front)) copied ∙ whole old front h ∙ sym (bare_array k)
+
+    pub other_written : length front < length old → (last ≡ 40 → ⊥) → take (length front + 1) (set written (length front) last) ≡ less_open (front ++ last ∷ [])
+    other_written h k =
+        let n : length (front ++ last ∷ []) ≡ length front + 1 = length-append front (last ∷ []) in
+        let z : length front ≡ 0 + length front = omega arith in
+        let w : set written (length front) last ≡ sets old 0 (front ++ last ∷ []) =
+        ap (λ (l : List ℕ). set l (length front) last) copied ∙ ap (λ (j : ℕ). set (sets old 0 front) j last) z ∙ sym (sets_append old 0 front (last ∷ [])) in
+        ap (λ (j : ℕ). take j (set written (length front) last)) (sym n) ∙ ap (take (length (front ++ last ∷ []))) w ∙ whole old (front ++ last ∷ []) (omega arith) ∙ sym (bare_other k)
 
 -- ---- words
 
@@ -132,72 +150,41 @@ pub long_statement : (s : List ℕ) → 8 < length s → false ≡ statement_wor
 unfolding statement_word? found?
 long_statement s h = sym (rw (none_so_long 8 statements s short_statements h))
 
--- ---- the first byte and the last
-
-pub first_last : (front : List ℕ) (last : ℕ) → length front ≡ 0 → last ≡ get_or (front ++ last ∷ []) 0 0
-first_last [] last h = refl
-first_last (x ∷ xs) last h = absurd (omega arith)
-
-pub first_front : (front : List ℕ) (last : ℕ) → (length front ≡ 0 → ⊥) → get_or front 0 0 ≡ get_or (front ++ last ∷ []) 0 0
-first_front [] last h = absurd (h refl)
-first_front (x ∷ xs) last h = refl
-
-pub ends_dollar : (b : ℕ) → b ≡ 36 → true ≡ letter_or_digit? b || (eqb b 36 || eqb b 40)
-ends_dollar b h = rw (eq-eqb b 36 h) (sym (or-true (letter_or_digit? b)))
-
-pub ends_open : (b : ℕ) → b ≡ 40 → true ≡ letter_or_digit? b || (eqb b 36 || eqb b 40)
-ends_open b h = rw (eq-eqb b 40 h) (sym (either (letter_or_digit? b) (eqb b 36)))
-  where
-    either : (t s : Bool) → t || (s || true) ≡ true
-    either true s = refl
-    either false true = refl
-    either false false = refl
-
-pub ends_none : (b : ℕ) → letter_or_digit? b ≡ false → (b ≡ 36 → ⊥) → (b ≡ 40 → ⊥) → false ≡ letter_or_digit? b || (eqb b 36 || eqb b 40)
-ends_none b h d o = rw (h, ne_eqb b 36 d, ne_eqb b 40 o)
-
 -- ---- what the search for a word gives
 
-pub an_operator : {r : Reserved} {t : OperatorToken} (s : List ℕ) → r ≡ reserved_found (find_word operators s) → r ≡ Operator t → true ≡ reserved? s
+pub some_reserved : (s : List ℕ) → is_some (reserved_found (find_word operators s)) ≡ reserved? s
 unfolding reserved? found? reserved_found
-an_operator {r} {t} s e h = go (find_word operators s) (sym e ∙ h)
+some_reserved s = go (find_word operators s)
   where
-    go : (f : Found) → reserved_found f ≡ Operator t → true ≡ found? f
-    go (found k) q = refl
-    go nowhere q = let z : ◌≡◌ {A = ℕ} 0 1 = cc in absurd (omega arith)
+    go : (f : Found) → is_some (reserved_found f) ≡ found? f
+    go (found k) = refl
+    go nowhere = refl
 
-pub a_function : {r : Reserved} {t : FunctionToken} (s : List ℕ) → r ≡ reserved_found (find_word operators s) → r ≡ Function t → true ≡ reserved? s
-unfolding reserved? found? reserved_found
-a_function {r} {t} s e h = go (find_word operators s) (sym e ∙ h)
-  where
-    go : (f : Found) → reserved_found f ≡ Function t → true ≡ found? f
-    go (found k) q = refl
-    go nowhere q = let z : ◌≡◌ {A = ℕ} 0 1 = cc in absurd (omega arith)
-
-pub not_reserved : {r : Reserved} (s : List ℕ) → r ≡ reserved_found (find_word operators s) → r ≡ NotReserved → false ≡ reserved? s
-unfolding reserved? found? reserved_found
-not_reserved {r} s e h = go (find_word operators s) (sym e ∙ h)
-  where
-    go : (f : Found) → reserved_found f ≡ NotReserved → false ≡ found? f
-    go (found k) q = pick_no (ltb k 0x3d) q
-      where
-        pick_no : (b : Bool) → pick b (Operator (record { 0 = k })) (Function (record { 0 = k })) ≡ NotReserved → false ≡ true
-        pick_no true q = let z : ◌≡◌ {A = ℕ} 0 1 = cc in absurd (omega arith)
-        pick_no false q = let z : ◌≡◌ {A = ℕ} 0 1 = cc in absurd (omega arith)
-    go nowhere q = refl
-
-pub a_statement_word : {r : Statement} {t : StatementToken} (s : List ℕ) → r ≡ statement_found (find_word statements s) → r ≡ AWord t → true ≡ statement_word? s
+pub some_statement : (s : List ℕ) → is_some (statement_found (find_word statements s)) ≡ statement_word? s
 unfolding statement_word? found? statement_found
-a_statement_word {r} {t} s e h = go (find_word statements s) (sym e ∙ h)
+some_statement s = go (find_word statements s)
   where
-    go : (f : Found) → statement_found f ≡ AWord t → true ≡ found? f
-    go (found k) q = refl
-    go nowhere q = let z : ◌≡◌ {A = ℕ} 0 1 = cc in absurd (omega arith)
+    go : (f : Found) → is_some (statement_found f) ≡ found? f
+    go (found k) = refl
+    go nowhere = refl
 
-pub no_statement_word : {r : Statement} (s : List ℕ) → r ≡ statement_found (find_word statements s) → r ≡ NoStatement → false ≡ statement_word? s
-unfolding statement_word? found? statement_found
-no_statement_word {r} s e h = go (find_word statements s) (sym e ∙ h)
-  where
-    go : (f : Found) → statement_found f ≡ NoStatement → false ≡ found? f
-    go (found k) q = let z : ◌≡◌ {A = ℕ} 0 1 = cc in absurd (omega arith)
-    go nowhere q = refl
+-- a table has no word that is longer than eight bytes
+pub found_short : (o : Option (Bor (List ℕ))) (is : List ℕ → Bool) (n : List ℕ) (P : Bor (List ℕ) → Type 0) {r : Bool}
+    → ((s : List ℕ) → 8 < length s → false ≡ is s) → MatchOption o (8 < length n) (λ w. w.now ≡ n) → MatchOption o (r ≡ false) P → ((w : Bor (List ℕ)) → P w → r ≡ is w.now) → r ≡ is n
+found_short None is n P long b m f = m ∙ long n b
+found_short (Some w) is n P long b m f = f w m ∙ ap is b
+
+-- ---- a name's kind
+
+module _ (front : List ℕ) (last n s a : ℕ) where
+  pub kind_string : last ≡ 36 → s ≡ by_kind (front ++ last ∷ []) n s a
+  unfolding by_kind
+  kind_string h = sym (kind_last front last n s a ∙ rw (eq-eqb last 36 h))
+
+  pub kind_array : last ≡ 40 → a ≡ by_kind (front ++ last ∷ []) n s a
+  unfolding by_kind
+  kind_array h = sym (kind_last front last n s a ∙ rw h)
+
+  pub kind_number : (last ≡ 36 → ⊥) → (last ≡ 40 → ⊥) → n ≡ by_kind (front ++ last ∷ []) n s a
+  unfolding by_kind
+  kind_number h k = sym (kind_last front last n s a ∙ rw (ne_eqb last 36 h, ne_eqb last 40 k))

@@ -1,9 +1,12 @@
-// Names as they lie in a table: where one ends, whether it is spelled so, and which of the names it is.
-ghost use Rattle.std.specs.Prelude.{◌≡◌, [], ◌∷◌, ◌++◌, ◌+◌, ◌-◌, ◌<◌, drop};
-ghost use Rattle.paper.specs.Bytes.{same};
+// Names as they lie in a table: one after the other, and which of them a name is.
+ghost use Rattle.std.specs.Prelude.{◌≡◌, ◌≤◌, length};
+ghost use Rattle.std.specs.Iterator.{YieldsFirstBy, item_count};
 ghost use Rattle.paper.specs.Names.{names_in};
 ghost use Rattle.names_form.specs.Answers.{Finds};
-ghost use Rattle.names_form.specs.Tables.{cleared, unmarked, first_size};
+ghost use Rattle.names_form.specs.Names.{spelling, coming};
+ghost use Rattle.names_form.specs.Tables.{cleared, first_size};
+
+use crate::shape::Spelling;
 
 // A byte with its top bit cleared.
 pub fn clear(b: u8) -> u8
@@ -12,60 +15,59 @@ pub fn clear(b: u8) -> u8
     if 128 <= b { b - 128 } else { b }
 }
 
-// The end of the name that stands at a place of a table.
-pub fn name_end(table: &[u8], at: usize) -> usize
-    ensures { result ≡ at + first_size (drop at table.now) }
+// How many bytes the first name of some bytes has: to the first byte with its top bit set, or to the end.
+pub fn first_size(bytes: &[u8]) -> usize
+    ensures { (result ≡ first_size bytes.now) × (result ≤ length bytes.now) }
 {
-    let mut i = at;
-    while i < table.len() {
-        if 128 <= table[i] {
+    for (i, b) in bytes.iter().enumerate() {
+        if 128 <= *b {
             return i + 1;
         }
-        i += 1;
     }
-    i
+    bytes.len()
 }
 
-// Whether a name as it lies in a table is the name with these bytes: those before its last, and its last.
-fn is_spelled(bytes: &[u8], front: &[u8], last: u8) -> bool
-    ensures { result ≡ same (unmarked bytes.now) (front.now ++ last ∷ []) }
+// The names of some bytes, one after the other.
+#[derive(Clone, Copy, Drop)]
+pub struct Names<'a> {
+    rest: &'a [u8],
+}
+
+impl<'a> Iterator for Names<'a> {
+    type Item = Spelling<'a>;
+
+    ghost next_gives = { YieldsFirstBy spelling coming };
+
+    ghost remaining = { item_count coming };
+
+    fn next(&mut self) -> Option<Spelling<'a>> {
+        let (name, rest) = self.rest.split_at(first_size(self.rest));
+        let (last, front) = name.split_last()?;
+        self.rest = rest;
+        Some(Spelling {
+            front,
+            last: clear(*last),
+        })
+    }
+}
+
+// The names of some bytes.
+pub fn names_in(bytes: &[u8]) -> Names
+    ensures { coming result ≡ names_in bytes.now }
 {
-    let at = front.len();
-    if bytes.len() != at + 1 {
-        return false;
-    }
-    if clear(bytes[at]) != last {
-        return false;
-    }
-    check::same(&bytes[..at], front)
+    Names { rest: bytes }
 }
 
-// A name among the names of a table: its number, or their count if it is none of them.
-#[derive(Clone, Copy)]
-pub struct Found {
-    pub number: usize,
-    pub known: bool,
-}
-
-// Which name of a table is the one with these bytes: those before its last, and its last.
-pub fn find(table: &[u8], front: &[u8], last: u8) -> Found
-    ensures { Finds (names_in table.now) (front.now ++ last ∷ []) result }
+// Which name of a table a name is, or how many names there are where it is none of them.
+pub fn find(table: &[u8], name: Spelling) -> Result<usize, usize>
+    ensures { Finds (names_in table.now) (spelling name.entry) result }
 {
-    let mut at: usize = 0;
-    let mut number: usize = 0;
-    while at < table.len() {
-        let end = name_end(table, at);
-        if is_spelled(&table[at..end], front, last) {
-            return Found {
-                number,
-                known: true,
-            };
+    let mut count: usize = 0;
+    for known in names_in(table) {
+        if known == name {
+            return Ok(count);
         }
-        at = end;
-        number += 1;
+        count += 1;
     }
-    Found {
-        number,
-        known: false,
-    }
+    Err(count)
 }

@@ -30,7 +30,7 @@ Kinds ns ks = (i : ℕ) → get_or ks i 0 ≡ kind_at ns i
 
 -- ---- the kind of a name
 
-class_bounds : (n : List ℕ) → (5 ≤ class (variable n)) × (class (variable n) ≤ 7)
+pub class_bounds : (n : List ℕ) → (5 ≤ class (variable n)) × (class (variable n) ≤ 7)
 unfolding class
 class_bounds n = (
   leb→le 5 (class (variable n)) (at_kind (λ c. leb 5 c) n numeric_variable string_variable array tt tt tt),

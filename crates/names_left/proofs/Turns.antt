@@ -3,11 +3,12 @@ use Prim.Native.Nat.{ℕ, ◌+◌, ◌-◌, ◌*◌, ◌≤◌, ◌<◌}
 use native.Mathlib.Numerals.{add-one}
 use native.Mathlib.Omega.{arith}
 use mathlib.Core.Path.{◌≡◌, refl, sym, ap, ◌∙◌}
-use mathlib.Core.Bool.{true, false}
+use mathlib.Core.Bool.{Bool, true, false}
+use lib.Dec.{ltb}
 use mathlib.Core.List.{List, [], ◌∷◌, ◌++◌, append-nil}
 use lib.ListN.{length, take, drop, get_or, set, length-set, length-drop}
 use lib.Seq.{sets, length-sets, take-take, drop-drop, drop-cons, set-get_or, drop-set-lt, length-take-le}
-use borrow.Author.Tests.{eq-eqb, ne_eqb}
+use borrow.Author.Tests.{eq-eqb, ne_eqb, ltb-true, ltb-false}
 use Rattle.paper.specs.Names.{names_in, marked, name_bytes, most_names}
 use Rattle.laws.specs.Parts.{drop_take, drop_sets}
 use Rattle.laws.specs.Names.{closed?, bytes_of_names}
@@ -284,3 +285,18 @@ module _ {names₀ : List ℕ} {size : ℕ} {values₀ marks₀ names values mar
     valued = onward_end w.entered no_values (omega (arith, w.fewer, w.valued));
     renumbered = onward_end w.renumbered no_numbers (omega (arith, w.few, w.all));
   }
+
+-- past the last mark no name is left
+pub walk_out : {names₀ : List ℕ} {size : ℕ} {values₀ marks₀ names values marks : List ℕ} {at number to kept : ℕ} → Walk names₀ size values₀ marks₀ names values marks at number to kept → length marks ≤ number → size ≤ at
+walk_out {names₀} {size} {values₀} {marks₀} {names} {values} {marks} {at} {number} {to} {kept} w h = go (ltb at size) refl
+  where
+    go : (t : Bool) → ltb at size ≡ t → size ≤ at
+    go true e = let f = turn_fits w (at + first_size (drop at (take size names))) (ltb-true at size e) refl in absurd (omega arith)
+    go false e = ltb-false at size e
+
+-- the first name's bytes, in the part of a table from a place on
+pub sized : {s : ℕ} (names : List ℕ) (size at : ℕ) → s ≡ first_size (take (size - at) (drop at names)) → at + s ≡ at + first_size (drop at (take size names))
+sized names size at e = ap (λ (k : ℕ). at + k) (e ∙ ap first_size (sym (drop_take at size names)))
+
+pub moved : {names₁ : List ℕ} (names : List ℕ) (to at s : ℕ) → names₁ ≡ sets names to (take s (drop at names)) → names₁ ≡ sets names to (take (at + s - at) (drop at names))
+moved names to at s e = e ∙ ap (λ (k : ℕ). sets names to (take k (drop at names))) (let z : s ≡ at + s - at = omega arith in z)

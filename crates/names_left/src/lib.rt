@@ -32,23 +32,23 @@ pub fn keep_marked(names: &mut [u8], name_bytes: usize, values: &mut [u8], marks
     ensures { Leaves names.old name_bytes values.old marks.old result names.new values.new marks.new }
 {
     let mut at: usize = 0;
-    let mut number: usize = 0;
-    let mut to: usize = 0;
-    let mut kept: usize = 0;
-    while at < name_bytes {
-        let end = table::name_end(&names[..name_bytes], at);
-        if marks[number] != 0 {
-            carry_down(names, to, at, end - at);
-            move_value(values, kept, number);
-            marks[number] = kept as u8;
-            to += end - at;
-            kept += 1;
+    let mut left = Left {
+        name_bytes: 0,
+        name_count: 0,
+    };
+    for (number, mark) in marks.iter_mut().enumerate() {
+        if at == name_bytes {
+            return left;
         }
-        at = end;
-        number += 1;
+        let size = table::first_size(&names[at..name_bytes]);
+        if *mark != 0 {
+            carry_down(names, left.name_bytes, at, size);
+            move_value(values, left.name_count, number);
+            *mark = left.name_count as u8;
+            left.name_bytes += size;
+            left.name_count += 1;
+        }
+        at += size;
     }
-    Left {
-        name_bytes: to,
-        name_count: kept,
-    }
+    left
 }

@@ -11,15 +11,8 @@ use Rattle.paper.specs.Bytes.{pick, every}
 use Rattle.paper.specs.Names.{names_in, marked, name_bytes, number_of, known?}
 use Rattle.buffers.specs.Sets.{sets_append}
 use Rattle.laws.specs.Names.{top_clear?, plain_name, plain_some, plain_low, every_first, every_rest, name_added, number_most, number_known, number_unknown, unknown_most, known_front, known_behind}
-use Rattle.names_form.specs.declared.table.Found.{Found}
-use Rattle.names_form.specs.Places.{names_few}
-use Rattle.names_form.specs.Answers.{Finds}
 use Rattle.names_numbered.specs.declared.Numbered.{Numbered}
 use Rattle.names_numbered.specs.Answers.{spelled, Numbers}
-
--- a name's number is at most the count of bytes
-pub found_few : (t n : List ℕ) {r : Found} → Finds (names_in t) n r → r.number ≤ length t
-found_few t n e = omega (arith, e.number, number_most (names_in t) n, names_few t)
 
 -- the bytes that a known name adds, and those of a new one
 none_added : (ns : List (List ℕ)) (n : List ℕ) → known? ns n ≡ true → name_bytes (name_added ns n) ≡ []
@@ -41,108 +34,50 @@ numbers_known ns n old f k e h =
     let none = none_added ns n h in
     record { number = e; size = (let z : f ≡ f + 0 = omega arith in z) ∙ ap (λ (l : List ℕ). f + length l) (sym none); fresh = ap (sets old f) (sym none) }
 
-module _ (ns ms : List (List ℕ)) (front : List ℕ) (last : ℕ) (old : List ℕ) (f : ℕ) where
-  pub in_table : {q : Found} → Finds ns (front ++ last ∷ []) q → q.known ≡ true → Numbers (ns ++ ms) (front ++ last ∷ []) old f (record { number = q.number; size = f }) old
-  in_table {q} g h =
-      let n = front ++ last ∷ [] in
-      let k : known? ns n ≡ true = sym g.known ∙ h in
-      numbers_known (ns ++ ms) n old f q.number (g.number ∙ sym (number_known ns ms n k)) (known_front ns ms n k)
+-- a name that is none of those of the table has a number among the new ones, counted from how many the table has
+module _ (ns ms : List (List ℕ)) (n : List ℕ) (known : ℕ) (counted : (known ≡ length ns) × (known? ns n ≡ false)) where
+  number_behind : {k : ℕ} → k ≡ number_of ms n → known + k ≡ number_of (ns ++ ms) n
+  number_behind e = omega (arith, number_unknown ns ms n counted.1, counted.0, e)
 
-  sum : {q p : Found} → Finds ns (front ++ last ∷ []) q → q.known ≡ false → Finds ms (front ++ last ∷ []) p → q.number + p.number ≡ number_of (ns ++ ms) (front ++ last ∷ [])
-  unfolding known?
-  sum {q} {p} g h j =
-      let n = front ++ last ∷ [] in
-      let k : known? ns n ≡ false = sym g.known ∙ h in
-      let u : number_of ns n ≡ length ns = unknown k in
-      omega (arith, number_unknown ns ms n k, g.number, j.number)
-    where
-      unknown : known? ns (front ++ last ∷ []) ≡ false → number_of ns (front ++ last ∷ []) ≡ length ns
-      unknown k = unknown_most ns (front ++ last ∷ []) k
+  pub in_fresh : (old : List ℕ) (f : ℕ) {k : ℕ} → (k ≡ number_of ms n) × (known? ms n ≡ true) → Numbers (ns ++ ms) n old f (record { number = known + k; size = f }) old
+  in_fresh old f {k} h = numbers_known (ns ++ ms) n old f (known + k) (number_behind h.0) (known_behind ns ms n counted.1 ∙ h.1)
 
-  pub in_fresh : {q p : Found} → Finds ns (front ++ last ∷ []) q → q.known ≡ false → Finds ms (front ++ last ∷ []) p → p.known ≡ true
-      → Numbers (ns ++ ms) (front ++ last ∷ []) old f (record { number = q.number + p.number; size = f }) old
-  in_fresh {q} {p} g h j i =
-      let n = front ++ last ∷ [] in
-      let k : known? ns n ≡ false = sym g.known ∙ h in
-      numbers_known (ns ++ ms) n old f (q.number + p.number) (sum g h j) (known_behind ns ms n k ∙ sym j.known ∙ i)
+  unknown : {k : ℕ} → (k ≡ length ms) × (known? ms n ≡ false) → known + k ≡ number_of (ns ++ ms) n
+  unknown h = number_behind (h.0 ∙ sym (unknown_most ms n h.1))
 
-  pub new_name : {q p : Found} {mid new : List ℕ} → Finds ns (front ++ last ∷ []) q → q.known ≡ false → Finds ms (front ++ last ∷ []) p → p.known ≡ false
-      → mid ≡ sets old f front → new ≡ set mid (f + length front) (last + 128)
-      → Numbers (ns ++ ms) (front ++ last ∷ []) old f (record { number = q.number + p.number; size = f + length front + 1 }) new
-  new_name {q} {p} {mid} {new} g h j i d e =
-      let n = front ++ last ∷ [] in
-      let k : known? (ns ++ ms) n ≡ false = known_behind ns ms n (sym g.known ∙ h) ∙ sym j.known ∙ i in
-      let one : name_bytes (name_added (ns ++ ms) n) ≡ front ++ (last + 128) ∷ [] = one_added (ns ++ ms) n k ∙ marked_last front last in
-      let size : f + length front + 1 ≡ f + length (front ++ (last + 128) ∷ []) = omega (arith, length-append front ((last + 128) ∷ [])) in
-      record {
-        number = sum g h j;
-        size = size ∙ ap (λ (l : List ℕ). f + length l) (sym one);
-        fresh = e ∙ ap (λ (l : List ℕ). set l (f + length front) (last + 128)) d ∙ sym (sets_append old f front ((last + 128) ∷ [])) ∙ ap (sets old f) (sym one);
-      }
+pub in_table : (ns ms : List (List ℕ)) (n old : List ℕ) (f : ℕ) {k : ℕ} → (k ≡ number_of ns n) × (known? ns n ≡ true) → Numbers (ns ++ ms) n old f (record { number = k; size = f }) old
+in_table ns ms n old f {k} h = numbers_known (ns ++ ms) n old f k (h.0 ∙ sym (number_known ns ms n h.1)) (known_front ns ms n h.1)
+
+pub new_name : (ns ms : List (List ℕ)) (front : List ℕ) (last : ℕ) (old : List ℕ) (f : ℕ) {q p : ℕ} {mid new : List ℕ} → (q ≡ length ns) × (known? ns (front ++ last ∷ []) ≡ false)
+    → (p ≡ length ms) × (known? ms (front ++ last ∷ []) ≡ false) → mid ≡ sets old f front → new ≡ set mid (f + length front) (last + 128)
+    → Numbers (ns ++ ms) (front ++ last ∷ []) old f (record { number = q + p; size = f + length front + 1 }) new
+new_name ns ms front last old f {q} {p} {mid} {new} h j d e =
+    let n = front ++ last ∷ [] in
+    let k : known? (ns ++ ms) n ≡ false = known_behind ns ms n h.1 ∙ j.1 in
+    let one : name_bytes (name_added (ns ++ ms) n) ≡ front ++ (last + 128) ∷ [] = one_added (ns ++ ms) n k ∙ marked_last front last in
+    let size : f + length front + 1 ≡ f + length (front ++ (last + 128) ∷ []) = omega (arith, length-append front ((last + 128) ∷ [])) in
+    record {
+      number = unknown ns ms n q h j;
+      size = size ∙ ap (λ (l : List ℕ). f + length l) (sym one);
+      fresh = e ∙ ap (λ (l : List ℕ). set l (f + length front) (last + 128)) d ∙ sym (sets_append old f front ((last + 128) ∷ [])) ∙ ap (sets old f) (sym one);
+    }
 
 -- ---- a name of the text
 
-pub size_array : (w : List ℕ) (array : Bool) → array ≡ true → length w ≡ length (spelled w array) - 1
+pub array_spelled : (w : List ℕ) (array : Bool) → array ≡ true → w ++ 40 ∷ [] ≡ spelled w array
 unfolding spelled
-size_array w array h = rw (h) (let z : length w ≡ length (w ++ 40 ∷ []) - 1 = omega (arith, length-append w (40 ∷ [])) in z)
+array_spelled w array h = rw (h)
 
-pub size_other : (w : List ℕ) (array : Bool) → array ≡ false → length w - 1 ≡ length (spelled w array) - 1
+pub other_spelled : {w : List ℕ} {array : Bool} (front : List ℕ) (last : ℕ) → array ≡ false → w ≡ front ++ last ∷ [] → plain_name (spelled w array) ≡ true → (front ++ last ∷ [] ≡ spelled w array) × (last < 128)
 unfolding spelled
-size_other w array h = rw (h)
+other_spelled {w} {array} front last h e p =
+    let whole : spelled w array ≡ front ++ last ∷ [] = rw (h) e in
+    (sym whole, low front (plain_low (front ++ last ∷ []) (ap plain_name (sym whole) ∙ p)))
+  where
+    low : (xs : List ℕ) → every top_clear? (xs ++ last ∷ []) ≡ true → last < 128
+    low [] k = ltb-true last 128 (every_first top_clear? last [] k)
+    low (x ∷ xs) k = low xs (every_rest top_clear? x (xs ++ last ∷ []) k)
 
-low_at : (n : List ℕ) (i : ℕ) → every top_clear? n ≡ true → get_or n i 0 < 128
-low_at [] i h = omega arith
-low_at (x ∷ xs) zero h = ltb-true x 128 (every_first top_clear? x xs h)
-low_at (x ∷ xs) (suc i) h = low_at xs i (every_rest top_clear? x xs h)
-
--- Of the name there are `front` bytes before its last, b.
-module _ (w : List ℕ) (array : Bool) (front b : ℕ) (plain : plain_name (spelled w array) ≡ true) (size : front ≡ length (spelled w array) - 1) (last : b ≡ pick array 40 (get_or w front 0)) where
-  pub last_low : b < 128
-  unfolding spelled
-  last_low = go array refl last
-    where
-      go : (t : Bool) → array ≡ t → b ≡ pick t 40 (get_or w front 0) → b < 128
-      go true e h = omega arith
-      go false e h =
-          let p : plain_name (pick array (w ++ 40 ∷ []) w) ≡ true = plain in
-          let q : plain_name w ≡ true = rw (e) at p in
-          omega (arith, low_at w front (plain_low w q))
-
-  pub front_within : front ≤ length w
-  unfolding spelled
-  front_within = go array refl
-    where
-      go : (t : Bool) → array ≡ t → front ≤ length w
-      go true e =
-          let s : front ≡ length (pick array (w ++ 40 ∷ []) w) - 1 = size in
-          let r : front ≡ length (w ++ 40 ∷ []) - 1 = rw (e) at s in
-          omega (arith, length-append w (40 ∷ []))
-      go false e =
-          let s : front ≡ length (pick array (w ++ 40 ∷ []) w) - 1 = size in
-          let r : front ≡ length w - 1 = rw (e) at s in
-          omega arith
-
-  pub spelled_parts : take front w ++ b ∷ [] ≡ spelled w array
-  unfolding spelled
-  spelled_parts = go array refl last
-    where
-      go : (t : Bool) → array ≡ t → b ≡ pick t 40 (get_or w front 0) → take front w ++ b ∷ [] ≡ pick array (w ++ 40 ∷ []) w
-      go true e h =
-          let s : front ≡ length (pick array (w ++ 40 ∷ []) w) - 1 = size in
-          let r : front ≡ length (w ++ 40 ∷ []) - 1 = rw (e) at s in
-          let k : length w ≤ front = omega (arith, length-append w (40 ∷ [])) in
-          rw (e, h, take_all front w k)
-      go false e h =
-          let p : plain_name (pick array (w ++ 40 ∷ []) w) ≡ true = plain in
-          let q : plain_name w ≡ true = rw (e) at p in
-          let s : front ≡ length (pick array (w ++ 40 ∷ []) w) - 1 = size in
-          let r : front ≡ length w - 1 = rw (e) at s in
-          let some = plain_some w q in
-          let one : take (suc front) w ≡ take front w ++ get_or w front 0 ∷ [] = take-suc w front 0 (omega arith) in
-          let all : take (suc front) w ≡ w = take_all (suc front) w (omega arith) in
-          rw (e, h) (sym one ∙ all)
-
-  pub numbers_spelled : (ms : List (List ℕ)) {xs : List ℕ} {old new : List ℕ} {f : ℕ} {r : Numbered} (names : List ℕ) (used : ℕ) → xs ≡ take used names
-      → Numbers (names_in xs ++ ms) (take front w ++ b ∷ []) old f r new → Numbers (names_in (take used names) ++ ms) (spelled w array) old f r new
-  numbers_spelled ms {xs} {old} {new} {f} {r} names used e n =
-      subst (λ (s : List ℕ). Numbers (names_in (take used names) ++ ms) s old f r new) spelled_parts (subst (λ (s : List ℕ). Numbers (names_in s ++ ms) (take front w ++ b ∷ []) old f r new) e n)
+pub none_spelled : (w : List ℕ) {array : Bool} → array ≡ false → length w ≡ 0 → plain_name (spelled w array) ≡ true → ⊥
+unfolding spelled
+none_spelled w {array} h e p = absurd (omega (arith, plain_some (spelled w array) p, ap length (let z : spelled w array ≡ w = rw (h) in z)))

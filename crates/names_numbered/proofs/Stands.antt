@@ -1,101 +1,64 @@
 -- The name with a number: its end less its `(`, its class, and whether it is a statement word.
-use Prim.Native.Nat.{ℕ, zero, suc, ◌+◌, ◌-◌, ◌≤◌, ◌<◌}
+use Prim.Native.Nat.{ℕ, zero, suc, ◌+◌, ◌-◌}
 use native.Mathlib.Omega.{arith}
 use mathlib.Core.Path.{◌≡◌, refl, subst, sym, ap, ◌∙◌}
 use mathlib.Core.Bool.{Bool, false}
-use mathlib.Core.List.{List, [], ◌∷◌, ◌++◌}
-use lib.Dec.{eqb}
-use lib.ListN.{length, take, drop, get_or, length-append, length-drop}
-use lib.Seq.{length-take-le}
-use borrow.Author.Tests.{eq-eqb, ne_eqb}
-use Rattle.paper.specs.Bytes.{pick, same, joined, bytes}
+use mathlib.Core.List.{List, [], ◌∷◌}
+use lib.ListN.{length, take, drop, get_or, length-drop}
+use lib.Seq.{take_all}
+use Rattle.std.specs.Prelude.{Option, Some, None}
+use Rattle.std.specs.Option.{MatchOption, option_map}
+use Rattle.std.specs.List.{slice_get}
+use Rattle.paper.specs.Bytes.{same, joined, bytes}
 use Rattle.paper.specs.Classes.{numeric_variable, string_variable, array}
 use Rattle.paper.specs.Words.{word, find_word, found?, statements, statement_word?}
 use Rattle.paper.specs.Tokens.{variable, class, by_kind}
 use Rattle.paper.specs.Names.{names_in, less_open}
+use Rattle.names_form.specs.declared.shape.Spelling.{Spelling}
+use Rattle.names_form.specs.Names.{spelling}
 use Rattle.names_numbered.specs.declared.Name.{Name}
-use Rattle.names_form.specs.Tables.{cleared, unmarked, first_size}
-use Rattle.names_form.specs.Places.{name_parts, first_most}
-use Rattle.names_form.specs.Shapes.{bare_last, kind_last}
-use Rattle.names_numbered.specs.Standing.{start, start_bytes, start_within}
+use Rattle.names_numbered.specs.Standing.{start, start_names, first_of}
 use Rattle.names_numbered.specs.Answers.{Stands}
 
-no_statement : statement_word? (less_open []) ≡ false
+pub no_statement : statement_word? (less_open []) ≡ false
 unfolding statement_word? less_open find_word found? statements word bytes same
 no_statement = refl
 
--- In the table t, of which the first `size` bytes of `names` are made, the name with a number stands from `from` to `end`.
-module _ {t : List ℕ} (names : List ℕ) (size number from end : ℕ) (table : t ≡ take size names) (begins : from ≡ length (joined (take number (names_in t)))) (ends : end ≡ from + first_size (drop from t)) where
-  bytes_there : get_or (names_in t) number [] ≡ unmarked (take (end - from) (drop from t))
-  unfolding start
-  bytes_there =
-      let k : first_size (drop from t) ≡ end - from = omega arith in
-      start_bytes t number ∙ ap (λ (j : ℕ). unmarked (take (first_size (drop j t)) (drop j t))) (sym begins) ∙ ap (λ (j : ℕ). unmarked (take j (drop from t))) k
-
+-- In the table t, of which the first `size` bytes of `names` are made, the name with a number begins at `from`.
+module _ {t : List ℕ} (names : List ℕ) (size number from : ℕ) (table : t ≡ take size names) (begins : from ≡ length (joined (take number (names_in t)))) where
   over : {r : Name} → Stands (names_in t) number r → Stands (names_in (take size names)) number r
   over {r} a = subst (λ (l : List ℕ). Stands (names_in l) number r) table a
 
-  none : end ≡ from → get_or (names_in t) number [] ≡ []
-  unfolding unmarked
-  none h = bytes_there ∙ (let z : end - from ≡ 0 = omega arith in ap (λ (j : ℕ). unmarked (take j (drop from t))) z)
+  -- the bytes from there on
+  abbrev pub rest : List ℕ
+  rest = take (length t - from) (drop from t)
 
-  pub stands_none : end ≡ from → Stands (names_in (take size names)) number (record { from = from; end = end; class = 5 })
-  unfolding less_open class by_kind
-  stands_none h =
-      over (record {
-        from = begins;
-        end = (let z : end ≡ length (joined (take number (names_in t))) + 0 = omega arith in z) ∙ ap (λ (n : List ℕ). length (joined (take number (names_in t))) + length (less_open n)) (sym (none h));
-        class = ap (λ (n : List ℕ). class (variable n)) (sym (none h));
-      })
-
-  pub no_word : end ≡ from → false ≡ statement_word? (less_open (get_or (names_in (take size names)) number []))
-  no_word h = sym (ap (λ (l : List ℕ). statement_word? (less_open (get_or (names_in l) number []))) (sym table) ∙ ap (λ (n : List ℕ). statement_word? (less_open n)) (none h) ∙ no_statement)
-
-  pub begins_within : (end ≡ from → ⊥) → (from < end) × (end ≤ length t)
+  name_there : {left : List (List ℕ)} → names_in rest ≡ left → get_or (names_in t) number [] ≡ get_or left 0 []
   unfolding start
-  begins_within h =
-      let n = first_most (drop from t) in
-      let l = length-drop from t in
-      let w = start_within number t in
-      (positive (first_size (drop from t)) refl, omega arith)
-    where
-      positive : (k : ℕ) → first_size (drop from t) ≡ k → from < end
-      positive zero e = absurd (h (let z : end ≡ from = omega arith in z))
-      positive (suc k) e = omega arith
+  name_there {left} e =
+      let all : rest ≡ drop from t = take_all (length t - from) (drop from t) (omega (arith, length-drop from t)) in
+      first_of (names_in t) number ∙ ap (λ (ns : List (List ℕ)). get_or ns 0 []) (sym (start_names number t) ∙ ap (λ (j : ℕ). names_in (drop j t)) (sym begins) ∙ ap names_in (sym all) ∙ e)
 
-  module _ (b : ℕ) (some : end ≡ from → ⊥) (last : b ≡ cleared (get_or t (end - 1) 0)) where
-    name_there : get_or (names_in t) number [] ≡ take (end - 1 - from) (drop from t) ++ b ∷ []
-    name_there =
-        bytes_there ∙ name_parts t from end (omega (arith, begins_within some)) ends ∙ ap (λ (x : ℕ). take (end - 1 - from) (drop from t) ++ x ∷ []) (sym last)
+  pub stands_some : (n : List ℕ) (ns : List (List ℕ)) {k c : ℕ} → names_in rest ≡ n ∷ ns → k ≡ length (less_open n) → c ≡ by_kind n numeric_variable string_variable array
+      → Stands (names_in (take size names)) number (record { from = from; end = from + k; class = c })
+  unfolding class
+  stands_some n ns {k} {c} e h d =
+      let here = name_there e in
+      let size : k ≡ length (less_open (get_or (names_in t) number [])) = h ∙ ap (λ (m : List ℕ). length (less_open m)) (sym here) in
+      over (record { from = begins; end = omega arith; class = d ∙ ap (λ (m : List ℕ). class (variable m)) (sym here) })
 
-    front_size : length (take (end - 1 - from) (drop from t)) ≡ end - 1 - from
-    front_size = length-take-le (end - 1 - from) (drop from t) (omega (arith, begins_within some, length-drop from t))
+  pub stands_none : names_in rest ≡ [] → Stands (names_in (take size names)) number (record { from = from; end = from; class = 5 })
+  unfolding less_open class by_kind
+  stands_none e =
+      let here = name_there e in
+      let size : length (less_open (get_or (names_in t) number [])) ≡ 0 = ap (λ (m : List ℕ). length (less_open m)) here in
+      over (record { from = begins; end = omega arith; class = ap (λ (m : List ℕ). class (variable m)) (sym here) })
 
-    kind : (n s a : ℕ) → by_kind (get_or (names_in t) number []) n s a ≡ by_kind (b ∷ []) n s a
-    kind n s a = ap (λ (x : List ℕ). by_kind x n s a) name_there ∙ kind_last (take (end - 1 - from) (drop from t)) b n s a
-
-    bare : less_open (get_or (names_in t) number []) ≡ pick (eqb b 40) (take (end - 1 - from) (drop from t)) (take (end - 1 - from) (drop from t) ++ b ∷ [])
-    bare = ap less_open name_there ∙ bare_last (take (end - 1 - from) (drop from t)) b
-
-    whole : (b ≡ 40 → ⊥) → end ≡ length (joined (take number (names_in t))) + length (less_open (get_or (names_in t) number []))
-    whole h =
-        let l : length (less_open (get_or (names_in t) number [])) ≡ end - 1 - from + 1 =
-        ap length bare ∙ rw (ne_eqb b 40 h) (length-append (take (end - 1 - from) (drop from t)) (b ∷ []) ∙ ap (λ (k : ℕ). k + 1) front_size) in
-        omega (arith, begins_within some)
-
-    pub stands_string : b ≡ 36 → Stands (names_in (take size names)) number (record { from = from; end = end; class = 6 })
-    unfolding class by_kind
-    stands_string h = over (record { from = begins; end = whole (λ e. absurd (omega arith)); class = sym (kind numeric_variable string_variable array ∙ rw (h)) })
-
-    pub stands_array : b ≡ 40 → Stands (names_in (take size names)) number (record { from = from; end = end - 1; class = 7 })
-    unfolding class by_kind
-    stands_array h =
-        let l : length (less_open (get_or (names_in t) number [])) ≡ end - 1 - from = ap length bare ∙ rw (eq-eqb b 40 h) front_size in
-        over (record { from = begins; end = omega (arith, begins_within some); class = sym (kind numeric_variable string_variable array ∙ rw (h)) })
-
-    pub stands_number : (b ≡ 36 → ⊥) → (b ≡ 40 → ⊥) → Stands (names_in (take size names)) number (record { from = from; end = end; class = 5 })
-    unfolding class by_kind
-    stands_number d o = over (record { from = begins; end = whole o; class = sym (kind numeric_variable string_variable array ∙ rw (ne_eqb b 36 d, ne_eqb b 40 o)) })
-
-    pub a_statement : {q : Bool} → q ≡ statement_word? (less_open (take (end - 1 - from) (drop from t) ++ b ∷ [])) → q ≡ statement_word? (less_open (get_or (names_in (take size names)) number []))
-    a_statement e = e ∙ ap (λ (n : List ℕ). statement_word? (less_open n)) (sym name_there) ∙ ap (λ (l : List ℕ). statement_word? (less_open (get_or (names_in l) number []))) table
+-- the name with a number, if there is one, is a statement word or not
+pub word_there : (o : Option Spelling) (ns : List (List ℕ)) (i : ℕ) (P : Spelling → Type 0) {q : Bool} → option_map spelling o ≡ slice_get ns i → MatchOption o (q ≡ false) P
+    → ((n : Spelling) → P n → q ≡ statement_word? (less_open (spelling n))) → q ≡ statement_word? (less_open (get_or ns i []))
+word_there None [] i P e m f = m ∙ sym no_statement
+word_there (Some x) [] i P e m f = let z : ◌≡◌ {A = ℕ} 0 1 = cc in absurd (omega arith)
+word_there None (n ∷ ns) zero P e m f = let z : ◌≡◌ {A = ℕ} 0 1 = cc in absurd (omega arith)
+word_there (Some x) (n ∷ ns) zero P e m f = let same : spelling x ≡ n = cc in f x m ∙ ap (λ (l : List ℕ). statement_word? (less_open l)) same
+word_there o (n ∷ ns) (suc i) P e m f = word_there o ns i P e m f

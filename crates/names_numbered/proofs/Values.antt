@@ -4,7 +4,7 @@ use native.Mathlib.Numerals.{add-one}
 use native.Mathlib.Omega.{arith}
 use mathlib.Core.Path.{◌≡◌, sym, ap, ◌∙◌}
 use mathlib.Core.List.{List, [], ◌∷◌, ◌++◌}
-use lib.ListN.{length, take, drop, get_or, length-append}
+use lib.ListN.{length, take, drop, length-append}
 use lib.Seq.{sets, sets-eq, length-take-le}
 use Rattle.paper.specs.Tokens.{by_kind}
 use Rattle.paper.specs.Names.{names_in, name_bytes, value_entries}
@@ -12,34 +12,24 @@ use Rattle.paper.specs.Store.{overwritten}
 use Rattle.buffers.specs.Sets.{sets_append}
 use Rattle.laws.specs.Names.{bytes_of_names}
 use Rattle.laws.specs.Tables.{length_entries}
-use Rattle.names_form.specs.Tables.{cleared, unmarked, first_size}
-use Rattle.names_form.specs.Places.{name_parts, name_here, none_left}
-use Rattle.names_form.specs.Shapes.{kind_last}
 use Rattle.names_numbered.specs.Answers.{Room}
 
 -- one entry, and those of the names after it
-pub value_more : (t : List ℕ) (at end i : ℕ) {all after : List ℕ} (values : List ℕ) (b : ℕ) → at < length t → end ≡ at + first_size (drop at t) → b ≡ cleared (get_or t (end - 1) 0)
-    → all ≡ sets values (8 * i) (value_entries i (names_in (drop at t)))
-    → after ≡ sets values (8 * i) (by_kind (b ∷ []) 0x00 0x80 0x40 ∷ i ∷ 0 ∷ 0 ∷ 0 ∷ 0 ∷ 0 ∷ 0 ∷ [])
-    → all ≡ sets after (8 * (i + 1)) (value_entries (i + 1) (names_in (drop end t)))
+pub value_more : (values : List ℕ) (i : ℕ) (n : List ℕ) (ns : List (List ℕ)) {all after : List ℕ} {left : List (List ℕ)} {at next : ℕ} → all ≡ sets values (8 * i) (value_entries i left) → left ≡ n ∷ ns
+    → at ≡ i → next ≡ i + 1 → after ≡ sets values (8 * at) (by_kind n 0x00 0x80 0x40 ∷ at ∷ 0 ∷ 0 ∷ 0 ∷ 0 ∷ 0 ∷ 0 ∷ []) → all ≡ sets after (8 * next) (value_entries next ns)
 unfolding value_entries
-value_more t at end i {all} {after} values b h e c a w =
-    let entry = by_kind (b ∷ []) 0x00 0x80 0x40 ∷ i ∷ 0 ∷ 0 ∷ 0 ∷ 0 ∷ 0 ∷ 0 ∷ [] in
-    let more = value_entries (i + 1) (names_in (drop end t)) in
-    let name : unmarked (take (end - at) (drop at t)) ≡ take (end - 1 - at) (drop at t) ++ b ∷ [] =
-    name_parts t at end h e ∙ ap (λ (x : ℕ). take (end - 1 - at) (drop at t) ++ x ∷ []) (sym c) in
-    let kind : by_kind (unmarked (take (end - at) (drop at t))) 0x00 0x80 0x40 ≡ by_kind (b ∷ []) 0x00 0x80 0x40 =
-    ap (λ (n : List ℕ). by_kind n 0x00 0x80 0x40) name ∙ kind_last (take (end - 1 - at) (drop at t)) b 0x00 0x80 0x40 in
-    let one : value_entries i (names_in (drop at t)) ≡ entry ++ more =
-    ap (value_entries i) (name_here t at end h e)
-    ∙ ap (λ (k : ℕ). k ∷ i ∷ 0 ∷ 0 ∷ 0 ∷ 0 ∷ 0 ∷ 0 ∷ value_entries (suc i) (names_in (drop end t))) kind
-    ∙ ap (λ (k : ℕ). entry ++ value_entries k (names_in (drop end t))) (sym (add-one i)) in
-    let next : 8 * i + length entry ≡ 8 * (i + 1) = omega arith in
-    a ∙ ap (sets values (8 * i)) one ∙ sets_append values (8 * i) entry more ∙ ap (λ (l : List ℕ). sets l (8 * i + length entry) more) (sym w) ∙ ap (λ (k : ℕ). sets after k more) next
+value_more values i n ns {all} {after} {left} {at} {next} a l h e w =
+    let entry = λ (k : ℕ). by_kind n 0x00 0x80 0x40 ∷ k ∷ 0 ∷ 0 ∷ 0 ∷ 0 ∷ 0 ∷ 0 ∷ [] in
+    let one : value_entries i left ≡ entry i ++ value_entries next ns =
+    ap (value_entries i) l ∙ ap (λ (k : ℕ). entry i ++ value_entries k ns) (sym (e ∙ add-one i)) in
+    let here : sets values (8 * i) (entry i) ≡ after = ap (λ (k : ℕ). sets values (8 * k) (entry k)) (sym h) ∙ sym w in
+    let more : 8 * i + 8 ≡ 8 * next = omega arith in
+    a ∙ ap (sets values (8 * i)) one ∙ sets_append values (8 * i) (entry i) (value_entries next ns) ∙ ap (λ (l : List ℕ). sets l (8 * i + 8) (value_entries next ns)) here
+    ∙ ap (λ (k : ℕ). sets after k (value_entries next ns)) more
 
-pub value_end : (t : List ℕ) (at i : ℕ) {all : List ℕ} (values : List ℕ) → length t ≤ at → all ≡ sets values (8 * i) (value_entries i (names_in (drop at t))) → values ≡ all
+pub value_end : (values : List ℕ) (i : ℕ) {all : List ℕ} {left : List (List ℕ)} → all ≡ sets values (8 * i) (value_entries i left) → left ≡ [] → values ≡ all
 unfolding value_entries
-value_end t at i {all} values h a = sym (a ∙ ap (λ (ns : List (List ℕ)). sets values (8 * i) (value_entries i ns)) (none_left t at h))
+value_end values i a l = sym (a ∙ ap (λ (ns : List (List ℕ)). sets values (8 * i) (value_entries i ns)) l)
 
 -- ---- what was written behind the first bytes of a buffer that has room for it
 

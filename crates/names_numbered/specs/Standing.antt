@@ -37,7 +37,7 @@ start_names (suc k) (b ∷ bs) =
     ap (λ (ns : List (List ℕ)). length (joined (take (suc k) ns))) here ∙ first_joined (unmarked (take s t)) (names_in (drop s t)) k ∙ ap (λ (j : ℕ). j + length (joined (take k (names_in (drop s t))))) size in
     ap (λ (j : ℕ). names_in (drop j t)) place ∙ ap names_in (sym (drop-drop (start (drop s t) k) s t)) ∙ start_names k (drop s t) ∙ ap (drop (suc k)) (sym here)
 
-first_of : (ns : List (List ℕ)) (i : ℕ) → get_or ns i [] ≡ get_or (drop i ns) 0 []
+pub first_of : (ns : List (List ℕ)) (i : ℕ) → get_or ns i [] ≡ get_or (drop i ns) 0 []
 first_of [] zero = refl
 first_of [] (suc i) = refl
 first_of (n ∷ ns) zero = refl

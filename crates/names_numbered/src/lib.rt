@@ -3,15 +3,17 @@
 
 ghost use Rattle.std.specs.Prelude.{◌≡◌, true, [], ◌∷◌, ◌++◌, ◌+◌, ◌-◌, ◌*◌, ◌≤◌, ◌<◌, length, take, get_or};
 ghost use Rattle.std.proofs.lemmas.List.Edits.{sets};
-ghost use Rattle.paper.specs.Bytes.{pick, joined};
+ghost use Rattle.paper.specs.Bytes.{joined};
 ghost use Rattle.paper.specs.Tokens.{by_kind};
 ghost use Rattle.paper.specs.Words.{statement_word?};
 ghost use Rattle.paper.specs.Names.{names_in, name_bytes, less_open, value_entries};
 ghost use Rattle.paper.specs.Store.{overwritten};
 ghost use Rattle.laws.specs.Names.{plain_name};
+ghost use Rattle.names_form.specs.Names.{spelling};
 ghost use Rattle.names_numbered.specs.Answers.{spelled, Numbers, lacks, Room, Stands};
 
-use names_form::{MOST_NAMES, shape, table};
+use names_form::shape::Spelling;
+use names_form::{MOST_NAMES, table};
 use tokens::class;
 
 // ---- the number of a name
@@ -23,51 +25,49 @@ pub struct Numbered {
     pub size: usize,
 }
 
-// The place of a name's last byte; a `(` stands behind an array's.
-fn last_place(part: &[u8], array: bool) -> usize
-    ensures { result ≡ length (spelled part.now array) - 1 }
-{
-    let size = part.len();
-    if array {
-        return size;
-    }
-    if size == 0 { 0 } else { size - 1 }
-}
-
-// A name's last byte, at its place.
-fn last_byte(part: &[u8], array: bool, at: usize) -> u8
-    ensures { result ≡ pick array 40 (get_or part.now at 0) }
+// A name of the text; a `(` stands behind an array's.
+fn spelled(part: &[u8], array: bool) -> Spelling
+    requires { plain_name (spelled part.now array) ≡ true }
+    ensures { (spelling result ≡ spelled part.now array) × (result.last < 128) }
 {
     if array {
-        40
-    } else {
-        buffers::byte_at(part, at)
-    }
-}
-
-// The number of a name, from its bytes before its last and its last, among the names of a table and then those of the first f bytes of `fresh`.
-// A new name's bytes are put at f.
-fn look_up(names: &[u8], fresh: &mut [u8], f: usize, front: &[u8], last: u8) -> Numbered
-    requires { (f ≤ length fresh.old) × (last < 128) }
-    ensures { Numbers (names_in names.now ++ names_in (take f fresh.old)) (front.now ++ last ∷ []) fresh.old f result fresh.new }
-{
-    let old = table::find(names, front, last);
-    if old.known {
-        return Numbered {
-            number: old.number,
-            size: f,
+        return Spelling {
+            front: part,
+            last: b'(',
         };
     }
-    let new = table::find(&fresh[..f], front, last);
-    let number = old.number + new.number;
-    if new.known {
-        return Numbered { number, size: f };
+    match part.split_last() {
+        Some((last, front)) => Spelling { front, last: *last },
+        None => Spelling {
+            front: part,
+            last: 0,
+        },
     }
-    let at = f + front.len();
-    buffers::copy(fresh, f, front);
-    buffers::put(fresh, at, last + 128);
+}
+
+// The number of a name among the names of a table and then those of the first f bytes of `fresh`. A new name's bytes are put at f.
+fn look_up(names: &[u8], fresh: &mut [u8], f: usize, name: Spelling) -> Numbered
+    requires { (f ≤ length fresh.old) × (name.last < 128) }
+    ensures { Numbers (names_in names.now ++ names_in (take f fresh.old)) (spelling name.entry) fresh.old f result fresh.new }
+{
+    let known = match table::find(names, name) {
+        Ok(number) => return Numbered { number, size: f },
+        Err(count) => count,
+    };
+    let new = match table::find(&fresh[..f], name) {
+        Ok(place) => {
+            return Numbered {
+                number: known + place,
+                size: f,
+            };
+        }
+        Err(count) => count,
+    };
+    let at = f + name.front.len();
+    buffers::copy(fresh, f, name.front);
+    buffers::put(fresh, at, name.last + 128);
     Numbered {
-        number,
+        number: known + new,
         size: at + 1,
     }
 }
@@ -85,9 +85,7 @@ pub fn number_of(
     requires { (f ≤ length fresh.old) × (plain_name (spelled part.now array) ≡ true) }
     ensures { Numbers (names_in (take size names.now) ++ names_in (take f fresh.old)) (spelled part.now array) fresh.old f result fresh.new }
 {
-    let at = last_place(part, array);
-    let last = last_byte(part, array, at);
-    look_up(buffers::front(names, size), fresh, f, &part[..at], last)
+    look_up(buffers::front(names, size), fresh, f, spelled(part, array))
 }
 
 // ---- new names
@@ -96,13 +94,7 @@ pub fn number_of(
 pub fn count(bytes: &[u8]) -> usize
     ensures { result ≡ length (names_in bytes.now) }
 {
-    let mut at: usize = 0;
-    let mut number: usize = 0;
-    while at < bytes.len() {
-        at = table::name_end(bytes, at);
-        number += 1;
-    }
-    number
+    table::names_in(bytes).count()
 }
 
 // Whether the new names of some bytes would pass the limit, or lack room for their bytes or their values; never when there is none.
@@ -134,23 +126,13 @@ pub fn lacks_room(
     value_room < 8 * after
 }
 
-// The type byte of a value, by the last byte of its name.
-fn value_type(last: u8) -> u8
-    ensures { result ≡ by_kind (last ∷ []) 0x00 0x80 0x40 }
-{
-    match last {
-        36 => 0x80,
-        40 => 0x40,
-        _ => 0x00,
-    }
-}
-
 // Writes the value entry of the name with a number: type, number, six zeros.
-fn put_value(values: &mut [u8], number: usize, last: u8)
+fn put_value(values: &mut [u8], number: usize, name: Spelling)
     requires { number < 256 }
-    ensures { values.new ≡ sets values.old (8 * number) (by_kind (last ∷ []) 0x00 0x80 0x40 ∷ number ∷ 0 ∷ 0 ∷ 0 ∷ 0 ∷ 0 ∷ 0 ∷ []) }
+    ensures { values.new ≡ sets values.old (8 * number) (by_kind (spelling name.entry) 0x00 0x80 0x40 ∷ number ∷ 0 ∷ 0 ∷ 0 ∷ 0 ∷ 0 ∷ 0 ∷ []) }
 {
-    let entry = [value_type(last), number as u8, 0, 0, 0, 0, 0, 0];
+    let kind = name.by_kind(0x00, 0x80, 0x40);
+    let entry = [kind, number as u8, 0, 0, 0, 0, 0, 0];
     buffers::copy(values, 8 * number, &entry);
 }
 
@@ -159,13 +141,8 @@ fn put_values(values: &mut [u8], count: usize, fresh: &[u8])
     requires { count + length (names_in fresh.now) ≤ 256 }
     ensures { values.new ≡ sets values.old (8 * count) (value_entries count (names_in fresh.now)) }
 {
-    let mut at: usize = 0;
-    let mut number = count;
-    while at < fresh.len() {
-        let end = table::name_end(fresh, at);
-        put_value(values, number, table::clear(fresh[end - 1]));
-        at = end;
-        number += 1;
+    for (i, name) in table::names_in(fresh).enumerate() {
+        put_value(values, count + i, name);
     }
 }
 
@@ -193,16 +170,11 @@ pub struct Name {
 fn start_of(names: &[u8], number: usize) -> usize
     ensures { result ≡ length (joined (take number (names_in names.now))) }
 {
-    let mut at: usize = 0;
-    let mut left = number;
-    while at < names.len() {
-        if left == 0 {
-            return at;
-        }
-        at = table::name_end(names, at);
-        left -= 1;
+    let mut from = 0;
+    for name in table::names_in(names).take(number) {
+        from += name.size();
     }
-    at
+    from
 }
 
 // The name with a number, of a table of `size` bytes.
@@ -211,28 +183,19 @@ pub fn name_at(names: &[u8], size: usize, number: usize) -> Name
 {
     let used = buffers::front(names, size);
     let from = start_of(used, number);
-    let end = table::name_end(used, from);
-    if end == from {
-        return Name {
+    match table::names_in(&used[from..]).next() {
+        Some(name) => Name {
             from,
-            end,
-            class: class::NUMERIC_VARIABLE,
-        };
-    }
-    match table::clear(used[end - 1]) {
-        36 => Name {
-            from,
-            end,
-            class: class::STRING_VARIABLE,
+            end: from + name.bare_size(),
+            class: name.by_kind(
+                class::NUMERIC_VARIABLE,
+                class::STRING_VARIABLE,
+                class::ARRAY,
+            ),
         },
-        40 => Name {
+        None => Name {
             from,
-            end: end - 1,
-            class: class::ARRAY,
-        },
-        _ => Name {
-            from,
-            end,
+            end: from,
             class: class::NUMERIC_VARIABLE,
         },
     }
@@ -242,12 +205,7 @@ pub fn name_at(names: &[u8], size: usize, number: usize) -> Name
 pub fn is_statement_word(names: &[u8], size: usize, number: usize) -> bool
     ensures { result ≡ statement_word? (less_open (get_or (names_in (take size names.now)) number [])) }
 {
-    let used = buffers::front(names, size);
-    let from = start_of(used, number);
-    let end = table::name_end(used, from);
-    if end == from {
-        return false;
-    }
-    let last_at = end - 1;
-    shape::is_statement(&used[from..last_at], table::clear(used[last_at]))
+    table::names_in(buffers::front(names, size))
+        .nth(number)
+        .is_some_and(|name| name.is_statement())
 }

@@ -1,5 +1,5 @@
 -- Marks: a name's mix byte by byte, a name that is not marked, and one more name marked.
-use Prim.Native.Nat.{ℕ, ◌+◌, ◌≤◌, ◌<◌}
+use Prim.Native.Nat.{ℕ, zero, suc, ◌+◌, ◌≤◌, ◌<◌}
 use native.Mathlib.Numerals.{add-one}
 use native.Mathlib.Omega.{arith}
 use mathlib.Core.Path.{◌≡◌, refl, sym, ap, ◌∙◌}
@@ -9,9 +9,11 @@ use lib.Dec.{eqb}
 use lib.ListN.{length, drop, get_or, set, length-set, drop_of_length-le}
 use lib.Seq.{drop-cons, get_or-set_same, get_or-set_other}
 use borrow.Author.Tests.{eqb-true, eqb-false, ne_eqb, eq-eqb}
+use Rattle.std.specs.Bool.{MatchBool}
+use Rattle.std.specs.List.{AllWithin, HoldsAt}
 use Rattle.paper.specs.Bytes.{pick, same, every}
 use Rattle.paper.specs.Names.{number_of, known?}
-use Rattle.laws.specs.Names.{same_ne, most_unknown, every_append, every_first, every_rest}
+use Rattle.laws.specs.Names.{same_ne, less_known, most_unknown, every_append, every_first, every_rest}
 use Rattle.names_sound.specs.Marks.{places, mixes, mixed, mixed_on, mix_of, place_in, sign_in, many, marked?, one_more, Marks}
 
 -- ---- a mix
@@ -33,6 +35,29 @@ module _ (front : List ℕ) (last i mix : ℕ) (all : mix_of (front ++ last ∷ 
   pub mix_last : {r : ℕ} → length front ≤ i → r ≡ mixed mix last → r ≡ mix_of (front ++ last ∷ [])
   unfolding mixed_on
   mix_last {r} h e = e ∙ sym (all ∙ rw (drop_of_length-le front h))
+
+-- ---- the test of names one by one
+
+found_at : (n : List ℕ) (ns : List (List ℕ)) (k : ℕ) → k < length ns → HoldsAt (λ m. same m n ≡ true) ns k → number_of ns n < length ns
+unfolding number_of
+found_at n [] k l h = absurd (omega arith)
+found_at n (m ∷ ms) zero l h = let here : same m n ≡ true = h [] in rw (here) (omega arith)
+found_at n (m ∷ ms) (suc k) l h = go (same m n) (found_at n ms k (omega arith) h)
+  where
+    go : (t : Bool) → number_of ms n < length ms → pick t 0 (suc (number_of ms n)) < suc (length ms)
+    go true e = omega arith
+    go false e = omega arith
+
+none_at : (n : List ℕ) (ns : List (List ℕ)) → AllWithin (λ m. same m n ≡ false) ns 0 (length ns) → length ns ≤ number_of ns n
+unfolding number_of
+none_at n [] h = omega arith
+none_at n (m ∷ ms) h =
+    let here : same m n ≡ false = h 0 [] (omega arith) (omega arith) in
+    rw (here) (omega (arith, none_at n ms (λ k d l i. h (suc k) d (omega arith) (omega arith))))
+
+pub any_known : (n : List ℕ) (ns : List (List ℕ)) (r : Bool) → MatchBool r ((k : ℕ) × (k < length ns) × HoldsAt (λ m. same m n ≡ true) ns k) (AllWithin (λ m. same m n ≡ false) ns 0 (length ns)) → r ≡ known? ns n
+any_known n ns true (k, l, h) = sym (less_known ns n (found_at n ns k l h))
+any_known n ns false h = sym (most_unknown ns n (none_at n ns h))
 
 -- ---- marks
 

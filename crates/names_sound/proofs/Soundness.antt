@@ -4,17 +4,17 @@ use native.Mathlib.Nat.{div-add-mod, mod-lt}
 use native.Mathlib.Omega.{arith}
 use mathlib.Core.Path.{◌≡◌, refl, subst, sym, ap, ◌∙◌}
 use mathlib.Core.Bool.{Bool, true, false, not, ◌&&◌, ◌||◌, and-true, and-false}
-use mathlib.Core.List.{List, [], ◌∷◌, ◌++◌}
+use mathlib.Core.List.{List, [], ◌∷◌, ◌++◌, append_assoc}
 use lib.Dec.{leb, ltb, eqb, eqb-zero-suc, eqb-suc-zero, eqb-suc-suc}
-use lib.ListN.{length, take, drop, get_or, set}
+use lib.ListN.{length, take, get_or, set, length-append}
+use lib.Seq.{take_all}
+use Rattle.std.proofs.lemmas.List.{take-append-le}
 use borrow.Author.Tests.{lt-ltb, le-leb, lt-leb, leb-true, leb-false, eqb-true}
 use Rattle.paper.specs.Bytes.{same, every}
 use Rattle.paper.specs.Words.{reserved?}
 use Rattle.paper.specs.Names.{names_in, name_bytes, less_open, name?, known?, all_different, sound_names, sound_table}
 use Rattle.laws.specs.Names.{closed?, same_bytes}
 use Rattle.laws.specs.Tables.{same_sym, known_none, known_cons, known_snoc}
-use Rattle.names_form.specs.Tables.{cleared, unmarked, first_size}
-use Rattle.names_form.specs.Places.{name_bounds, name_parts, name_here, none_left, closed_before, closed_after, names_before}
 use Rattle.names_sound.specs.Lawful.{lawful, sound_after}
 use Rattle.names_sound.specs.Marks.{places, mix_of, place_in, one_more, Marks}
 use Rattle.names_sound.proofs.Marking.{marks_more}
@@ -26,15 +26,23 @@ unfolding closed?
 closed_none [] h = refl
 closed_none (b ∷ bs) h = absurd (omega arith)
 
-pub closed_last : (bs : List ℕ) → (length bs ≡ 0 → ⊥) → leb 128 (get_or bs (length bs - 1) 0) ≡ closed? bs
+pub closed_last : (bs : List ℕ) → 0 < length bs → leb 128 (get_or bs (length bs - 1) 0) ≡ closed? bs
 unfolding closed?
-closed_last [] h = absurd (h refl)
+closed_last [] h = absurd (omega arith)
 closed_last (b ∷ []) h = refl
 closed_last (b ∷ c ∷ cs) h =
     let z : suc (suc (length cs)) - 1 ≡ suc (suc (length cs) - 1) = omega arith in
-    ap (λ (k : ℕ). leb 128 (get_or (b ∷ c ∷ cs) k 0)) z ∙ closed_last (c ∷ cs) (λ e. absurd (omega arith))
+    ap (λ (k : ℕ). leb 128 (get_or (b ∷ c ∷ cs) k 0)) z ∙ closed_last (c ∷ cs) (omega arith)
 
 -- ---- one name
+
+pub not_yes : {a : Bool} (b : Bool) → a ≡ not b → a ≡ true → b ≡ false
+not_yes {a} true e h = let z : ◌≡◌ {A = ℕ} 0 1 = cc in absurd (omega arith)
+not_yes {a} false e h = refl
+
+pub not_no : {a : Bool} (b : Bool) → a ≡ not b → a ≡ false → b ≡ true
+not_no {a} true e h = refl
+not_no {a} false e h = let z : ◌≡◌ {A = ℕ} 0 1 = cc in absurd (omega arith)
 
 module _ (n : List ℕ) (ns : List (List ℕ)) where
   pub no_name : {r : Bool} → r ≡ name? n → r ≡ false → false ≡ lawful n ns
@@ -57,60 +65,50 @@ module _ (n : List ℕ) (ns : List (List ℕ)) where
 
 -- ---- name by name
 
--- In the table t, which ends with a name's end, the names before `at` are lawful and marked, and `left` of `count` names are to come.
-pub record Passed (t : List ℕ) (count : ℕ) (marks : List ℕ) (at left : ℕ) : Type 0 where
-  pub within : at ≤ length t
-  pub before : closed? (take at t) ≡ true
-  pub after : closed? (drop at t) ≡ true
-  pub marked : Marks marks (names_in (take at t))
-  pub rest : sound_after [] (names_in t) count ≡ sound_after (names_in (take at t)) (names_in (drop at t)) left
+-- In the table t, `number` names are passed, all of them lawful and marked, these are left, and `left` of `count` names are to come.
+pub record Passed (t : List ℕ) (count : ℕ) (marks : List ℕ) (number left : ℕ) (coming : List (List ℕ)) : Type 0 where
+  pub all : names_in t ≡ take number (names_in t) ++ coming
+  pub size : length (take number (names_in t)) ≡ number
+  pub marked : Marks marks (take number (names_in t))
+  pub rest : sound_after [] (names_in t) count ≡ sound_after (take number (names_in t)) coming left
 
-pub none_passed : (t : List ℕ) (count : ℕ) (marks : List ℕ) → closed? t ≡ true → length marks ≡ places → Passed t count marks 0 count
-unfolding closed? names_in every
-none_passed t count marks h k = record { within = omega arith; before = refl; after = h; marked = record { whole = k; set = refl }; rest = refl }
+pub none_passed : (t : List ℕ) (count : ℕ) (marks : List ℕ) {number : ℕ} {coming : List (List ℕ)} → length marks ≡ places → number ≡ 0 → coming ≡ names_in t → Passed t count marks number count coming
+unfolding every
+none_passed t count marks k z e = rw (z, e) (record { all = refl; size = refl; marked = record { whole = k; set = refl }; rest = refl })
 
-module _ {t : List ℕ} {count : ℕ} {marks : List ℕ} {at left : ℕ} (p : Passed t count marks at left) where
-  pub all_wanted : length t ≤ at → eqb left 0 ≡ sound_after [] (names_in t) count
+module _ {t : List ℕ} {count : ℕ} {marks : List ℕ} {number left : ℕ} {coming : List (List ℕ)} (p : Passed t count marks number left coming) where
+  pub all_wanted : coming ≡ [] → eqb left 0 ≡ sound_after [] (names_in t) count
   unfolding sound_after
-  all_wanted h = sym (p.rest ∙ ap (λ (ns : List (List ℕ)). sound_after (names_in (take at t)) ns left) (none_left t at h))
+  all_wanted e = sym (p.rest ∙ ap (λ (ns : List (List ℕ)). sound_after (take number (names_in t)) ns left) e)
 
-  pub none_wanted : at < length t → left ≡ 0 → false ≡ sound_after [] (names_in t) count
-  unfolding sound_after
-  none_wanted h z =
-      let here = name_here t at (at + first_size (drop at t)) h refl in
-      sym (p.rest ∙ ap (λ (ns : List (List ℕ)). sound_after (names_in (take at t)) ns left) here ∙ rw (z))
-
-  -- A name stands at `at` and ends at `end`; its last byte is b.
-  module _ {end b : ℕ} (inside : at < length t) (ends : end ≡ at + first_size (drop at t)) (last : b ≡ cleared (get_or t (end - 1) 0)) where
-    spelling : take (end - 1 - at) (drop at t) ++ b ∷ [] ≡ unmarked (take (end - at) (drop at t))
-    spelling = ap (λ (x : ℕ). take (end - 1 - at) (drop at t) ++ x ∷ []) last ∙ sym (name_parts t at end inside ends)
-
-    here : names_in (drop at t) ≡ (take (end - 1 - at) (drop at t) ++ b ∷ []) ∷ names_in (drop end t)
-    here = name_here t at end inside ends ∙ ap (λ (n : List ℕ). n ∷ names_in (drop end t)) (sym spelling)
-
-    more : names_in (take end t) ≡ names_in (take at t) ++ (take (end - 1 - at) (drop at t) ++ b ∷ []) ∷ []
-    more = names_before t at end inside ends p.before p.after ∙ ap (λ (n : List ℕ). names_in (take at t) ++ n ∷ []) (sym spelling)
-
-    pub one_unlawful : {r : Bool} → r ≡ lawful (take (end - 1 - at) (drop at t) ++ b ∷ []) (names_in (take at t)) → r ≡ false → false ≡ sound_after [] (names_in t) count
+  module _ (n : List ℕ) (ns : List (List ℕ)) (here : coming ≡ n ∷ ns) where
+    pub none_wanted : left ≡ 0 → false ≡ sound_after [] (names_in t) count
     unfolding sound_after
-    one_unlawful {r} l n =
-        let bad : lawful (take (end - 1 - at) (drop at t) ++ b ∷ []) (names_in (take at t)) ≡ false = sym l ∙ n in
-        sym (p.rest ∙ ap (λ (ns : List (List ℕ)). sound_after (names_in (take at t)) ns left) here ∙ rw (bad) (and-false (ltb 0 left)))
+    none_wanted z = sym (p.rest ∙ ap (λ (ms : List (List ℕ)). sound_after (take number (names_in t)) ms left) here ∙ rw (z))
 
-    pub one_passed : {r : Bool} {mix mark : ℕ} → (left ≡ 0 → ⊥) → mix ≡ mix_of (take (end - 1 - at) (drop at t) ++ b ∷ []) → mark ≡ one_more (get_or marks (place_in mix) 0) mix
-        → r ≡ lawful (take (end - 1 - at) (drop at t) ++ b ∷ []) (names_in (take at t)) → r ≡ true → Passed t count (set marks (place_in mix) mark) end (left - 1)
+    pub one_unlawful : {r : Bool} {at : ℕ} → at ≡ number → r ≡ lawful n (take at (names_in t)) → r ≡ false → false ≡ sound_after [] (names_in t) count
     unfolding sound_after
-    one_passed {r} {mix} {mark} z e f l n =
-        let good : lawful (take (end - 1 - at) (drop at t) ++ b ∷ []) (names_in (take at t)) ≡ true = sym l ∙ n in
+    one_unlawful {r} {at} h l f =
+        let bad : lawful n (take number (names_in t)) ≡ false = ap (λ (k : ℕ). lawful n (take k (names_in t))) (sym h) ∙ sym l ∙ f in
+        sym (p.rest ∙ ap (λ (ms : List (List ℕ)). sound_after (take number (names_in t)) ms left) here ∙ rw (bad) (and-false (ltb 0 left)))
+
+    pub one_passed : {r : Bool} {at next mix mark : ℕ} → (left ≡ 0 → ⊥) → at ≡ number → next ≡ number + 1 → mix ≡ mix_of n → mark ≡ one_more (get_or marks (place_in mix) 0) mix
+        → r ≡ lawful n (take at (names_in t)) → r ≡ true → Passed t count (set marks (place_in mix) mark) next (left - 1) ns
+    unfolding sound_after
+    one_passed {r} {at} {next} {mix} {mark} z h w e f l g =
+        let before = take number (names_in t) in
+        let good : lawful n before ≡ true = ap (λ (k : ℕ). lawful n (take k (names_in t))) (sym h) ∙ sym l ∙ g in
         let some : ltb 0 left ≡ true = lt-ltb 0 left (positive left z) in
+        let whole : names_in t ≡ (before ++ n ∷ []) ++ ns = p.all ∙ ap (λ (ms : List (List ℕ)). before ++ ms) here ∙ sym (append_assoc before (n ∷ []) ns) in
+        let size : length (before ++ n ∷ []) ≡ next = length-append before (n ∷ []) ∙ omega (arith, p.size) in
+        let more : take next (names_in t) ≡ before ++ n ∷ [] =
+        ap (take next) whole ∙ take-append-le next (before ++ n ∷ []) ns (omega arith) ∙ take_all next (before ++ n ∷ []) (omega arith) in
         record {
-          within = (name_bounds t at end inside ends).1;
-          before = closed_before t at end inside ends p.before p.after;
-          after = closed_after t at end inside ends p.before p.after;
-          marked = subst (Marks (set marks (place_in mix) mark)) (sym more) (marks_more (take (end - 1 - at) (drop at t) ++ b ∷ []) p.marked e f);
+          all = whole ∙ ap (λ (l : List (List ℕ)). l ++ ns) (sym more);
+          size = ap length more ∙ size;
+          marked = subst (Marks (set marks (place_in mix) mark)) (sym more) (marks_more n p.marked e f);
           rest =
-              p.rest ∙ ap (λ (ns : List (List ℕ)). sound_after (names_in (take at t)) ns left) here
-              ∙ rw (good, some) (ap (λ (ns : List (List ℕ)). sound_after ns (names_in (drop end t)) (left - 1)) (sym more));
+              p.rest ∙ ap (λ (ms : List (List ℕ)). sound_after before ms left) here ∙ rw (good, some) (ap (λ (l : List (List ℕ)). sound_after l ns (left - 1)) (sym more));
         }
       where
         positive : (k : ℕ) → (k ≡ 0 → ⊥) → 0 < k

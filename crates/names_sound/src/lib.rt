@@ -3,61 +3,55 @@
 
 mod mark;
 
-ghost use Rattle.std.specs.Prelude.{◌≡◌, true, ◌&&◌, [], ◌∷◌, ◌++◌, ◌*◌, ◌<◌, leb, length};
+ghost use Rattle.std.specs.Prelude.{◌≡◌, ◌&&◌, [], ◌*◌, ◌<◌, leb, take};
 ghost use Rattle.paper.specs.Names.{names_in, sound_table};
 ghost use Rattle.laws.specs.Names.{closed?};
+ghost use Rattle.names_form.specs.Names.{spelling};
 ghost use Rattle.names_sound.specs.Lawful.{lawful, sound_after};
-ghost use Rattle.names_sound.specs.Marks.{places, mixes, mix_of, Marks};
+ghost use Rattle.names_sound.specs.Marks.{mixes, mix_of, Marks};
 
-use names_form::{MOST_NAMES, shape, table};
+use names_form::shape::Spelling;
+use names_form::{MOST_NAMES, table};
 
 // Whether bytes are none, or end with a name's last byte.
 fn is_closed(bytes: &[u8]) -> bool
     ensures { result ≡ closed? bytes.now }
 {
-    let size = bytes.len();
-    if size == 0 {
-        return true;
+    match bytes.last() {
+        Some(last) => 128 <= *last,
+        None => true,
     }
-    128 <= bytes[size - 1]
 }
 
-// Whether a name may stand in a table after the names of some bytes, which are marked; its own mix is `mixed`.
-fn is_lawful(bytes: &[u8], marks: &[u8], mixed: usize, front: &[u8], last: u8) -> bool
-    requires { Marks marks.now (names_in bytes.now) × (mixed ≡ mix_of (front.now ++ last ∷ [])) × (mixed < mixes) }
-    ensures { result ≡ lawful (front.now ++ last ∷ []) (names_in bytes.now) }
+// Whether a name may stand in a table after the first so many names of some bytes, which are marked; its own mix is `mixed`.
+fn is_lawful(
+    bytes: &[u8],
+    number: usize,
+    marks: &[u8; mark::PLACES],
+    mixed: usize,
+    name: Spelling,
+) -> bool
+    requires { Marks marks.now (take number (names_in bytes.now)) × (mixed ≡ mix_of (spelling name)) × (mixed < mixes) }
+    ensures { result ≡ lawful (spelling name.entry) (take number (names_in bytes.now)) }
 {
-    if !shape::is_name(front, last) {
-        return false;
-    }
-    if shape::is_reserved(front, last) {
-        return false;
-    }
-    !mark::is_known(bytes, marks, mixed, front, last)
+    name.is_name() && !name.is_reserved() && !mark::is_known(bytes, number, marks, mixed, name)
 }
 
 // Whether bytes are this many names that a sound table may hold. Each name that may stand there is marked, for those after it.
-fn are_marked(bytes: &[u8], count: usize, marks: &mut [u8]) -> bool
-    requires { (closed? bytes.now ≡ true) × (length marks.old ≡ places) }
+fn are_marked(bytes: &[u8], count: usize, marks: &mut [u8; mark::PLACES]) -> bool
     ensures { result ≡ sound_after [] (names_in bytes.now) count }
 {
-    let mut at: usize = 0;
     let mut left = count;
-    while at < bytes.len() {
+    for (number, name) in table::names_in(bytes).enumerate() {
         if left == 0 {
             return false;
         }
-        let end = table::name_end(bytes, at);
-        let last_at = end - 1;
-        let front = &bytes[at..last_at];
-        let last = table::clear(bytes[last_at]);
-        let mixed = mark::mix_of(front, last);
-        if !is_lawful(&bytes[..at], marks, mixed, front, last) {
+        let mixed = mark::mix_of(name);
+        if !is_lawful(bytes, number, marks, mixed, name) {
             return false;
         }
         let place = mixed % mark::PLACES;
         marks[place] = mark::one_more(marks[place], mixed);
-        at = end;
         left -= 1;
     }
     left == 0
@@ -65,13 +59,12 @@ fn are_marked(bytes: &[u8], count: usize, marks: &mut [u8]) -> bool
 
 // Whether bytes are this many names that a sound table may hold.
 fn are_lawful(bytes: &[u8], count: usize) -> bool
-    requires { closed? bytes.now ≡ true }
     ensures { result ≡ sound_after [] (names_in bytes.now) count }
 {
     if bytes.len() == 0 {
         return count == 0;
     }
-    let mut marks = [0u8; mark::PLACES];
+    let mut marks = [0; mark::PLACES];
     are_marked(bytes, count, &mut marks)
 }
 

@@ -1,9 +1,11 @@
 // Marks: each name has a place and a sign, made of its bytes by mixing them. Where the mark at a name's place is neither its sign nor that of many
 // names, the name is none of those that were marked.
-ghost use Rattle.std.specs.Prelude.{◌≡◌, [], ◌∷◌, ◌++◌, ◌<◌};
+ghost use Rattle.std.specs.Prelude.{◌≡◌, ◌<◌, take};
 ghost use Rattle.paper.specs.Names.{names_in, known?};
+ghost use Rattle.names_form.specs.Names.{spelling};
 ghost use Rattle.names_sound.specs.Marks.{mixes, mixed, mix_of, sign_in, one_more, Marks};
 
+use names_form::shape::Spelling;
 use names_form::table;
 
 // How many places there are, and how many mixes.
@@ -22,17 +24,15 @@ fn mix(of: usize, b: u8) -> usize
     (of * 35 + b as usize) % MIXES
 }
 
-// The mix of a name, from its bytes before its last and its last.
-pub(crate) fn mix_of(front: &[u8], last: u8) -> usize
-    ensures { result ≡ mix_of (front.now ++ last ∷ []) }
+// The mix of a name.
+pub(crate) fn mix_of(name: Spelling) -> usize
+    ensures { result ≡ mix_of (spelling name.entry) }
 {
     let mut of: usize = 0;
-    let mut i: usize = 0;
-    while i < front.len() {
-        of = mix(of, front[i]);
-        i += 1;
+    for b in name.front {
+        of = mix(of, *b);
     }
-    mix(of, last)
+    mix(of, name.last)
 }
 
 // The sign of a name, from its mix.
@@ -51,18 +51,22 @@ pub(crate) fn one_more(mark: u8, of: usize) -> u8
     if mark == 0 { sign(of) } else { MANY }
 }
 
-// Whether a name is among the names of some bytes, all of which are marked; its own mix is `of`.
-pub(crate) fn is_known(bytes: &[u8], marks: &[u8], of: usize, front: &[u8], last: u8) -> bool
-    requires { Marks marks.now (names_in bytes.now) × (of ≡ mix_of (front.now ++ last ∷ [])) × (of < mixes) }
-    ensures { result ≡ known? (names_in bytes.now) (front.now ++ last ∷ []) }
+// Whether a name is among the first so many names of some bytes, all of which are marked; its own mix is `of`.
+pub(crate) fn is_known(
+    bytes: &[u8],
+    number: usize,
+    marks: &[u8; PLACES],
+    of: usize,
+    name: Spelling,
+) -> bool
+    requires { Marks marks.now (take number (names_in bytes.now)) × (of ≡ mix_of (spelling name)) × (of < mixes) }
+    ensures { result ≡ known? (take number (names_in bytes.now)) (spelling name.entry) }
 {
-    let at = of % PLACES;
-    let mark = marks[at];
-    if mark != MANY {
-        if mark != sign(of) {
-            return false;
-        }
+    let mark = marks[of % PLACES];
+    if mark != MANY && mark != sign(of) {
+        return false;
     }
-    let found = table::find(bytes, front, last);
-    found.known
+    table::names_in(bytes)
+        .take(number)
+        .any(|known| known == name)
 }

@@ -1,37 +1,20 @@
--- The loop keeps: the kinds still to be listed over the list as it is now make all that are to be listed over that at entry.
-use Prim.Native.Nat.{◌-◌}
-use native.Mathlib.Omega.{arith}
-use mathlib.Core.Path.{◌∙◌, refl}
-use Rattle.names_form.specs.Places.{name_bounds}
+use Rattle.std.proofs.Common.{arith, length, ap, ◌∙◌}
+use mathlib.Core.Logic.{inl}
+use Rattle.std.specs.Iterator.Adapters.{enumerate_source, enumerate_count}
+use Rattle.names_form.specs.Names.{coming}
+use Rattle.names_form.specs.Places.{names_few}
 use Rattle.names_kinds.proofs.Listing.{kind_more, kind_end}
 use Rattle.names_kinds.proofs.list_kinds.Goals as goal
 
-pub loop-at-init : goal.loop-at-init
-loop-at-init c = (omega arith, omega arith, refl, refl)
+pub loop-number-init-derived : goal.loop-number-init-derived
+loop-number-init-derived c =
+    let k = c.into_iter-number-iterator.ensures.into_iter_gives in
+    let none = ap enumerate_count k ∙ c.enumerate-number-items.ensures.count in
+    let all = ap (λ s. length (coming (enumerate_source s))) k ∙ ap (λ s. length (coming s)) c.enumerate-number-items.ensures.source ∙ ap length c.names_in.ensures in
+    ((tt, tt, inl (omega (arith, none, all, names_few c.args.names.now, c.well_formed))), tt)
 
-pub overflow_sub-last_at : goal.overflow_sub-last_at
-overflow_sub-last_at c = omega (arith, name_bounds _ _ _ c.loop-at-test.true c.name_end-end.ensures)
-
-pub slice_bounds-kind_of-count : goal.slice_bounds-kind_of-count
-slice_bounds-kind_of-count c = omega (arith, name_bounds _ _ _ c.loop-at-test.true c.name_end-end.ensures)
-
-pub slice_bounds-kind_of-start : goal.slice_bounds-kind_of-start
-slice_bounds-kind_of-start c = omega (arith, name_bounds _ _ _ c.loop-at-test.true c.name_end-end.ensures)
-
-pub slice_bounds-kind_of-end : goal.slice_bounds-kind_of-end
-slice_bounds-kind_of-end c = omega (arith, name_bounds _ _ _ c.loop-at-test.true c.name_end-end.ensures)
-
-pub bounds-names-last_at : goal.bounds-names-last_at
-bounds-names-last_at c = omega (arith, name_bounds _ _ _ c.loop-at-test.true c.name_end-end.ensures)
-
-pub overflow_add-number : goal.overflow_add-number
-overflow_add-number c = omega (arith, name_bounds _ _ _ c.loop-at-test.true c.name_end-end.ensures, c.loop-at.invariant.1)
-
-pub loop-at-smaller : goal.loop-at-smaller
-loop-at-smaller c = omega (arith, name_bounds _ _ _ c.loop-at-test.true c.name_end-end.ensures)
-
-pub loop-at-preserved : goal.loop-at-preserved
-loop-at-preserved c = (omega (arith, name_bounds _ _ _ c.loop-at-test.true c.name_end-end.ensures), omega (arith, name_bounds _ _ _ c.loop-at-test.true c.name_end-end.ensures, c.loop-at.invariant.1), c.put.auto.out ∙ c.loop-at.invariant.2, kind_more _ _ _ _ _ _ _ c.loop-at-test.true c.name_end-end.ensures c.clear.ensures c.kind_of-kind.ensures c.loop-at.invariant.3 c.put.ensures)
+pub loop-number-preserved : goal.loop-number-preserved
+loop-number-preserved c = let h = c.in-Some.ensures.steps in (c.put.auto.out ∙ c.loop-number.invariant.0, kind_more _ _ _ _ c.loop-number.invariant.1 h.0 h.1 h.2 c.kind_of.ensures c.put.ensures)
 
 pub returns : goal.returns
-returns c = kind_end _ _ _ _ c.loop-at-test.false c.loop-at.invariant.3
+returns c = kind_end _ _ c.loop-number.invariant.1 c.in-None.ensures.steps.0.0

@@ -1,15 +1,11 @@
-use Rattle.names_numbered.proofs.Stands.{a_statement, begins_within, no_word}
-use native.Mathlib.Omega.{arith}
+use Rattle.std.proofs.Common.{rules, ap, take, ◌∙◌}
+use Rattle.std.proofs.lemmas.Iterator.Consumers.{nth_from_yields_List, YieldsList-from_first}
+use Rattle.paper.specs.Names.{names_in}
+use Rattle.names_form.specs.Names.{spelling, coming}
+use Rattle.names_numbered.proofs.Stands.{word_there}
 use Rattle.names_numbered.proofs.is_statement_word.Goals as goal
 
-pub returns-then-end-from : goal.returns-then-end-from
-returns-then-end-from c = no_word c.args.names.now c.args.size c.args.number _ _ c.front-used.ensures c.start_of-from.ensures c.name_end-end.ensures c.if-end-from.true
-
-pub slice_bounds-is_statement-end : goal.slice_bounds-is_statement-end
-slice_bounds-is_statement-end c = omega (arith, begins_within c.args.names.now c.args.size c.args.number _ _ c.front-used.ensures c.start_of-from.ensures c.name_end-end.ensures c.if-end-from.false)
-
-pub bounds-used-last_at : goal.bounds-used-last_at
-bounds-used-last_at c = omega (arith, begins_within c.args.names.now c.args.size c.args.number _ _ c.front-used.ensures c.start_of-from.ensures c.name_end-end.ensures c.if-end-from.false)
-
 pub returns : goal.returns
-returns c = a_statement c.args.names.now c.args.size c.args.number _ _ c.front-used.ensures c.start_of-from.ensures c.name_end-end.ensures _ c.if-end-from.false c.clear.ensures c.is_statement.ensures
+returns c =
+    let all = YieldsList-from_first spelling coming {s = c.names_in.result} (names_in (take c.args.size c.args.names.now)) (c.names_in.ensures ∙ ap names_in c.front.ensures) in
+    word_there c.nth.result (names_in (take c.args.size c.args.names.now)) c.args.number _ (nth_from_yields_List c.nth.result c.nth.new.self c.args.number c.nth.ensures.ran all) c.is_some_and.ensures (λ n k. search rules)

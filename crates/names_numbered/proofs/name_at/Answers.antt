@@ -1,18 +1,23 @@
-use Rattle.names_numbered.proofs.Stands.{begins_within, stands_array, stands_none, stands_number, stands_string}
-use native.Mathlib.Omega.{arith}
+use Rattle.std.proofs.Common.{arith, refl, length, ap, ◌∙◌, sym}
+use Rattle.names_numbered.specs.Standing.{start, start_within, stands_within}
+use Rattle.names_numbered.proofs.Stands.{stands_some, stands_none}
 use Rattle.names_numbered.proofs.name_at.Goals as goal
 
-pub returns-then-end-from : goal.returns-then-end-from
-returns-then-end-from c = stands_none c.args.names.now c.args.size c.args.number _ _ c.front-used.ensures c.start_of-from.ensures c.name_end-end.ensures c.if-end-from.true
+pub slice_bounds-names_in-count : goal.slice_bounds-names_in-count
+unfolding start
+slice_bounds-names_in-count c = omega (arith, c.start_of-from.ensures, start_within c.args.number c.front-used.result.now)
 
-pub bounds-used-end : goal.bounds-used-end
-bounds-used-end c = omega (arith, begins_within c.args.names.now c.args.size c.args.number _ _ c.front-used.ensures c.start_of-from.ensures c.name_end-end.ensures c.if-end-from.false)
+pub slice_bounds-names_in-start : goal.slice_bounds-names_in-start
+unfolding start
+slice_bounds-names_in-start c = omega (arith, c.start_of-from.ensures, start_within c.args.number c.front-used.result.now)
 
-pub returns-in-36 : goal.returns-in-36
-returns-in-36 c = stands_string c.args.names.now c.args.size c.args.number _ _ c.front-used.ensures c.start_of-from.ensures c.name_end-end.ensures _ c.if-end-from.false c.clear.ensures c.in-36.is
+pub overflow_add-result : goal.overflow_add-result
+overflow_add-result c =
+    let there = stands_some _ _ _ _ c.front-used.ensures c.start_of-from.ensures _ _ (sym c.names_in.ensures ∙ c.in-Some.ensures.steps) c.bare_size.ensures refl in
+    omega (arith, (stands_within c.args.names.now c.args.size there).1, ap length c.front-used.ensures, c.front-used.type_inv)
 
-pub returns-in-40 : goal.returns-in-40
-returns-in-40 c = stands_array c.args.names.now c.args.size c.args.number _ _ c.front-used.ensures c.start_of-from.ensures c.name_end-end.ensures _ c.if-end-from.false c.clear.ensures c.in-40.is
+pub returns-in-Some : goal.returns-in-Some
+returns-in-Some c = stands_some _ _ _ _ c.front-used.ensures c.start_of-from.ensures _ _ (sym c.names_in.ensures ∙ c.in-Some.ensures.steps) c.bare_size.ensures c.by_kind.ensures
 
-pub returns-in_default : goal.returns-in_default
-returns-in_default c = stands_number c.args.names.now c.args.size c.args.number _ _ c.front-used.ensures c.start_of-from.ensures c.name_end-end.ensures _ c.if-end-from.false c.clear.ensures c.in_default.in_default-own.rest.0.1 c.in_default.in_default-own.rest.1
+pub returns-in-None : goal.returns-in-None
+returns-in-None c = stands_none _ _ _ _ c.front-used.ensures c.start_of-from.ensures (sym c.names_in.ensures ∙ c.in-None.ensures.steps.0)

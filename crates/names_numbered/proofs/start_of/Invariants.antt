@@ -1,13 +1,11 @@
--- The loop keeps: the names asked for are those passed, up to `at`, and `left` of those that follow.
-use Prim.Native.Nat.{◌+◌, ◌-◌, ◌≤◌}
+-- The loop keeps: the names asked for are those passed, up to `from`, and some of those that follow.
+use Rattle.std.proofs.Common.{◌≡◌, ◌+◌, length, take}
+use Rattle.std.specs.Iterator.Adapters.{take_source, take_count}
 use Rattle.paper.specs.Bytes.{joined}
 use Rattle.paper.specs.Names.{names_in}
-use lib.ListN.{drop, length, take}
-use mathlib.Core.Path.{◌≡◌}
+use Rattle.names_form.specs.Names.{coming}
 use Rattle.names_numbered.proofs.start_of.Given as goal
 
-abbrev pub invariant-loop-at : goal.invariant-loop-at
-invariant-loop-at l = (l.at ≤ length l.names) × (length (joined (take l.number (names_in l.names))) ≡ l.at + length (joined (take l.left (names_in (drop l.at l.names)))))
-
-abbrev pub decreases-loop-at : goal.decreases-loop-at
-decreases-loop-at l = length l.names - l.at
+abbrev pub invariant-loop-name : goal.invariant-loop-name
+invariant-loop-name l =
+    length (joined (take l.number (names_in l.names))) ≡ l.from + length (joined (take (take_count l.name-iterator) (coming (take_source l.name-iterator))))

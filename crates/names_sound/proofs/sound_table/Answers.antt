@@ -18,8 +18,5 @@ returns-then-not-is_closed c = no_end c.args.names.now c.args.size _ c.if-names-
 pub slice_bounds-are_lawful-end : goal.slice_bounds-are_lawful-end
 slice_bounds-are_lawful-end c = sym (length-take-le _ _ c.if-names-size.false)
 
-pub are_lawful-requires : goal.are_lawful-requires
-are_lawful-requires c = sym c.is_closed.ensures ∙ c.if-not-is_closed.false
-
 pub returns : goal.returns
 returns c = all_sound c.args.names.now c.args.size _ c.if-names-size.false c.if-count-gt-MOST_NAMES.false c.is_closed.ensures (c.if-not-is_closed.false) c.are_lawful.ensures

@@ -1,13 +1,10 @@
 -- The loop keeps: the names passed are counted, none of them is the name, so its number among all is that count and its number among those left.
-use Prim.Native.Nat.{◌+◌, ◌-◌, ◌≤◌}
+use Rattle.std.proofs.Common.{◌≡◌, ◌+◌, length}
 use Rattle.paper.specs.Names.{names_in, number_of}
-use lib.ListN.{drop, length}
-use mathlib.Core.List.{[], ◌++◌, ◌∷◌}
-use mathlib.Core.Path.{◌≡◌}
+use Rattle.names_form.specs.Names.{spelling, coming}
 use Rattle.names_form.proofs.table.find.Given as goal
 
-abbrev pub invariant-loop-at : goal.invariant-loop-at
-invariant-loop-at l = (l.at ≤ length l.table) × (l.number ≤ l.at) × (number_of (names_in l.table) (l.front ++ l.last ∷ []) ≡ l.number + number_of (names_in (drop l.at l.table)) (l.front ++ l.last ∷ [])) × (length (names_in l.table) ≡ l.number + length (names_in (drop l.at l.table)))
-
-abbrev pub decreases-loop-at : goal.decreases-loop-at
-decreases-loop-at l = length l.table - l.at
+abbrev pub invariant-loop-known : goal.invariant-loop-known
+invariant-loop-known l =
+    (number_of (names_in l.table) (spelling l.name) ≡ l.count + number_of (coming l.known-iterator) (spelling l.name))
+    × (length (names_in l.table) ≡ l.count + length (coming l.known-iterator))

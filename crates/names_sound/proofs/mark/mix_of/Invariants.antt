@@ -1,13 +1,8 @@
 -- The loop keeps: the mix is that of the bytes passed, and mixed with those left it is the name's.
-use Prim.Native.Nat.{◌-◌, ◌<◌}
+use Rattle.std.proofs.Common.{◌≡◌, ◌<◌, ◌++◌, ◌∷◌, [], drop}
+use Rattle.names_form.specs.Names.{spelling}
 use Rattle.names_sound.specs.Marks.{mix_of, mixed_on, mixes}
-use lib.ListN.{drop, length}
-use mathlib.Core.List.{[], ◌++◌, ◌∷◌}
-use mathlib.Core.Path.{◌≡◌}
 use Rattle.names_sound.proofs.mark.mix_of.Given as goal
 
-abbrev pub invariant-loop-i : goal.invariant-loop-i
-invariant-loop-i l = (l.of < mixes) × (mix_of (l.front ++ l.last ∷ []) ≡ mixed_on l.of (drop l.i l.front ++ l.last ∷ []))
-
-abbrev pub decreases-loop-i : goal.decreases-loop-i
-decreases-loop-i l = length l.front - l.i
+abbrev pub invariant-loop-b : goal.invariant-loop-b
+invariant-loop-b l = (l.of < mixes) × (mix_of (spelling l.name) ≡ mixed_on l.of (drop l.b-index l.name.front.now ++ l.name.last ∷ []))
