@@ -52,10 +52,9 @@ impl<'a> Spelling<'a> {
     pub fn bare_size(self) -> usize
         ensures { result ≡ length (less_open (spelling self.entry)) }
     {
-        if self.last == b'(' {
-            self.front.len()
-        } else {
-            self.front.len() + 1
+        match self.last {
+            b'(' => self.front.len(),
+            _ => self.size(),
         }
     }
 

@@ -62,6 +62,7 @@ pub fn names_in(bytes: &[u8]) -> Names
 pub fn find(table: &[u8], name: Spelling) -> Result<usize, usize>
     ensures { Finds (names_in table.now) (spelling name.entry) result }
 {
+    // Stays counted by hand: where none is the name, the count itself is the answer, and `position` would have to walk the names again for it.
     let mut count: usize = 0;
     for known in names_in(table) {
         if known == name {

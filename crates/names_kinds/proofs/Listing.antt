@@ -11,7 +11,7 @@ use Rattle.paper.specs.Words.{statement_word?}
 use Rattle.paper.specs.Classes.{numeric_variable, string_variable, array}
 use Rattle.paper.specs.Tokens.{variable, class, by_kind}
 use Rattle.paper.specs.Names.{less_open}
-use Rattle.names_kinds.specs.Kinds.{kind_of, kinds_of, class_bounds}
+use Rattle.names_kinds.specs.Kinds.{kind_of, kinds_of}
 
 -- the class of a variable, by the kind of its name
 pub class_made : (n : List ℕ) {k : ℕ} → k ≡ by_kind n numeric_variable string_variable array → k ≡ class (variable n)

@@ -1,17 +1,16 @@
 -- A name's number among the names of a table and the new names, and the bytes of a new one.
-use Prim.Native.Nat.{ℕ, zero, suc, ◌+◌, ◌-◌, ◌≤◌, ◌<◌}
+use Prim.Native.Nat.{ℕ, ◌+◌, ◌<◌}
 use native.Mathlib.Omega.{arith}
-use mathlib.Core.Path.{◌≡◌, refl, subst, sym, ap, ◌∙◌}
+use mathlib.Core.Path.{◌≡◌, refl, sym, ap, ◌∙◌}
 use mathlib.Core.Bool.{Bool, true, false}
 use mathlib.Core.List.{List, [], ◌∷◌, ◌++◌, append-nil}
-use lib.ListN.{length, take, get_or, set, length-append}
-use lib.Seq.{sets, take-suc, take_all}
+use lib.ListN.{length, set, length-append}
+use lib.Seq.{sets}
 use borrow.Author.Tests.{ltb-true}
-use Rattle.paper.specs.Bytes.{pick, every}
-use Rattle.paper.specs.Names.{names_in, marked, name_bytes, number_of, known?}
+use Rattle.paper.specs.Bytes.{every}
+use Rattle.paper.specs.Names.{marked, name_bytes, number_of, known?}
 use Rattle.buffers.specs.Sets.{sets_append}
-use Rattle.laws.specs.Names.{top_clear?, plain_name, plain_some, plain_low, every_first, every_rest, name_added, number_most, number_known, number_unknown, unknown_most, known_front, known_behind}
-use Rattle.names_numbered.specs.declared.Numbered.{Numbered}
+use Rattle.laws.specs.Names.{top_clear?, plain_name, plain_some, plain_low, every_first, every_rest, name_added, number_known, number_unknown, unknown_most, known_front, known_behind}
 use Rattle.names_numbered.specs.Answers.{spelled, Numbers}
 
 -- the bytes that a known name adds, and those of a new one

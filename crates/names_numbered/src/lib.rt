@@ -74,6 +74,7 @@ fn look_up(names: &[u8], fresh: &mut [u8], f: usize, name: Spelling) -> Numbered
 
 // The number of a name among the names of the lent table, and then among those that are new in this line, which are the first f bytes of `fresh`.
 // A name that is none of them is put there, and has the next number. The name is a part of the text, and a `(` if it is an array's.
+// Stays with `size` beside `names`, and f beside `fresh`: what Numbers promises is said of them, and the edit past_the_size mistakes one for the other.
 pub fn number_of(
     names: &[u8],
     size: usize,
@@ -178,6 +179,7 @@ fn start_of(names: &[u8], number: usize) -> usize
 }
 
 // The name with a number, of a table of `size` bytes.
+// Stays with `size` beside `names`: a size past the end of the bytes counts as their end, and a slice would ask the callers for one that is not.
 pub fn name_at(names: &[u8], size: usize, number: usize) -> Name
     ensures { Stands (names_in (take size names.now)) number result }
 {

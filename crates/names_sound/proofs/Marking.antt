@@ -14,7 +14,7 @@ use Rattle.std.specs.List.{AllWithin, HoldsAt}
 use Rattle.paper.specs.Bytes.{pick, same, every}
 use Rattle.paper.specs.Names.{number_of, known?}
 use Rattle.laws.specs.Names.{same_ne, less_known, most_unknown, every_append, every_first, every_rest}
-use Rattle.names_sound.specs.Marks.{places, mixes, mixed, mixed_on, mix_of, place_in, sign_in, many, marked?, one_more, Marks}
+use Rattle.names_sound.specs.Marks.{mixes, mixed, mixed_on, mix_of, place_in, sign_in, many, marked?, one_more, Marks}
 
 -- ---- a mix
 

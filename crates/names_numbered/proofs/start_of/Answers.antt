@@ -1,5 +1,4 @@
-use Rattle.std.proofs.Common.{arith, ap, ◌+◌, ◌∙◌, sym, length, take}
-use Rattle.paper.specs.Bytes.{joined}
+use Rattle.std.proofs.Common.{arith}
 use Rattle.names_numbered.specs.Standing.{start, start_within}
 use Rattle.names_numbered.proofs.Walking.{start_more, start_end}
 use Rattle.names_numbered.proofs.start_of.Goals as goal

@@ -1,4 +1,4 @@
-use Rattle.std.proofs.Common.{◌≡◌, ℕ, arith, sym, ◌∙◌}
+use Rattle.std.proofs.Common.{◌≡◌, ℕ, arith, ◌∙◌}
 use Rattle.names_sound.proofs.Soundness.{a_word, no_name, once, not_yes, not_no}
 use Rattle.names_sound.proofs.is_lawful.Goals as goal
 use Rattle.names_sound.proofs.is_lawful.Goals.{then-is_name, else-is_name}

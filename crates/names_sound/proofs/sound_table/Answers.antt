@@ -1,6 +1,6 @@
 use Rattle.names_sound.proofs.Soundness.{all_sound, no_end, too_many, too_short}
 use lib.Seq.{length-take-le}
-use mathlib.Core.Path.{◌∙◌, sym}
+use mathlib.Core.Path.{sym}
 use Rattle.names_sound.proofs.sound_table.Goals as goal
 
 pub returns-then-names-size : goal.returns-then-names-size

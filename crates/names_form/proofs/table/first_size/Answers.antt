@@ -1,5 +1,4 @@
-use Rattle.std.proofs.Common.{arith, drop, drop_of_length-le, ◌≡◌, length}
-use Rattle.names_form.specs.Tables.{first_size}
+use Rattle.std.proofs.Common.{arith}
 use Rattle.names_form.proofs.Walking.{ends_here, ends_later, ends_there}
 use Rattle.names_form.proofs.table.first_size.Goals as goal
 

@@ -1,4 +1,4 @@
-use Rattle.std.proofs.Common.{arith, length, ◌+◌}
+use Rattle.std.proofs.Common.{arith, length}
 use Rattle.names_form.proofs.Shapes.{array_written, other_written, bare_long, bare_other}
 use Rattle.std.proofs.Common.{length-append, ap, ◌∷◌, []}
 use Rattle.names_form.proofs.shape.Spelling.bare.Goals as goal

@@ -1,4 +1,3 @@
-use Rattle.std.proofs.Common.{◌∙◌, sym}
 use Rattle.names_form.proofs.Shapes.{kind_string, kind_array, kind_number}
 use Rattle.names_form.proofs.shape.Spelling.by_kind.Goals as goal
 

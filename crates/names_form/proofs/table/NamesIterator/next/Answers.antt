@@ -1,5 +1,4 @@
-use Rattle.std.proofs.Common.{◌≡◌, ◌∷◌, length, take, arith, rules, ap, ◌∙◌, sym}
-use Rattle.names_form.specs.Names.{spelling, coming}
+use Rattle.std.proofs.Common.{length, take, arith, rules, ap, ◌∙◌, sym}
 use Rattle.names_form.proofs.Walking.{no_bytes, name_first}
 use Rattle.names_form.proofs.table.NamesIterator.next.Goals as goal
 
