@@ -69,15 +69,15 @@ or_second : (a b : Bool) → b ≡ true → a || b ≡ true
 or_second true b e = refl
 or_second false b e = e
 
-pub unmarked_unknown : (n : List ℕ) {mix mark : ℕ} {marks : List ℕ} {ns : List (List ℕ)} → Marks marks ns → mix ≡ mix_of n → mark ≡ get_or marks (place_in mix) 0 → (mark ≡ many → ⊥) → (mark ≡ sign_in mix → ⊥) → false ≡ known? ns n
+pub unmarked_unknown : (n : List ℕ) {place mark : ℕ} {marks : List ℕ} {ns : List (List ℕ)} → Marks marks ns → place ≡ place_in (mix_of n) → mark ≡ get_or marks place 0 → (mark ≡ many → ⊥) → (mark ≡ sign_in (mix_of n) → ⊥) → false ≡ known? ns n
 unfolding number_of marked?
-unmarked_unknown n {mix} {mark} {marks} {ns} m p g h k = sym (most_unknown ns n (go ns m.set))
+unmarked_unknown n {place} {mark} {marks} {ns} m p g h k = sym (most_unknown ns n (go ns m.set))
   where
     other : (l : List ℕ) → marked? marks l ≡ true → same l n ≡ false
     other l t = same_ne l n (λ e.
-        let here : mix ≡ mix_of l = p ∙ ap mix_of (sym e) in
-        let at : get_or marks (place_in (mix_of l)) 0 ≡ mark = ap (λ (i : ℕ). get_or marks (place_in i) 0) (sym here) ∙ sym g in
-        let no : eqb (get_or marks (place_in (mix_of l)) 0) (sign_in (mix_of l)) ≡ false = ne_eqb _ _ (λ z. k (sym at ∙ z ∙ ap sign_in (sym here))) in
+        let here : mix_of l ≡ mix_of n = ap mix_of e in
+        let at : get_or marks (place_in (mix_of l)) 0 ≡ mark = ap (λ (i : ℕ). get_or marks (place_in i) 0) here ∙ ap (λ (i : ℕ). get_or marks i 0) (sym p) ∙ sym g in
+        let no : eqb (get_or marks (place_in (mix_of l)) 0) (sign_in (mix_of l)) ≡ false = ne_eqb _ _ (λ z. k (sym at ∙ z ∙ ap sign_in here)) in
         h (sym at ∙ eqb-true (get_or marks (place_in (mix_of l)) 0) many (second _ _ t no)))
 
     go : (ms : List (List ℕ)) → every (marked? marks) ms ≡ true → length ms ≤ number_of ms n

@@ -92,10 +92,10 @@ module _ {t : List ℕ} {count : ℕ} {marks : List ℕ} {number left : ℕ} {co
         let bad : lawful n (take number (names_in t)) ≡ false = ap (λ (k : ℕ). lawful n (take k (names_in t))) (sym h) ∙ sym l ∙ f in
         sym (p.rest ∙ ap (λ (ms : List (List ℕ)). sound_after (take number (names_in t)) ms left) here ∙ rw (bad) (and-false (ltb 0 left)))
 
-    pub one_passed : {r : Bool} {at next mix mark : ℕ} → (left ≡ 0 → ⊥) → at ≡ number → next ≡ number + 1 → mix ≡ mix_of n → mark ≡ one_more (get_or marks (place_in mix) 0) mix
-        → r ≡ lawful n (take at (names_in t)) → r ≡ true → Passed t count (set marks (place_in mix) mark) next (left - 1) ns
+    pub one_passed : {r : Bool} {at next place mark : ℕ} → (left ≡ 0 → ⊥) → at ≡ number → next ≡ number + 1 → place ≡ place_in (mix_of n) → mark ≡ one_more (get_or marks place 0) (mix_of n)
+        → r ≡ lawful n (take at (names_in t)) → r ≡ true → Passed t count (set marks place mark) next (left - 1) ns
     unfolding sound_after
-    one_passed {r} {at} {next} {mix} {mark} z h w e f l g =
+    one_passed {r} {at} {next} {place} {mark} z h w e f l g =
         let before = take number (names_in t) in
         let good : lawful n before ≡ true = ap (λ (k : ℕ). lawful n (take k (names_in t))) (sym h) ∙ sym l ∙ g in
         let some : ltb 0 left ≡ true = lt-ltb 0 left (positive left z) in
@@ -106,7 +106,9 @@ module _ {t : List ℕ} {count : ℕ} {marks : List ℕ} {number left : ℕ} {co
         record {
           all = whole ∙ ap (λ (l : List (List ℕ)). l ++ ns) (sym more);
           size = ap length more ∙ size;
-          marked = subst (Marks (set marks (place_in mix) mark)) (sym more) (marks_more n p.marked e f);
+          marked =
+              subst (Marks (set marks place mark)) (sym more)
+              (rw e (marks_more n p.marked refl (f ∙ ap (λ (k : ℕ). one_more (get_or marks k 0) (mix_of n)) e)));
           rest =
               p.rest ∙ ap (λ (ms : List (List ℕ)). sound_after before ms left) here ∙ rw (good, some) (ap (λ (l : List (List ℕ)). sound_after l ns (left - 1)) (sym more));
         }

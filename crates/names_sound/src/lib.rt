@@ -3,14 +3,14 @@
 
 mod mark;
 
-ghost use Rattle.std.specs.Prelude.{◌≡◌, ◌&&◌, [], ◌*◌, ◌<◌, leb, take};
+ghost use Rattle.std.specs.Prelude.{◌≡◌, ◌&&◌, [], ◌*◌, leb, take};
 ghost use Rattle.paper.specs.Names.{names_in, sound_table};
 ghost use Rattle.laws.specs.Names.{closed?};
 ghost use Rattle.names_form.specs.Names.{spelling};
 ghost use Rattle.names_sound.specs.Lawful.{lawful, sound_after};
-ghost use Rattle.names_sound.specs.Marks.{mixes, mix_of, Marks};
+ghost use Rattle.names_sound.specs.Marks.{Marks};
 
-use names_form::shape::Spelling;
+use mark::Mixed;
 use names_form::{MOST_NAMES, table};
 
 // Whether bytes are none, or end with a name's last byte.
@@ -23,18 +23,12 @@ fn is_closed(bytes: &[u8]) -> bool
     }
 }
 
-// Whether a name may stand in a table after the first so many names of some bytes, which are marked; its own mix is `mixed`.
-fn is_lawful(
-    bytes: &[u8],
-    number: usize,
-    marks: &[u8; mark::PLACES],
-    mixed: usize,
-    name: Spelling,
-) -> bool
-    requires { Marks marks.now (take number (names_in bytes.now)) × (mixed ≡ mix_of (spelling name)) × (mixed < mixes) }
-    ensures { result ≡ lawful (spelling name.entry) (take number (names_in bytes.now)) }
+// Whether a name may stand in a table after the first so many names of some bytes, which are marked.
+fn is_lawful(bytes: &[u8], number: usize, marks: &[u8; mark::PLACES], mixed: Mixed) -> bool
+    requires { Marks marks.now (take number (names_in bytes.now)) }
+    ensures { result ≡ lawful (spelling mixed.entry.name) (take number (names_in bytes.now)) }
 {
-    name.is_name() && !name.is_reserved() && !mark::is_known(bytes, number, marks, mixed, name)
+    mixed.name.is_name() && !mixed.name.is_reserved() && !mixed.is_known(bytes, number, marks)
 }
 
 // Whether bytes are this many names that a sound table may hold. Each name that may stand there is marked, for those after it.
@@ -46,12 +40,12 @@ fn are_marked(bytes: &[u8], count: usize, marks: &mut [u8; mark::PLACES]) -> boo
         if left == 0 {
             return false;
         }
-        let mixed = mark::mix_of(name);
-        if !is_lawful(bytes, number, marks, mixed, name) {
+        let mixed = Mixed::of(name);
+        if !is_lawful(bytes, number, marks, mixed) {
             return false;
         }
-        let place = mixed % mark::PLACES;
-        marks[place] = mark::one_more(marks[place], mixed);
+        let place = mixed.place();
+        marks[place] = mixed.one_more(marks[place]);
         left -= 1;
     }
     left == 0

@@ -3,7 +3,7 @@
 ghost use Rattle.std.specs.Prelude.{◌≡◌, ◌<◌, take};
 ghost use Rattle.paper.specs.Names.{names_in, known?};
 ghost use Rattle.names_form.specs.Names.{spelling};
-ghost use Rattle.names_sound.specs.Marks.{mixes, mixed, mix_of, sign_in, one_more, Marks};
+ghost use Rattle.names_sound.specs.Marks.{mixes, mixed, mix_of, place_in, sign_in, one_more, Marks};
 
 use names_form::shape::Spelling;
 use names_form::table;
@@ -25,7 +25,7 @@ fn mix(of: usize, b: u8) -> usize
 }
 
 // The mix of a name.
-pub(crate) fn mix_of(name: Spelling) -> usize
+fn mix_of(name: Spelling) -> usize
     ensures { result ≡ mix_of (spelling name.entry) }
 {
     let mut of: usize = 0;
@@ -35,38 +35,58 @@ pub(crate) fn mix_of(name: Spelling) -> usize
     mix(of, name.last)
 }
 
-// The sign of a name, from its mix.
-fn sign(of: usize) -> u8
-    requires { of < mixes }
-    ensures { result ≡ sign_in of }
-{
-    (of / PLACES + 1) as u8
+// A name with its mix.
+#[derive(Clone, Copy)]
+pub(crate) struct Mixed<'a> {
+    pub(crate) name: Spelling<'a>,
+    mix: usize,
+    ghost own: { mix ≡ mix_of (spelling name) },
 }
 
-// The mark of a place with one name more, from its own and the name's mix.
-pub(crate) fn one_more(mark: u8, of: usize) -> u8
-    requires { of < mixes }
-    ensures { result ≡ one_more mark of }
-{
-    if mark == 0 { sign(of) } else { MANY }
-}
-
-// Whether a name is among the first so many names of some bytes, all of which are marked; its own mix is `of`.
-pub(crate) fn is_known(
-    bytes: &[u8],
-    number: usize,
-    marks: &[u8; PLACES],
-    of: usize,
-    name: Spelling,
-) -> bool
-    requires { Marks marks.now (take number (names_in bytes.now)) × (of ≡ mix_of (spelling name)) × (of < mixes) }
-    ensures { result ≡ known? (take number (names_in bytes.now)) (spelling name.entry) }
-{
-    let mark = marks[of % PLACES];
-    if mark != MANY && mark != sign(of) {
-        return false;
+impl<'a> Mixed<'a> {
+    // The name with its mix.
+    pub(crate) fn of(name: Spelling<'a>) -> Mixed<'a>
+        ensures { result.name ≡ name.entry }
+    {
+        Mixed {
+            name,
+            mix: mix_of(name),
+        }
     }
-    table::names_in(bytes)
-        .take(number)
-        .any(|known| known == name)
+
+    // Its place.
+    pub(crate) fn place(self) -> usize
+        ensures { result ≡ place_in (mix_of (spelling self.entry.name)) }
+    {
+        self.mix % PLACES
+    }
+
+    // Its sign.
+    fn sign(self) -> u8
+        ensures { result ≡ sign_in (mix_of (spelling self.entry.name)) }
+    {
+        (self.mix / PLACES + 1) as u8
+    }
+
+    // The mark of its place with the name more, from the place's own.
+    pub(crate) fn one_more(self, mark: u8) -> u8
+        ensures { result ≡ one_more mark (mix_of (spelling self.entry.name)) }
+    {
+        if mark == 0 { self.sign() } else { MANY }
+    }
+
+    // Whether it is among the first so many names of some bytes, all of which are marked.
+    pub(crate) fn is_known(self, bytes: &[u8], number: usize, marks: &[u8; PLACES]) -> bool
+        requires { Marks marks.now (take number (names_in bytes.now)) }
+        ensures { result ≡ known? (take number (names_in bytes.now)) (spelling self.entry.name) }
+    {
+        let mark = marks[self.place()];
+        if mark != MANY && mark != self.sign() {
+            return false;
+        }
+        let name = self.name;
+        table::names_in(bytes)
+            .take(number)
+            .any(|known| known == name)
+    }
 }

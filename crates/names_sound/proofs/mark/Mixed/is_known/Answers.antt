@@ -5,14 +5,14 @@ use Rattle.paper.specs.Bytes.{same}
 use Rattle.paper.specs.Names.{names_in}
 use Rattle.names_form.specs.Names.{spelling, coming, same_parts}
 use Rattle.names_sound.proofs.Marking.{unmarked_unknown, any_known}
-use Rattle.names_sound.proofs.mark.is_known.Goals as goal
+use Rattle.names_sound.proofs.mark.Mixed.is_known.Goals as goal
 
 pub returns-then-mark-sign : goal.returns-then-mark-sign
-returns-then-mark-sign c = unmarked_unknown _ c.requires.0 c.requires.1 refl c.if-mark.true (λ z. c.if-mark-sign.true (z ∙ sym c.sign.ensures))
+returns-then-mark-sign c = unmarked_unknown _ c.requires c.place.ensures refl c.if-mark.true (λ z. c.if-mark-sign.true (z ∙ sym c.sign.ensures))
 
 pub returns : goal.returns
 returns c =
-    let name = spelling c.args.name in
+    let name = spelling c.args.self.name in
     let all = YieldsList-from_first spelling coming {s = c.names_in.result} (names_in c.args.bytes.now) c.names_in.ensures in
     any_known name (take c.args.number (names_in c.args.bytes.now)) c.any.result
     (cases_from_any c.any.new.self _ c.any.result (λ m. same m name ≡ true) (λ m. same m name ≡ false) c.any.ensures.ran (YieldsList-from_take c.args.number (YieldsList-at c.take.ensures.source all) c.take.ensures.count)

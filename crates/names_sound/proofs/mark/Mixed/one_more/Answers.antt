@@ -1,7 +1,7 @@
 use mathlib.Core.Path.{sym, ◌∙◌}
 use borrow.Author.Tests.{eq-eqb, ne_eqb}
 use Rattle.names_sound.specs.Marks.{one_more}
-use Rattle.names_sound.proofs.mark.one_more.Goals as goal
+use Rattle.names_sound.proofs.mark.Mixed.one_more.Goals as goal
 
 pub returns-then-mark-eq0 : goal.returns-then-mark-eq0
 unfolding one_more
