@@ -7,7 +7,7 @@ use Rattle.paper.specs.Frames.{want_operand, want_more_terms, want_array_open, w
 use Rattle.paper.specs.Machine.{take, leave, refuse, row, at_row}
 use Rattle.paper.specs.Grammar.{itself, for_strings, as_prefix, put, look}
 use Rattle.paper.specs.Open.{all_Bytes, all_Machine, all_Grammar}
-use Rattle.enter_item.specs.Tests.{joins?, compares?}
+use Rattle.enter_item.specs.Tests.{compares?}
 use Rattle.tokens.specs.Same.{no_bool}
 use Rattle.enter_item.specs.TookLaws.{sign?}
 
@@ -119,30 +119,6 @@ pub substring_else : (c : ℕ) → (c ≡ open_sign → ⊥) → look want_subst
 unfolding all_Bytes all_Machine all_Grammar
 substring_else c h0 = rw (ne_eqb c open_sign h0)
 
-pub more_row : (c : ℕ) → joins? c ≡ true → look want_more_terms c ≡ take itself (want_operand ∷ want_more_terms ∷ [])
-unfolding all_Bytes all_Machine all_Grammar joins?
-more_row c h = go (eqb c factor_sign) (eqb c plus_minus) (eqb c comparison) (eqb c equals) (eqb c or_and) h
-  where
-    go : (a b d e f : Bool) → pick a true (pick b true (pick d true (pick e true (pick f true false)))) ≡ true → at_row a (row want_more_terms factor_sign itself (want_operand ∷ want_more_terms ∷ [])) (at_row b (row want_more_terms plus_minus itself (want_operand ∷ want_more_terms ∷ [])) (at_row d (row want_more_terms comparison itself (want_operand ∷ want_more_terms ∷ [])) (at_row e (row want_more_terms equals itself (want_operand ∷ want_more_terms ∷ [])) (at_row f (row want_more_terms or_and itself (want_operand ∷ want_more_terms ∷ [])) (leave))))) ≡ take itself (want_operand ∷ want_more_terms ∷ [])
-    go true b d e f z = refl
-    go false true d e f z = refl
-    go false false true e f z = refl
-    go false false false true f z = refl
-    go false false false false true z = refl
-    go false false false false false z = no_bool z
-
-pub more_else : (c : ℕ) → joins? c ≡ false → look want_more_terms c ≡ leave
-unfolding all_Bytes all_Machine all_Grammar joins?
-more_else c h = go (eqb c factor_sign) (eqb c plus_minus) (eqb c comparison) (eqb c equals) (eqb c or_and) h
-  where
-    go : (a b d e f : Bool) → pick a true (pick b true (pick d true (pick e true (pick f true false)))) ≡ false → at_row a (row want_more_terms factor_sign itself (want_operand ∷ want_more_terms ∷ [])) (at_row b (row want_more_terms plus_minus itself (want_operand ∷ want_more_terms ∷ [])) (at_row d (row want_more_terms comparison itself (want_operand ∷ want_more_terms ∷ [])) (at_row e (row want_more_terms equals itself (want_operand ∷ want_more_terms ∷ [])) (at_row f (row want_more_terms or_and itself (want_operand ∷ want_more_terms ∷ [])) (leave))))) ≡ leave
-    go true b d e f z = no_bool (sym z)
-    go false true d e f z = no_bool (sym z)
-    go false false true e f z = no_bool (sym z)
-    go false false false true f z = no_bool (sym z)
-    go false false false false true z = no_bool (sym z)
-    go false false false false false z = refl
-
 pub compare_row : (c : ℕ) → compares? c ≡ true → look want_string_comparison c ≡ take for_strings (want_string ∷ [])
 unfolding all_Bytes all_Machine all_Grammar compares?
 compare_row c h = go (eqb c comparison) (eqb c equals) h
@@ -161,24 +137,11 @@ compare_else c h = go (eqb c comparison) (eqb c equals) h
     go false true z = no_bool (sym z)
     go false false z = refl
 
-literal : (c d : ℕ) → sign? d ≡ true → eqb c d ≡ true → sign? c ≡ true
+-- a class is a sign if it is one that is
+pub literal : (c d : ℕ) → sign? d ≡ true → eqb c d ≡ true → sign? c ≡ true
 literal c d h e = subst (λ (x : ℕ). sign? x ≡ true) (sym (eqb-true c d e)) h
 
--- the operators that join terms are signs
-pub joins_sign : (c : ℕ) → joins? c ≡ true → sign? c ≡ true
-unfolding joins?
-joins_sign c h = go (eqb c factor_sign) (eqb c plus_minus) (eqb c comparison) (eqb c equals) (eqb c or_and) refl refl refl refl refl h
-  where
-    go : (a b d e f : Bool) → eqb c factor_sign ≡ a → eqb c plus_minus ≡ b → eqb c comparison ≡ d → eqb c equals ≡ e → eqb c or_and ≡ f → pick a true (pick b true (pick d true (pick e true (pick f true false)))) ≡ true
-        → sign? c ≡ true
-    go true b d e f p q r s t z = literal c factor_sign refl p
-    go false true d e f p q r s t z = literal c plus_minus refl q
-    go false false true e f p q r s t z = literal c comparison refl r
-    go false false false true f p q r s t z = literal c equals refl s
-    go false false false false true p q r s t z = literal c or_and refl t
-    go false false false false false p q r s t z = no_bool z
-
--- and so are those that compare
+-- the operators that compare are signs
 pub compares_sign : (c : ℕ) → compares? c ≡ true → sign? c ≡ true
 unfolding compares?
 compares_sign c h = go (eqb c comparison) (eqb c equals) refl refl h

@@ -6,25 +6,11 @@ ghost use Rattle.paper.specs.Classes.{plus_minus, not_word};
 ghost use Rattle.paper.specs.Frames.{want_operand, want_more_terms, want_array_open, want_second, want_close, want_function_open, want_string, want_substring, want_string_comparison};
 ghost use Rattle.enter_item.specs.Says.{env_of, Asks, Says};
 ghost use Rattle.enter_item.specs.Sees.{Shows};
-ghost use Rattle.enter_item.specs.Tests.{joins?};
 
 use enter_item::{Draft, Seen, Spot, Text, compares, prefix_operator, see, string_operator};
+use grammar::joins_terms;
 use refusals::{Refusal, RefusedAt};
 use tokens::{OperatorToken, class};
-
-// Whether an item of a class joins terms.
-fn joins(class: u8) -> bool
-    ensures { result ≡ joins? class }
-{
-    match class {
-        class::FACTOR_SIGN => true,
-        class::PLUS_MINUS => true,
-        class::COMPARISON => true,
-        class::EQUALS => true,
-        class::OR_AND => true,
-        _ => false,
-    }
-}
 
 // An expression: terms, each joined to the one before it.
 #[cycle(terms)]
@@ -36,7 +22,7 @@ fn expression(text: Text, q: Spot, draft: &mut Draft) -> Result<Spot, RefusedAt>
     loop {
         let next = term(text, p, draft)?;
         let seen = see(text.part, next.at, false);
-        if !joins(seen.class) {
+        if !joins_terms(seen.class) {
             return Ok(next);
         }
         p = draft.token(next, seen.item.end, seen.own);

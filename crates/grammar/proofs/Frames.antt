@@ -1,7 +1,12 @@
 -- The frames of a word, written on a stack.
-use Rattle.std.proofs.Common.{◌≡◌, ℕ, zero, suc, ◌+◌, ◌<◌, ◌≤◌, List, [], ◌∷◌, ◌++◌, length, set, sym, refl, ap, ◌∙◌, ap₂, arith, length-set, get_or-set_other, get_or-set_same}
+use Rattle.std.proofs.Common.{◌≡◌, ℕ, zero, suc, ◌+◌, ◌/◌, ◌%◌, ◌^◌, ◌<◌, ◌≤◌, List, [], ◌∷◌, ◌++◌, length, set, sym, refl, ap, ◌∙◌, ap₂, arith, length-set, get_or-set_other, get_or-set_same}
 use lib.Seq.{sets}
-use Rattle.buffers.specs.Sets.{sets_append}
+use native.Mathlib.Numerals.{unary_clauses}
+use borrow.Rule.Slice.PartMut.{put_mid}
+use Rattle.std.specs.Int.{w64, to_le_bytes, byte_at, bytes_low_first}
+use Rattle.std.proofs.Math.Nat.{div-one, div-div-eq-div-mul}
+use Rattle.buffers.specs.Sets.{put_next}
+use Rattle.buffers.proofs.Room.{put_over}
 use Rattle.grammar.specs.Stack.{stack}
 use Rattle.grammar.specs.Tables.{digits, nine, onto}
 
@@ -46,29 +51,24 @@ pub nine_long : (n f : ℕ) → length (nine n f) ≡ 9
 unfolding digits
 nine_long n f = refl
 
--- ---- bytes written one after the other
+-- ---- nine bytes, eight of them a word's
 
--- one more
-put_next : (s t u : List ℕ) (at x : ℕ) (xs : List ℕ) → t ≡ sets s at xs → u ≡ set t (at + length xs) x → u ≡ sets s at (xs ++ x ∷ [])
-put_next s t u at x xs e f = f ∙ ap (λ (y : List ℕ). set y (at + length xs) x) e ∙ sym (sets_append s at xs (x ∷ []))
+byte_is : (i n : ℕ) → byte_at i n ≡ n / 256 ^ i % 256
+byte_is zero n = ap (λ (m : ℕ). m % 256) (sym (div-one n))
+byte_is (suc i) n = refl
 
--- nine
-pub nine_put : (s s₁ s₂ s₃ s₄ s₅ s₆ s₇ s₈ s₉ : List ℕ) (at a b c d e f g h i : ℕ) → s₁ ≡ set s at a → s₂ ≡ set s₁ (at + 1) b → s₃ ≡ set s₂ (at + 2) c → s₄ ≡ set s₃ (at + 3) d → s₅ ≡ set s₄ (at + 4) e
-    → s₆ ≡ set s₅ (at + 5) f → s₇ ≡ set s₆ (at + 6) g → s₈ ≡ set s₇ (at + 7) h → s₉ ≡ set s₈ (at + 8) i
-    → s₉ ≡ sets s at (a ∷ b ∷ c ∷ d ∷ e ∷ f ∷ g ∷ h ∷ i ∷ [])
-nine_put s s₁ s₂ s₃ s₄ s₅ s₆ s₇ s₈ s₉ at a b c d e f g h i q₁ q₂ q₃ q₄ q₅ q₆ q₇ q₈ q₉ =
-    put_next s s₈ s₉ at i (a ∷ b ∷ c ∷ d ∷ e ∷ f ∷ g ∷ h ∷ [])
-    (put_next s s₇ s₈ at h (a ∷ b ∷ c ∷ d ∷ e ∷ f ∷ g ∷ [])
-    (put_next s s₆ s₇ at g (a ∷ b ∷ c ∷ d ∷ e ∷ f ∷ [])
-    (put_next s s₅ s₆ at f (a ∷ b ∷ c ∷ d ∷ e ∷ [])
-    (put_next s s₄ s₅ at e (a ∷ b ∷ c ∷ d ∷ [])
-    (put_next s s₃ s₄ at d (a ∷ b ∷ c ∷ [])
-    (put_next s s₂ s₃ at c (a ∷ b ∷ [])
-    (put_next s s₁ s₂ at b (a ∷ []) q₁ q₂)
-    q₃)
-    q₄)
-    q₅)
-    q₆)
-    q₇)
-    q₈)
-    q₉
+bytes_from : (k i n m : ℕ) → m ≡ n / 256 ^ i → bytes_low_first i k n ≡ digits k m
+unfolding digits
+bytes_from zero i n m e = refl
+bytes_from (suc k) i n m e =
+    let next : m / 256 ≡ n / 256 ^ suc i = simp unary_clauses (ap (λ (x : ℕ). x / 256) e ∙ div-div-eq-div-mul n (256 ^ i) 256) in
+    ap₂ (λ (x : ℕ) (xs : List ℕ). x ∷ xs) (byte_is i n ∙ ap (λ (x : ℕ). x % 256) (sym e)) (bytes_from k (suc i) n (m / 256) next)
+
+-- a word's bytes as a number, and a ninth, written one after the other
+pub nine_put : {t u bs ys : List ℕ} {k : ℕ} (s : List ℕ) (at n f : ℕ) → bs ≡ to_le_bytes w64 n → ys ≡ bs → k ≡ 8 → at + 9 ≤ length s → t ≡ put_mid at k s ys → u ≡ set t (at + 8) f → u ≡ sets s at (nine n f)
+nine_put {t} {u} {bs} {ys} {k} s at n f b y z h p q =
+    let eight : ys ≡ digits 8 n = y ∙ b ∙ bytes_from 8 0 n n (sym (div-one n)) in
+    let long : length ys ≡ 8 = ap length (y ∙ b) in
+    let put : t ≡ sets s at (digits 8 n) = p ∙ put_over s ys at k (z ∙ sym long) (omega arith) ∙ ap (sets s at) eight in
+    let after : at + 8 ≡ at + length (digits 8 n) = ap (λ (j : ℕ). at + j) (sym (ap length (sym eight) ∙ long)) in
+    put_next s t u at f (digits 8 n) put (q ∙ ap (λ (j : ℕ). set t j f) after)

@@ -1,3 +1,4 @@
 pub mod Stack
 pub mod Tables
 pub mod Rows
+pub mod Joining

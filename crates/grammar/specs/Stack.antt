@@ -1,5 +1,5 @@
 -- The stack of frames in a buffer, and what it does with an item.
-use Rattle.std.specs.Prelude.{◌≡◌, ℕ, zero, suc, ◌+◌, ◌≤◌, Bool, true, false, List, [], ◌∷◌, ◌++◌, ◌==◌, ◌≢◌, slice_index, Option, Some, None}
+use Rattle.std.specs.Prelude.{◌≡◌, ℕ, zero, suc, ◌+◌, ◌≤◌, List, [], ◌∷◌, ◌++◌, ◌==◌, ◌≢◌, slice_index, Option, Some, None}
 use Rattle.paper.specs.Bytes.{pick}
 use Rattle.paper.specs.Machine.{take, leave, refuse, took, step}
 use Rattle.paper.specs.Grammar.{Gives, itself, for_strings, as_prefix, put, look}
@@ -33,8 +33,3 @@ pub record Acts (old : List ℕ) (at c : ℕ) (r : Act) (new : List ℕ) : Type 
 pub record Steps (old : List ℕ) (depth c : ℕ) (r : Option Taken) (new : List ℕ) : Type 0 where
   pub takes : (t : Taken) → r ≡ Some t → (step look (stack old depth) c ≡ took (gives_of t.gives) (stack new t.depth)) × (t.depth ≤ depth + 8)
   pub refuses : r ≡ None → (e : Gives) (gs : List ℕ) → step look (stack old depth) c ≢ took e gs
-
--- whether an item of a class joins terms: where more terms may follow it is taken, and wants an operand and more terms; any other is left
-pub record Joins (c : ℕ) (r : Bool) : Type 0 where
-  pub joins : r ≡ true → look 6 c ≡ take itself (5 ∷ 6 ∷ [])
-  pub leaves : r ≡ false → look 6 c ≡ leave

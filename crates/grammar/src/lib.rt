@@ -3,10 +3,11 @@
 
 mod rows;
 
-ghost use Rattle.std.specs.Prelude.{◌≡◌, ◌+◌, ◌<◌, ◌≤◌, true, T, [], length, slice_set};
+ghost use Rattle.std.specs.Prelude.{◌≡◌, ◌+◌, ◌<◌, ◌≤◌, true, T, [], length};
 ghost use Rattle.std.proofs.lemmas.List.Edits.{sets};
 ghost use Rattle.paper.specs.Machine.{take};
-ghost use Rattle.grammar.specs.Stack.{gives_of, Acts, Steps, Joins};
+ghost use Rattle.grammar.specs.Stack.{gives_of, Acts, Steps};
+ghost use Rattle.grammar.specs.Joining.{joins?};
 ghost use Rattle.paper.specs.Tokens.{operator};
 ghost use Rattle.paper.specs.Grammar.{itself, given, look};
 ghost use Rattle.laws.specs.Counts.{class_count};
@@ -40,36 +41,14 @@ fn act_of(frame: u8, class: u8) -> u8
     REFUSES
 }
 
-// Writes a frame at a place of a buffer.
-fn put_frame(frames: &mut [u8], at: usize, frame: u8)
-    requires { at < length frames.old }
-    ensures { frames.new ≡ slice_set frames.old at frame }
-{
-    frames[at] = frame;
-}
-
 // Writes the eight frames of a word and a ninth from a place of a buffer on, the lowest first. All nine are written, however few of them count: the compiler
 // makes one write of the first eight.
 fn put_frames(frames: &mut [u8], at: usize, word: u64, ninth: u8)
     requires { at + 9 ≤ length frames.old }
     ensures { frames.new ≡ sets frames.old at (nine word ninth) }
 {
-    let above_1 = word / 256;
-    let above_2 = above_1 / 256;
-    let above_3 = above_2 / 256;
-    let above_4 = above_3 / 256;
-    let above_5 = above_4 / 256;
-    let above_6 = above_5 / 256;
-    let above_7 = above_6 / 256;
-    put_frame(frames, at, (word % 256) as u8);
-    put_frame(frames, at + 1, (above_1 % 256) as u8);
-    put_frame(frames, at + 2, (above_2 % 256) as u8);
-    put_frame(frames, at + 3, (above_3 % 256) as u8);
-    put_frame(frames, at + 4, (above_4 % 256) as u8);
-    put_frame(frames, at + 5, (above_5 % 256) as u8);
-    put_frame(frames, at + 6, (above_6 % 256) as u8);
-    put_frame(frames, at + 7, (above_7 % 256) as u8);
-    put_frame(frames, at + 8, ninth);
+    frames[at..at + 8].copy_from_slice(&word.to_le_bytes());
+    frames[at + 8] = ninth;
 }
 
 // What is given for an item that a stack took, by its number, and how many frames the stack has then.
@@ -140,11 +119,7 @@ fn is_last(frame: u8, class: u8) -> bool
 {
     match frame {
         END => class == class::LINE_END,
-        OPERAND => match class {
-            class::NUMBER => true,
-            class::NUMERIC_VARIABLE => true,
-            _ => false,
-        },
+        OPERAND => matches!(class, class::NUMBER | class::NUMERIC_VARIABLE),
         CLOSE => class == class::CLOSE_SIGN,
         COMMA => class == class::COMMA,
         _ => false,
@@ -152,18 +127,13 @@ fn is_last(frame: u8, class: u8) -> bool
 }
 
 // Whether items of a class join terms: `=`, comparisons, signs and factors, OR, AND.
-fn joins_terms(class: u8) -> bool
-    requires { class < class_count }
-    ensures { Joins class result }
+pub fn joins_terms(class: u8) -> bool
+    ensures { result ≡ joins? class }
 {
-    match class {
-        class::EQUALS => true,
-        class::COMPARISON => true,
-        class::PLUS_MINUS => true,
-        class::FACTOR_SIGN => true,
-        class::OR_AND => true,
-        _ => false,
-    }
+    matches!(
+        class,
+        class::FACTOR_SIGN | class::PLUS_MINUS | class::COMPARISON | class::EQUALS | class::OR_AND
+    )
 }
 
 // How a stack takes an item, as `take_item` says it; that its last frame takes the item and wants nothing is seen without the table.
@@ -171,10 +141,7 @@ fn take_last(frames: &mut [u8], depth: usize, class: u8) -> Option<Taken>
     requires { (depth + 8 ≤ length frames.old) × (class < class_count) }
     ensures { Steps frames.old depth class result frames.new }
 {
-    if depth == 0 {
-        return None;
-    }
-    let top = depth - 1;
+    let top = depth.checked_sub(1)?;
     if is_last(frames[top], class) {
         return Some(Taken {
             gives: 0,
@@ -189,10 +156,7 @@ pub fn take_next(frames: &mut [u8], depth: usize, class: u8) -> Option<Taken>
     requires { (depth + 8 ≤ length frames.old) × (class < class_count) }
     ensures { Steps frames.old depth class result frames.new }
 {
-    if depth == 0 {
-        return None;
-    }
-    let top = depth - 1;
+    let top = depth.checked_sub(1)?;
     if frames[top] != MORE_TERMS {
         return take_last(frames, depth, class);
     }

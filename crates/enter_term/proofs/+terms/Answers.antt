@@ -9,8 +9,9 @@ use Rattle.paper.specs.Grammar.{look, itself}
 use Rattle.enter_item.specs.ClassLaws.{closing}
 use Rattle.enter_item.specs.Laws.{says_then, says_first, takes, takes_last, leaves, refuses, alike, counts}
 use Rattle.enter_item.specs.TookLaws.{shifted, took_put, took_own, took_prefix, took_compare, hit_put, expects_put, expects_own, sign}
-use Rattle.enter_item.specs.Rows.{operand_sign, operand_not, operand_number, operand_numeric, operand_array, operand_open, operand_of_string, operand_of_number, operand_quoted, operand_string, operand_function, operand_else, string_quoted, string_string, string_function_row, string_else, close_row, close_else, function_open_row, function_open_else, array_open_row, array_open_else, second_comma, second_close, second_else, substring_open, substring_else, more_else, joins_sign, compare_row, compare_else, compares_sign}
-use Rattle.enter_term.specs.Onward.{onward_first, onward_takes, onward_joins}
+use Rattle.enter_item.specs.Rows.{operand_sign, operand_not, operand_number, operand_numeric, operand_array, operand_open, operand_of_string, operand_of_number, operand_quoted, operand_string, operand_function, operand_else, string_quoted, string_string, string_function_row, string_else, close_row, close_else, function_open_row, function_open_else, array_open_row, array_open_else, second_comma, second_close, second_else, substring_open, substring_else, compare_row, compare_else, compares_sign}
+use Rattle.grammar.specs.Joining.{more_else}
+use Rattle.enter_term.specs.Onward.{joins_sign, onward_first, onward_takes, onward_joins}
 use Rattle.enter_term.proofs.+terms.Goals as goal
 
 pub argument-expect-requires : goal.argument-expect-requires
@@ -92,13 +93,13 @@ pub expression-token-p-requires : goal.expression-token-p-requires
 expression-token-p-requires t c = let next = c.in_ok-next.was in let term = c.term.ensures.got in omega (arith, (term _ next).asks.few, (term _ next).asks.short, (term _ next).asks.within)
 
 pub expression-loop-next-smaller : goal.expression-loop-next-smaller
-expression-loop-next-smaller t c = let token = c.token-p.ensures in let if1 = c.if-not-joins.false in let joins = c.joins.ensures in let see = c.see-seen in let next = c.in_ok-next.was in let term = c.term.ensures.got in let took = took_own see.result.class (joins_sign see.result.class (sym (joins) ∙ if1)) (term _ (next)).asks (see.ensures.next _ _) (sym see.ensures.class) see.ensures.own token.0 token.1 in omega (arith, (term _ next).ahead, took.pass.ahead, took.pass.asks.within)
+expression-loop-next-smaller t c = let token = c.token-p.ensures in let if1 = c.if-not-joins_terms.false in let joins = c.joins_terms.ensures in let see = c.see-seen in let next = c.in_ok-next.was in let term = c.term.ensures.got in let took = took_own see.result.class (joins_sign see.result.class (sym (joins) ∙ if1)) (term _ (next)).asks (see.ensures.next _ _) (sym see.ensures.class) see.ensures.own token.0 token.1 in omega (arith, (term _ next).ahead, took.pass.ahead, took.pass.asks.within)
 
 pub expression-loop-next-preserved : goal.expression-loop-next-preserved
-expression-loop-next-preserved t c = let token = c.token-p in let if1 = c.if-not-joins.false in let joins = c.joins.ensures in let see = c.see-seen in let next = c.in_ok-next.was in let term = c.term in let loop = c.loop-next.invariant in onward_joins see.result.class (sym joins ∙ if1) (sym see.ensures.class) loop (term.ensures.got _ next) (took_own see.result.class (joins_sign see.result.class (sym joins ∙ if1)) (term.ensures.got _ next).asks (see.ensures.next _ _) (sym see.ensures.class) see.ensures.own token.ensures.0 token.ensures.1)
+expression-loop-next-preserved t c = let token = c.token-p in let if1 = c.if-not-joins_terms.false in let joins = c.joins_terms.ensures in let see = c.see-seen in let next = c.in_ok-next.was in let term = c.term in let loop = c.loop-next.invariant in onward_joins see.result.class (sym joins ∙ if1) (sym see.ensures.class) loop (term.ensures.got _ next) (took_own see.result.class (joins_sign see.result.class (sym joins ∙ if1)) (term.ensures.got _ next).asks (see.ensures.next _ _) (sym see.ensures.class) see.ensures.own token.ensures.0 token.ensures.1)
 
-pub expression-returns-then-not-joins : goal.expression-returns-then-not-joins
-expression-returns-then-not-joins t c = let see = c.see-seen in let next = c.in_ok-next.was in let term = c.term.ensures.got in c.loop-next.invariant.goes _ _ (says_then (term _ next) (leaves want_more_terms (term _ next).asks (see.ensures.next _ _) (ap (look want_more_terms) (sym see.ensures.class) ∙ more_else see.result.class (sym c.joins.ensures ∙ c.if-not-joins.true))))
+pub expression-returns-then-not-joins_terms : goal.expression-returns-then-not-joins_terms
+expression-returns-then-not-joins_terms t c = let see = c.see-seen in let next = c.in_ok-next.was in let term = c.term.ensures.got in c.loop-next.invariant.goes _ _ (says_then (term _ next) (leaves want_more_terms (term _ next).asks (see.ensures.next _ _) (ap (look want_more_terms) (sym see.ensures.class) ∙ more_else see.result.class (sym c.joins_terms.ensures ∙ c.if-not-joins_terms.true))))
 
 pub expression-returns-in_err-next : goal.expression-returns-in_err-next
 expression-returns-in_err-next t c = let e = err_from_is_err_and c.from_residual.result c.from_residual.ensures.1 in rw (e.1, e.2) (c.loop-next.invariant.goes _ _ (says_first (want_more_terms ∷ []) c.term.ensures c.in_err-next.was))

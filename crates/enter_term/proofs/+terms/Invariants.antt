@@ -1,5 +1,5 @@
-use mathlib.Core.List.{[], ◌∷◌}
 use lib.ListN.{length}
+use mathlib.Core.List.{[], ◌∷◌}
 use Rattle.paper.specs.Frames.{want_operand, want_more_terms}
 use Rattle.enter_item.specs.Says.{env_of}
 use Rattle.enter_term.specs.Onward.{Onward}
