@@ -7,10 +7,10 @@ ghost use Rattle.editor_edit.specs.States.{state};
 ghost use Rattle.file_load.specs.Answers.{opened, parted, placed, loaded};
 ghost use Rattle.editor_edit.specs.declared.Editor.{Editor};
 
-use buffers::{byte_at, copy};
+use buffers::copy;
 use editor_edit::Editor;
 use refusals::Refusal;
-use store::{program_counts, room_of};
+use store::{heads, program_counts, room_of};
 
 // How many bytes the words take.
 pub const HEAD: usize = 14;
@@ -18,14 +18,12 @@ pub const HEAD: usize = 14;
 // How many words follow the first.
 const LATER_WORDS: usize = 6;
 
-// A word of a file, counted from 0.
+// A word of a file, counted from 0: two bytes, low byte first, as a line's number is.
 pub fn word(file: &[u8], i: usize) -> usize
     requires { i ≤ 6 }
     ensures { (result ≡ word_at file.now i) × (result ≤ 65535) }
 {
-    let low = byte_at(file, 2 * i) as usize;
-    let high = byte_at(file, 2 * i + 1) as usize;
-    low + 256 * high
+    heads::number(file.get(2 * i..).unwrap_or(&[]))
 }
 
 // Whether no word of a file is below the one before it.
@@ -100,6 +98,7 @@ pub fn open(file: &[u8]) -> Result<Editor, Refusal>
 }
 
 // Copies the program that a file holds to the fronts of lent buffers, or refuses with 8 where one is too small.
+// Stays with the file and its record apart: the edit zero_byte_as_value gives one of the parts another place in the file.
 fn place(
     file: &[u8],
     held: Editor,
@@ -126,6 +125,7 @@ fn place(
 
 // Reads a file into lent buffers, whatever they held, and returns the record of its program; or refuses it with 12, 13, 1 or 8 and changes nothing. The caller's
 // record is then as it was.
+// Stays with each buffer lent by itself: the export to C lends them so.
 pub fn load(
     file: &[u8],
     names: &mut [u8],

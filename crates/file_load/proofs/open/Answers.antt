@@ -14,8 +14,5 @@ returns-then-file-lt-HEAD c =
 pub returns-then-not-words_right : goal.returns-then-not-words_right
 returns-then-not-words_right c = opened_wrong c.args.file.now (sym c.word.ensures.0 ∙ c.if-word-ne0.false) (omega arith) (sym c.words_right.ensures ∙ c.if-not-words_right.true)
 
-pub tables-requires : goal.tables-requires
-tables-requires c = (omega arith, sym c.words_right.ensures ∙ c.if-not-words_right.false)
-
 pub returns : goal.returns
 returns c = opened_right c.args.file.now (sym c.word.ensures.0 ∙ c.if-word-ne0.false) (omega arith) (sym c.words_right.ensures ∙ c.if-not-words_right.false) _ c.tables.ensures
