@@ -27,6 +27,7 @@ pub struct Left {
 }
 
 // Keeps the names of a table of so many bytes whose marks are not 0, and their values with the new numbers; a mark becomes the new number of its name.
+// Stays over three buffers, with `name_bytes` beside `names`: they are the rooms that a caller lends, and Leaves says of each whole room what it holds.
 pub fn keep_marked(names: &mut [u8], name_bytes: usize, values: &mut [u8], marks: &mut [u8]) -> Left
     requires { Tabled names.old name_bytes values.old × (length marks.old ≡ most_names) }
     ensures { Leaves names.old name_bytes values.old marks.old result names.new values.new marks.new }

@@ -148,6 +148,7 @@ fn put_values(values: &mut [u8], count: usize, fresh: &[u8])
 }
 
 // Puts the new names of some bytes behind the `count` names of a table of `size` bytes, with their value entries.
+// Stays with `size` and `count` beside the two rooms: it writes behind them, and promises what the whole rooms hold then.
 pub fn add(names: &mut [u8], size: usize, values: &mut [u8], count: usize, fresh: &[u8])
     requires { Room names.old size values.old count fresh.now }
     ensures names_after { names.new ≡ overwritten (take size names.old ++ name_bytes (names_in fresh.now)) names.old }

@@ -63,6 +63,7 @@ fn are_lawful(bytes: &[u8], count: usize) -> bool
 }
 
 // Whether a name table of `size` bytes and `count` names is sound.
+// Stays with `size` beside `names`: it is a test of both, and a size past the end of the bytes is an answer of its own.
 pub fn sound_table(names: &[u8], size: usize, count: usize) -> bool
     ensures { result ≡ sound_table names.now size count }
 {
