@@ -1,5 +1,5 @@
 -- A statement from its first item and its rest, and a line from its statements.
-use Rattle.std.specs.Prelude.{ℕ, ◌+◌, ◌≤◌, ◌<◌, ◌≡◌, Bool, drop, set}
+use Rattle.std.specs.Prelude.{ℕ, ◌+◌, ◌≤◌, ◌<◌, ◌≡◌, Bool, drop, set, Result, Ok, Err}
 use Rattle.std.proofs.Common.{arith, subst, sym, ◌∙◌, length-drop, drop-drop}
 use Rattle.std.proofs.Math.Path.{ap}
 use Rattle.std.proofs.Math.Bool.{true}
@@ -26,10 +26,10 @@ use Rattle.enter_statement.specs.Ends.{Halts, Reads}
 use Rattle.enter_statement.specs.EndLaws.{taken_left}
 use Rattle.enter_statements.specs.Lines.{Lined, Began, Follows, Finishes, States, Tells}
 use Rattle.enter_item.specs.declared.Spot.{Spot}
-use Rattle.enter_item.specs.declared.Step.{Step}
-use Rattle.enter_item.specs.declared.Step.TheVariants.{Done, Refused as Halted}
 use Rattle.enter_statement.specs.declared.Ended.{Ended}
-use Rattle.enter_statement.specs.declared.Ended.TheVariants.{More, Last, Refused}
+use Rattle.enter_statement.specs.declared.Ended.TheVariants.{More, Last}
+use Rattle.refusals.specs.Numbers.{number_of}
+use Rattle.refusals.specs.declared.RefusedAt.{RefusedAt}
 
 -- ---- the part of a text after a place
 
@@ -102,7 +102,7 @@ starts_append [] us h k = k
 starts_append (t ∷ ts) us h k = h
 
 -- a statement, and then all others
-pub tells_more : {E : Env} {q q₁ : Spot} {m m₁ m₂ : Mem} {r : Step} → Follows E q m q₁ m₁ → Tells E q₁ m₁ m₂ r → Tells E q m m₂ r
+pub tells_more : {E : Env} {q q₁ : Spot} {m m₁ m₂ : Mem} {r : Result Spot RefusedAt} → Follows E q m q₁ m₁ → Tells E q₁ m₁ m₂ r → Tells E q m m₂ r
 tells_more {E} {q} {q₁} {m} {m₁} {m₂} {r} a b = record {
   done = λ z e.
       let c = b.done z e in
@@ -115,33 +115,32 @@ tells_more {E} {q} {q₁} {m} {m₁} {m₂} {r} a b = record {
         few = c.few;
         named = c.named;
       };
-  stop = λ k p e.
-      let c = b.stop k p e in
-      record { ts = a.ts ++ c.ts; item = c.item; rest = c.rest; ran = a.ran ∙ ap (all_taken a.ts) c.ran ∙ taken_bad a.ts k c.ts (c.item ∷ c.rest); place = c.place };
+  stop = λ x e.
+      let c = b.stop x e in
+      record { ts = a.ts ++ c.ts; item = c.item; rest = c.rest; ran = a.ran ∙ ap (all_taken a.ts) c.ran ∙ taken_bad a.ts (number_of x.refusal) c.ts (c.item ∷ c.rest); place = c.place };
 }
 
-pub tells_done : {E : Env} {q q' : Spot} {m m' : Mem} → Finishes E q m q' m' → Tells E q m m' (Done q')
+pub tells_done : {E : Env} {q q' : Spot} {m m' : Mem} → Finishes E q m q' m' → Tells E q m m' (Ok q')
 tells_done {E} {q} {q'} {m} {m'} a = record {
   done = λ z e. let i : q' ≡ z = cc in subst (λ (x : Spot). Finishes E q m x m') i a;
-  stop = λ k p e. let x : ◌≡◌ {A = ℕ} 0 1 = cc in absurd (omega arith);
+  stop = λ z e. let x : ◌≡◌ {A = ℕ} 0 1 = cc in absurd (omega arith);
 }
 
-pub tells_stop : {E : Env} {q : Spot} {k p : ℕ} (m m' : Mem) → Halts (want_statement ∷ []) (items_at E true q.at) k p → Tells E q m m' (Halted k p)
-tells_stop {E} {q} {k} {p} m m' g = record {
+pub tells_stop : {E : Env} {q : Spot} {r : RefusedAt} (m m' : Mem) → Halts (want_statement ∷ []) (items_at E true q.at) (number_of r.refusal) r.place → Tells E q m m' (Err r)
+tells_stop {E} {q} {r} m m' g = record {
   done = λ z e. let x : ◌≡◌ {A = ℕ} 0 1 = cc in absurd (omega arith);
-  stop = λ n r e. let h : k ≡ n = cc in let i : p ≡ r = cc in
-      subst (λ (x : ℕ). Halts (want_statement ∷ []) (items_at E true q.at) n x) i (subst (λ (x : ℕ). Halts (want_statement ∷ []) (items_at E true q.at) x p) h g);
+  stop = λ z e. let h : r ≡ z = cc in subst (λ (x : RefusedAt). Halts (want_statement ∷ []) (items_at E true q.at) (number_of x.refusal) x.place) h g;
 }
 
 -- ---- a statement from its first item and its rest
 
-module _ {s n : List ℕ} {o e : ℕ} {q q₁ : Spot} {m m₁ m₂ : Mem} {i : Item} {is : List Item} {r : Ended} (fs : List ℕ)
+module _ {s n : List ℕ} {o e : ℕ} {q q₁ : Spot} {m m₁ m₂ : Mem} {i : Item} {is : List Item} {r : Result Ended RefusedAt} (fs : List ℕ)
     (here : items_at (env s o n) true q.at ≡ i ∷ is) (row : look_in_range want_statement i ≡ takes_item itself fs)
     (began : Began (env s o n) q m i.token e q₁ m₁) (ahead : q.at < e) (rest : Reads fs is (env (drop e s) (o + e) n) (spot 0 q₁.written q₁.named) m₁ m₂ r) where
   ran_first : (x : Run Gives Item) → read look_in_range fs is ≡ x → read look_in_range (want_statement ∷ []) (items_at (env s o n) true q.at) ≡ and_taken (taken itself i) x
   ran_first x h = ap (read look_in_range (want_statement ∷ [])) here ∙ read_take want_statement itself fs i is row ∙ ap (and_taken (taken itself i)) h
 
-  pub states_more : {q₂ : Spot} {b : ℕ} {new : List ℕ} → r ≡ More q₂ → b ≡ low q₂.written → new ≡ set m₂.line q.written b
+  pub states_more : {q₂ : Spot} {b : ℕ} {new : List ℕ} → r ≡ Ok (More q₂) → b ≡ low q₂.written → new ≡ set m₂.line q.written b
       → Follows (env s o n) q m (spot (e + q₂.at) q₂.written q₂.named) (mem new m₂.fresh)
   unfolding all_taken and_taken tokens_of given Starts
   states_more {q₂} {b} {new} x v w =
@@ -155,7 +154,7 @@ module _ {s n : List ℕ} {o e : ℕ} {q q₁ : Spot} {m m₁ m₂ : Mem} {i : I
         ahead = omega arith;
       }
 
-  pub states_last : {q₂ : Spot} {b : ℕ} {new : List ℕ} (z : ℕ) → r ≡ Last q₂ → b ≡ low q₂.written → new ≡ set m₂.line q.written b
+  pub states_last : {q₂ : Spot} {b : ℕ} {new : List ℕ} (z : ℕ) → r ≡ Ok (Last q₂) → b ≡ low q₂.written → new ≡ set m₂.line q.written b
       → Finishes (env s o n) q m (spot z q₂.written q₂.named) (mem new m₂.fresh)
   unfolding and_taken tokens_of given Starts
   states_last {q₂} {b} {new} z x v w =
@@ -169,32 +168,31 @@ module _ {s n : List ℕ} {o e : ℕ} {q q₁ : Spot} {m m₁ m₂ : Mem} {i : I
         named = c.named;
       }
 
-  pub states_halt : {k p : ℕ} → r ≡ Refused k p → Halts (want_statement ∷ []) (items_at (env s o n) true q.at) k p
+  pub states_halt : {h : RefusedAt} → r ≡ Err h → Halts (want_statement ∷ []) (items_at (env s o n) true q.at) (number_of h.refusal) h.place
   unfolding and_taken
-  states_halt {k} {p} x =
-      let c = rest.stop k p x in
+  states_halt {h} x =
+      let c = rest.stop h x in
       record { ts = taken itself i ∷ c.ts; item = c.item; rest = c.rest; ran = ran_first _ c.ran; place = c.place }
 
 -- ---- the three answers
 
-pub says_more : {E : Env} {q q' : Spot} {m m' : Mem} → Follows E q m q' m' → States E q m m' (More q')
+pub says_more : {E : Env} {q q' : Spot} {m m' : Mem} → Follows E q m q' m' → States E q m m' (Ok (More q'))
 says_more {E} {q} {q'} {m} {m'} a = record {
   more = λ z e. let i : q' ≡ z = cc in subst (λ (x : Spot). Follows E q m x m') i a;
   last = λ z e. let x : ◌≡◌ {A = ℕ} 0 1 = cc in absurd (omega arith);
-  stop = λ k p e. let x : ◌≡◌ {A = ℕ} 0 1 = cc in absurd (omega arith);
+  stop = λ z e. let x : ◌≡◌ {A = ℕ} 0 1 = cc in absurd (omega arith);
 }
 
-pub says_last : {E : Env} {q q' : Spot} {m m' : Mem} → Finishes E q m q' m' → States E q m m' (Last q')
+pub says_last : {E : Env} {q q' : Spot} {m m' : Mem} → Finishes E q m q' m' → States E q m m' (Ok (Last q'))
 says_last {E} {q} {q'} {m} {m'} a = record {
   more = λ z e. let x : ◌≡◌ {A = ℕ} 0 1 = cc in absurd (omega arith);
   last = λ z e. let i : q' ≡ z = cc in subst (λ (x : Spot). Finishes E q m x m') i a;
-  stop = λ k p e. let x : ◌≡◌ {A = ℕ} 0 1 = cc in absurd (omega arith);
+  stop = λ z e. let x : ◌≡◌ {A = ℕ} 0 1 = cc in absurd (omega arith);
 }
 
-pub says_halt : {E : Env} {q : Spot} {k p : ℕ} (m m' : Mem) → Halts (want_statement ∷ []) (items_at E true q.at) k p → States E q m m' (Refused k p)
-says_halt {E} {q} {k} {p} m m' g = record {
+pub says_halt : {E : Env} {q : Spot} {r : RefusedAt} (m m' : Mem) → Halts (want_statement ∷ []) (items_at E true q.at) (number_of r.refusal) r.place → States E q m m' (Err r)
+says_halt {E} {q} {r} m m' g = record {
   more = λ z e. let x : ◌≡◌ {A = ℕ} 0 1 = cc in absurd (omega arith);
   last = λ z e. let x : ◌≡◌ {A = ℕ} 0 1 = cc in absurd (omega arith);
-  stop = λ c r e. let h : k ≡ c = cc in let i : p ≡ r = cc in
-      subst (λ (x : ℕ). Halts (want_statement ∷ []) (items_at E true q.at) c x) i (subst (λ (x : ℕ). Halts (want_statement ∷ []) (items_at E true q.at) x p) h g);
+  stop = λ z e. let h : r ≡ z = cc in subst (λ (x : RefusedAt). Halts (want_statement ∷ []) (items_at E true q.at) (number_of x.refusal) x.place) h g;
 }

@@ -1,5 +1,5 @@
 -- What the readers of statements and of a whole line say.
-use Rattle.std.specs.Prelude.{ℕ, ◌+◌, ◌≤◌, ◌<◌, ◌≡◌, true, false, List, [], ◌∷◌, eqb, length, drop}
+use Rattle.std.specs.Prelude.{ℕ, ◌+◌, ◌≤◌, ◌<◌, ◌≡◌, true, false, List, [], ◌∷◌, eqb, length, drop, Result, Ok, Err}
 use Rattle.std.proofs.lemmas.List.Edits.{sets}
 use Rattle.paper.specs.Tokens.{Token}
 use Rattle.paper.specs.Names.{name_bytes, add_names}
@@ -18,10 +18,10 @@ use Rattle.enter_item.specs.DraftLaws.{Starts}
 use Rattle.enter_item.specs.Says.{Env, Mem, Asks, Wrote, items_at, known}
 use Rattle.enter_statement.specs.Ends.{Halts}
 use Rattle.enter_item.specs.declared.Spot.{Spot}
-use Rattle.enter_item.specs.declared.Step.{Step}
-use Rattle.enter_item.specs.declared.Step.TheVariants.{Done, Refused as Halted}
 use Rattle.enter_statement.specs.declared.Ended.{Ended}
-use Rattle.enter_statement.specs.declared.Ended.TheVariants.{More, Last, Refused}
+use Rattle.enter_statement.specs.declared.Ended.TheVariants.{More, Last}
+use Rattle.refusals.specs.Numbers.{number_of}
+use Rattle.refusals.specs.declared.RefusedAt.{RefusedAt}
 
 -- whole statements were written, each with its offset
 pub record Lined (E : Env) (q : Spot) (m : Mem) (us : List Token) (q' : Spot) (m' : Mem) : Type 0 where
@@ -57,15 +57,15 @@ pub record Finishes (E : Env) (q : Spot) (m : Mem) (q' : Spot) (m' : Mem) : Type
   pub named : q'.named ≤ 240
 
 -- what the reader of a statement says
-pub record States (E : Env) (q : Spot) (m m' : Mem) (r : Ended) : Type 0 where
-  pub more : (q' : Spot) → r ≡ More q' → Follows E q m q' m'
-  pub last : (q' : Spot) → r ≡ Last q' → Finishes E q m q' m'
-  pub stop : (k p : ℕ) → r ≡ Refused k p → Halts (want_statement ∷ []) (items_at E true q.at) k p
+pub record States (E : Env) (q : Spot) (m m' : Mem) (r : Result Ended RefusedAt) : Type 0 where
+  pub more : (q' : Spot) → r ≡ Ok (More q') → Follows E q m q' m'
+  pub last : (q' : Spot) → r ≡ Ok (Last q') → Finishes E q m q' m'
+  pub stop : (x : RefusedAt) → r ≡ Err x → Halts (want_statement ∷ []) (items_at E true q.at) (number_of x.refusal) x.place
 
 -- what the reader of all statements says
-pub record Tells (E : Env) (q : Spot) (m m' : Mem) (r : Step) : Type 0 where
-  pub done : (q' : Spot) → r ≡ Done q' → Finishes E q m q' m'
-  pub stop : (k p : ℕ) → r ≡ Halted k p → Halts (want_statement ∷ []) (items_at E true q.at) k p
+pub record Tells (E : Env) (q : Spot) (m m' : Mem) (r : Result Spot RefusedAt) : Type 0 where
+  pub done : (q' : Spot) → r ≡ Ok q' → Finishes E q m q' m'
+  pub stop : (x : RefusedAt) → r ≡ Err x → Halts (want_statement ∷ []) (items_at E true q.at) (number_of x.refusal) x.place
 
 -- the items after the first one of a statement, from a place on: raw text after REM and DATA
 unfoldable pub rest_items : Env → ℕ → ℕ → List Item

@@ -1,5 +1,5 @@
 -- A statement's first item, the raw text after REM and DATA, and the rest that follows the first item.
-use Rattle.std.specs.Prelude.{ℕ, suc, ◌+◌, ◌*◌, ◌-◌, ◌≤◌, ◌<◌, ◌≡◌, refl, Bool, true, false, List, [], ◌∷◌, eqb, length, take, drop, get_or, set}
+use Rattle.std.specs.Prelude.{ℕ, suc, ◌+◌, ◌*◌, ◌-◌, ◌≤◌, ◌<◌, ◌≡◌, refl, Bool, true, false, List, [], ◌∷◌, eqb, length, take, drop, get_or, set, Option, Some, None, Result, Ok, Err}
 use Rattle.std.proofs.Common.{arith, subst, sym, ap, ◌∙◌, append-nil, ne_eqb, eq-eqb, eqb-true, length-drop, length-take-le}
 use Rattle.std.proofs.lemmas.Bool.{eqb-false}
 use Rattle.std.proofs.lemmas.List.Edits.{sets}
@@ -35,13 +35,14 @@ use Rattle.enter_statement.specs.Ends.{Closes, Halts, Reads, Ends}
 use Rattle.enter_statement.specs.EndLaws.{reads_last, reads_stop, ends_refuse}
 use Rattle.enter_statement.specs.Stacks.{Begins, begins_with, begins_not, step_refused}
 use Rattle.grammar.specs.Stack.{stack, gives_of, Steps}
-use Rattle.grammar.specs.declared.Step.{Step as Act}
-use Rattle.grammar.specs.declared.Step.TheVariants.{Took, Refused as Unfit}
+use Rattle.grammar.specs.declared.Taken.{Taken}
 use Rattle.enter_statements.specs.Lines.{Began, rest_items}
 use Rattle.enter_statements.specs.LineLaws.{part_items, part_asks}
 use Rattle.enter_statement.specs.Rows.{raw_text_row, raw_end_row, raw_end_unfit}
 use Rattle.enter_statement.specs.declared.Ended.{Ended}
-use Rattle.enter_statement.specs.declared.Ended.TheVariants.{Last, Refused}
+use Rattle.enter_statement.specs.declared.Ended.TheVariants.{Last}
+use Rattle.refusals.specs.declared.Refusal.TheVariants.{NoReading}
+use Rattle.refusals.specs.declared.RefusedAt.{RefusedAt}
 
 -- ---- raw text
 
@@ -105,7 +106,7 @@ raw_here s o at r j h e k =
 -- all of it was copied, and its end put behind
 pub raw_last : {s names : List ℕ} {o : ℕ} {q : Spot} {m : Mem} {r : RawText} {l new : List ℕ} → Asks (env s o names) q m → r ≡ raw_seen s q.at → length s ≤ r.end
     → l ≡ sets m.line q.written (take (r.end - r.from) (drop r.from s)) → new ≡ set l (q.written + (r.end - r.from)) 0x9b
-    → Reads (want_raw_text ∷ want_raw_end ∷ []) (raw_at (o + q.at) (drop q.at s)) (env s o names) q m (mem new m.fresh) (Last (spot r.end (q.written + (r.end - r.from) + 1) q.named))
+    → Reads (want_raw_text ∷ want_raw_end ∷ []) (raw_at (o + q.at) (drop q.at s)) (env s o names) q m (mem new m.fresh) (Ok (Last (spot r.end (q.written + (r.end - r.from) + 1) q.named)))
 unfolding tokens_of given
 raw_last {s} {names} {o} {q} {m} {r} {l} {new} g e h p₁ p₂ =
     let E = env s o names in
@@ -136,12 +137,12 @@ raw_last {s} {names} {o} {q} {m} {r} {l} {new} g e h p₁ p₂ =
 
 -- a 9B stands in it
 pub raw_stop : {s names : List ℕ} {o p : ℕ} {q : Spot} {r : RawText} (m m' : Mem) → Asks (env s o names) q m → r ≡ raw_seen s q.at → r.end < length s → p ≡ o + r.end
-    → Reads (want_raw_text ∷ want_raw_end ∷ []) (raw_at (o + q.at) (drop q.at s)) (env s o names) q m m' (Refused 4 p)
+    → Reads (want_raw_text ∷ want_raw_end ∷ []) (raw_at (o + q.at) (drop q.at s)) (env s o names) q m m' (Err (record { refusal = NoReading; place = p }))
 raw_stop {s} {names} {o} {p} {q} {r} m m' g e h w =
     let b = take (r.end - r.from) (drop r.from s) in
     let i = raw_item (o + r.from) (r.end - r.from) b in
     let j = raw_bad_item (o + r.end) in
-    reads_stop (env s o names) q m m'
+    reads_stop (record { refusal = NoReading; place = p }) (env s o names) q m m'
     (record {
       ts = taken itself i ∷ [];
       item = j;
@@ -221,11 +222,12 @@ began_name {s} {names} {o} {k} {q} {m} {it} {r} {l₁} {l₂} {new} {fresh} g v 
     }
 
 -- what the stack of a statement alone says of its first item
-pub begun : {old new : List ℕ} {c g d : ℕ} {r : Act} → get_or old 0 0 ≡ want_statement → Steps old 1 c r new → r ≡ Took g d → (look want_statement c ≡ takes_item itself (stack new d)) × Begins c itself (stack new d)
+pub begun : {old new : List ℕ} {c : ℕ} {t : Taken} {r : Option Taken} → get_or old 0 0 ≡ want_statement → Steps old 1 c r new → r ≡ Some t
+    → (look want_statement c ≡ takes_item itself (stack new t.depth)) × Begins c itself (stack new t.depth)
 unfolding stack
-begun {old} {new} {c} {g} {d} z h e =
-    let x = begins_with c (gives_of g) (stack new d) (ap (λ (f : ℕ). step look (f ∷ []) c) (sym z) ∙ (h.takes g d e).0) in
-    (x.0 ∙ ap (λ (w : Gives). takes_item w (stack new d)) x.1.own, record { own = refl; starts = x.1.starts; raw = x.1.raw; good = x.1.good })
+begun {old} {new} {c} {t} z h e =
+    let x = begins_with c (gives_of t.gives) (stack new t.depth) (ap (λ (f : ℕ). step look (f ∷ []) c) (sym z) ∙ (h.takes t e).0) in
+    (x.0 ∙ ap (λ (w : Gives). takes_item w (stack new t.depth)) x.1.own, record { own = refl; starts = x.1.starts; raw = x.1.raw; good = x.1.good })
 
 pub begun_row : {c : ℕ} {ws : List ℕ} (i : Item) → (look want_statement c ≡ takes_item itself ws) × Begins c itself ws → class i.token ≡ c → look_in_range want_statement i ≡ takes_item itself ws
 begun_row {c} {ws} i b h = row_take want_statement c itself ws i h b.0 (ne_eqb c 3 (λ y. omega (arith, (b.1.starts (omega (arith, y))).0, y)))
@@ -234,13 +236,13 @@ pub begun_moves : {E : Env} {at : ℕ} {t : Token} {a e c : ℕ} → Next E true
 begun_moves s h k = omega (arith, s.after, s.moves (λ z. omega (arith, (k (omega (arith, h, z))).0, h, z)))
 
 -- an item that begins no statement
-pub not_begun : {old new : List ℕ} {c : ℕ} {r : Act} {E : Env} {at : ℕ} {t : Token} {a e p : ℕ} → get_or old 0 0 ≡ want_statement → Steps old 1 c r new → r ≡ Unfit → Next E true at t a e → class t ≡ c → p ≡ E.from + a
+pub not_begun : {old new : List ℕ} {c : ℕ} {r : Option Taken} {E : Env} {at : ℕ} {t : Token} {a e p : ℕ} → get_or old 0 0 ≡ want_statement → Steps old 1 c r new → r ≡ None → Next E true at t a e → class t ≡ c → p ≡ E.from + a
     → Halts (want_statement ∷ []) (items_at E true at) 4 p
 unfolding stack
 not_begun {old} {new} {c} {r} {E} {at} {t} {a} {e} {p} z n y s h w =
     let m : Mem = mem [] [] in
     let u : step look (want_statement ∷ []) c ≡ refused 4 = begins_not c (λ g gs x. n.refuses y g gs (ap (λ (f : ℕ). step look (f ∷ []) c) z ∙ x)) in
-    (ends_refuse {q = spot at 0 0} (want_statement ∷ []) m m s (step_refused (want_statement ∷ []) (item_of E t a e) 4 (ap (step look (want_statement ∷ [])) h ∙ u)) w).stop 4 p refl
+    (ends_refuse {q = spot at 0 0} (record { refusal = NoReading; place = p }) (want_statement ∷ []) m m s (step_refused (want_statement ∷ []) (item_of E t a e) 4 (ap (step look (want_statement ∷ [])) h ∙ u)) w).stop _ refl
 
 -- ---- the items that follow it
 
@@ -268,14 +270,14 @@ after_first {E} {at} {t} {a} {e} c s h k =
 -- ---- the rest by the class of the first item
 
 -- raw text
-pub rest_raw : {E : Env} {q : Spot} {m m' : Mem} {r : Ended} {fs : List ℕ} (c : ℕ) → c ≡ remark → fs ≡ want_raw_text ∷ want_raw_end ∷ []
+pub rest_raw : {E : Env} {q : Spot} {m m' : Mem} {r : Result Ended RefusedAt} {fs : List ℕ} (c : ℕ) → c ≡ remark → fs ≡ want_raw_text ∷ want_raw_end ∷ []
     → Reads (want_raw_text ∷ want_raw_end ∷ []) (raw_at (E.from + q.at) (drop q.at E.text)) E q m m' r → Reads fs (rest_items E c q.at) E q m m' r
 unfolding rest_items
 rest_raw {E} {q} {m} {m'} {r} c h e a =
     rw (eq-eqb c remark h) (subst (λ (l : List ℕ). Reads l (raw_at (E.from + q.at) (drop q.at E.text)) E q m m' r) (sym e) a)
 
 -- any other
-pub rest_other : {E : Env} {q : Spot} {m m' : Mem} {r : Ended} {fs : List ℕ} (c : ℕ) → (c ≡ remark → ⊥) → Ends fs E q m m' r → Reads fs (rest_items E c q.at) E q m m' r
+pub rest_other : {E : Env} {q : Spot} {m m' : Mem} {r : Result Ended RefusedAt} {fs : List ℕ} (c : ℕ) → (c ≡ remark → ⊥) → Ends fs E q m m' r → Reads fs (rest_items E c q.at) E q m m' r
 unfolding rest_items
 rest_other c h a = rw (ne_eqb c remark h) a
 
@@ -291,7 +293,7 @@ part_rest s n o e c =
     ∙ ap (λ (is : List Item). pick (eqb c remark) (raw_at (o + e) (drop e s)) is) (part_items s n o e false 0 ∙ ap (items_at (env s o n) false) y)
 
 -- what was said of the part holds of the text after a place
-pub rest_of : {fs : List ℕ} {q : Spot} {m m' : Mem} {r : Ended} (s s' n : List ℕ) (o f e c : ℕ) → s' ≡ drop e s → f ≡ o + e
+pub rest_of : {fs : List ℕ} {q : Spot} {m m' : Mem} {r : Result Ended RefusedAt} (s s' n : List ℕ) (o f e c : ℕ) → s' ≡ drop e s → f ≡ o + e
     → Reads fs (rest_items (env s' f n) c 0) (env s' f n) q m m' r → Reads fs (rest_items (env s o n) c e) (env (drop e s) (o + e) n) q m m' r
 rest_of {fs} {q} {m} {m'} {r} s s' n o f e c h k a =
     let b : Reads fs (rest_items (env (drop e s) (o + e) n) c 0) (env (drop e s) (o + e) n) q m m' r =

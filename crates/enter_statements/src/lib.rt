@@ -8,99 +8,83 @@ ghost use Rattle.paper.specs.Items.{raw_at};
 ghost use Rattle.paper.specs.Frames.{want_raw_text, want_raw_end};
 ghost use Rattle.paper.specs.Grammar.{itself};
 ghost use Rattle.grammar.specs.Stack.{stack};
-ghost use Rattle.enter_scan.specs.Sees.{Sees, token_at};
-ghost use Rattle.enter_item.specs.ClassLaws.{own_of};
-ghost use Rattle.enter_item.specs.Says.{env, mem, Asks};
+ghost use Rattle.enter_scan.specs.Sees.{token_at};
+ghost use Rattle.enter_item.specs.Says.{env_of, Asks};
+ghost use Rattle.enter_item.specs.Sees.{Shows};
 ghost use Rattle.enter_statement.specs.Ends.{Reads};
 ghost use Rattle.enter_statements.specs.Lines.{Began, States, Tells, rest_items};
 ghost use Rattle.enter_statement.specs.Stacks.{Begins};
 
-use enter_item::{LINE_ROOM, NAMES_ROOM, Spot, Step, low_byte, name_number, see, write_variable};
-use enter_scan::Item;
+use enter_item::{Draft, Seen, Spot, Text, low_byte, name_number, see, write_variable};
 use enter_statement::{DEEPEST, Ended};
-use grammar::Step as Act;
+use refusals::{Refusal, RefusedAt};
 use tokens::{OperatorToken, StatementToken, class};
 
-// REM and DATA: the text that follows, or refusal 4 at a 9B in it.
-fn raw(
-    part: &[u8],
-    offset: usize,
-    q: Spot,
-    line: &mut [u8; LINE_ROOM],
-    names: &[u8],
-    fresh: &mut [u8; NAMES_ROOM],
-) -> Ended
-    requires { Asks (env part.now offset names.now) q (mem line.old fresh.old) }
-    ensures { Reads (want_raw_text ∷ want_raw_end ∷ []) (raw_at (offset + q.at) (drop q.at part.now)) (env part.now offset names.now) q (mem line.old fresh.old) (mem line.new fresh.new) result }
+// REM and DATA: the text that follows, or its refusal at a 9B in it.
+fn raw(text: Text, q: Spot, draft: &mut Draft) -> Result<Ended, RefusedAt>
+    requires { Asks (env_of text) q draft.old }
+    ensures { Reads (want_raw_text ∷ want_raw_end ∷ []) (raw_at (text.entry.offset + q.at) (drop q.at text.entry.part.now)) (env_of text.entry) q draft.old draft.new result }
 {
-    let at = q.at;
-    let written = q.written;
-    let text = enter_scan::raw_text(part, at);
-    let from = text.from;
-    let end = text.end;
-    if end < part.len() {
-        return Ended::Refused(4, offset + end);
+    let raw = enter_scan::raw_text(text.part, q.at);
+    let from = raw.from;
+    let end = raw.end;
+    if end < text.part.len() {
+        return Err(text.refuse(Refusal::NoReading, end));
     }
+    let written = q.written;
     let size = end - from;
-    buffers::copy(line, written, &part[from..end]);
-    buffers::put(line, written + size, OperatorToken::RAW_END.0);
-    Ended::Last(Spot {
+    buffers::copy(&mut draft.line, written, &text.part[from..end]);
+    buffers::put(&mut draft.line, written + size, OperatorToken::RAW_END.0);
+    Ok(Ended::Last(Spot {
         at: end,
         written: written + size + 1,
         named: q.named,
-    })
+    }))
 }
 
 // What follows the first item of a statement: raw text after REM and DATA, what a stack of frames reads after all others.
 fn rest(
-    part: &[u8],
-    offset: usize,
+    text: Text,
     found: u8,
     q: Spot,
-    line: &mut [u8; LINE_ROOM],
-    names: &[u8],
-    fresh: &mut [u8; NAMES_ROOM],
+    draft: &mut Draft,
     frames: &mut [u8],
     depth: usize,
-) -> Ended
-    requires { (Asks (env part.now offset names.now) q (mem line.old fresh.old)) × (Begins found itself (stack frames.old depth)) × (depth ≤ 9) × (1104 ≤ length frames.old) }
-    ensures { Reads (stack frames.old depth) (rest_items (env part.now offset names.now) found q.at) (env part.now offset names.now) q (mem line.old fresh.old) (mem line.new fresh.new) result }
+) -> Result<Ended, RefusedAt>
+    requires { (Asks (env_of text) q draft.old) × (Begins found itself (stack frames.old depth)) × (depth ≤ 9) × (1104 ≤ length frames.old) }
+    ensures { Reads (stack frames.old depth) (rest_items (env_of text.entry) found q.at) (env_of text.entry) q draft.old draft.new result }
 {
     if found == class::REMARK {
-        raw(part, offset, q, line, names, fresh)
+        raw(text, q, draft)
     } else {
-        enter_statement::follow(part, offset, q, line, names, fresh, frames, depth)
+        enter_statement::follow(text, q, draft, frames, depth)
     }
 }
 
 // The first item of a statement: a 0 where its offset is to stand, and its word's token or LET without the word and the variable.
-fn begin(
-    text: &[u8],
-    it: Item,
-    found: u8,
-    own: u8,
-    q: Spot,
-    line: &mut [u8; LINE_ROOM],
-    names: &[u8],
-    fresh: &mut [u8; NAMES_ROOM],
-) -> Spot
-    requires { (Asks (env text.now 0 names.now) q (mem line.old fresh.old)) × (Sees text.now q.at true it) × (found ≡ class (token_at text.now true it)) × (own ≡ own_of (token_at text.now true it)) × (found < remark → (8 ≤ found) × (found ≤ 10)) }
-    ensures { Began (env text.now 0 names.now) q (mem line.old fresh.old) (token_at text.now true it) it.end result (mem line.new fresh.new) }
+fn begin(text: Text, seen: Seen, q: Spot, draft: &mut Draft) -> Spot
+    requires { (Asks (env_of text) q draft.old) × (Shows text.part.now q.at true seen) × (seen.class < remark → (8 ≤ seen.class) × (seen.class ≤ 10)) }
+    ensures { Began (env_of text.entry) q draft.old (token_at text.entry.part.now true seen.item) seen.item.end result draft.new }
 {
+    let it = seen.item;
     let end = it.end;
     let written = q.written;
-    buffers::put(line, written, 0);
-    if found < class::REMARK {
-        let number = name_number(text, it, names, fresh, q.named);
-        buffers::put(line, written + 1, StatementToken::LET_WITHOUT_WORD.0);
-        let size = write_variable(line, written + 2, number.number);
+    buffers::put(&mut draft.line, written, 0);
+    if seen.class < class::REMARK {
+        let number = name_number(text, it, &mut draft.fresh, q.named);
+        buffers::put(
+            &mut draft.line,
+            written + 1,
+            StatementToken::LET_WITHOUT_WORD.0,
+        );
+        let size = write_variable(&mut draft.line, written + 2, number.number);
         Spot {
             at: end,
             written: written + 2 + size,
             named: number.size,
         }
     } else {
-        buffers::put(line, written + 1, own);
+        buffers::put(&mut draft.line, written + 1, seen.own);
         Spot {
             at: end,
             written: written + 2,
@@ -110,85 +94,50 @@ fn begin(
 }
 
 // One statement: its first item, the rest of it, and then its offset from the line's start.
-fn statement(
-    text: &[u8],
-    q: Spot,
-    line: &mut [u8; LINE_ROOM],
-    names: &[u8],
-    fresh: &mut [u8; NAMES_ROOM],
-) -> Ended
-    requires { Asks (env text.now 0 names.now) q (mem line.old fresh.old) }
-    ensures { States (env text.now 0 names.now) q (mem line.old fresh.old) (mem line.new fresh.new) result }
+fn statement(text: Text, q: Spot, draft: &mut Draft) -> Result<Ended, RefusedAt>
+    requires { Asks (env_of text) q draft.old }
+    ensures { States (env_of text.entry) q draft.old draft.new result }
 {
-    let at = q.at;
-    let written = q.written;
-    let seen = see(text, at, true);
+    let seen = see(text.part, q.at, true);
     let it = seen.item;
-    let end = it.end;
     let place = it.at;
-    let found = seen.class;
+    let end = it.end;
     let mut frames = [0u8; DEEPEST];
-    match grammar::take_item(&mut frames, 1, found) {
-        Act::Took(_, depth) => {
-            let p = begin(text, it, found, seen.own, q, line, names, fresh);
-            let start = Spot {
-                at: 0,
-                written: p.written,
-                named: p.named,
-            };
-            match rest(
-                &text[end..],
-                end,
-                found,
-                start,
-                line,
-                names,
-                fresh,
-                &mut frames,
-                depth,
-            ) {
-                Ended::More(next) => {
-                    buffers::put(line, written, low_byte(next.written));
-                    Ended::More(Spot {
-                        at: end + next.at,
-                        written: next.written,
-                        named: next.named,
-                    })
-                }
-                Ended::Last(r) => {
-                    buffers::put(line, written, low_byte(r.written));
-                    Ended::Last(Spot {
-                        at: end,
-                        written: r.written,
-                        named: r.named,
-                    })
-                }
-                Ended::Refused(k, z) => Ended::Refused(k, z),
-            }
+    let Some(t) = grammar::take_item(&mut frames, 1, seen.class) else {
+        return Err(text.refuse(Refusal::NoReading, place));
+    };
+    let p = begin(text, seen, q, draft);
+    let start = Spot { at: 0, ..p };
+    let behind = Text {
+        part: &text.part[end..],
+        offset: text.offset + end,
+        names: text.names,
+    };
+    match rest(behind, seen.class, start, draft, &mut frames, t.depth)? {
+        Ended::More(next) => {
+            buffers::put(&mut draft.line, q.written, low_byte(next.written));
+            Ok(Ended::More(Spot {
+                at: end + next.at,
+                ..next
+            }))
         }
-        Act::Refused => Ended::Refused(4, place),
+        Ended::Last(last) => {
+            buffers::put(&mut draft.line, q.written, low_byte(last.written));
+            Ok(Ended::Last(Spot { at: end, ..last }))
+        }
     }
 }
 
 // All statements from a place on.
-pub fn statements(
-    text: &[u8],
-    q: Spot,
-    line: &mut [u8; LINE_ROOM],
-    names: &[u8],
-    fresh: &mut [u8; NAMES_ROOM],
-) -> Step
-    requires { Asks (env text.now 0 names.now) q (mem line.old fresh.old) }
-    ensures { Tells (env text.now 0 names.now) q (mem line.old fresh.old) (mem line.new fresh.new) result }
+pub fn statements(text: Text, q: Spot, draft: &mut Draft) -> Result<Spot, RefusedAt>
+    requires { Asks (env_of text) q draft.old }
+    ensures { Tells (env_of text.entry) q draft.old draft.new result }
 {
     let mut p = q;
     loop {
-        match statement(text, p, line, names, fresh) {
-            Ended::More(next) => {
-                p = next;
-            }
-            Ended::Last(end) => return Step::Done(end),
-            Ended::Refused(k, place) => return Step::Refused(k, place),
+        match statement(text, p, draft)? {
+            Ended::More(next) => p = next,
+            Ended::Last(end) => return Ok(end),
         }
     }
 }

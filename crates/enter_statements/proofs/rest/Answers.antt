@@ -1,9 +1,5 @@
-use native.Mathlib.Omega.{arith}
 use Rattle.enter_statements.specs.StatementLaws.{rest_raw, rest_other}
 use Rattle.enter_statements.proofs.rest.Goals as goal
-
-pub follow-requires : goal.follow-requires
-follow-requires c = let pre = c.requires in (pre.0, pre.1.good c.if-found-eq-REMARK.false, omega (arith, pre.2), pre.3)
 
 pub returns-then-found-eq-REMARK : goal.returns-then-found-eq-REMARK
 returns-then-found-eq-REMARK c = let if1 = c.if-found-eq-REMARK.true in rest_raw _ if1 (c.requires.1.raw if1) c.raw.ensures
