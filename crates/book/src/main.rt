@@ -11,204 +11,167 @@
 #![tactic(auto)]
 
 use buffers::{Run, copy, front, run_end};
-use console::{field_end, next_line, number_in, print, print_bytes, print_number, whole};
-use editor_edit::{Editor, store_counts};
-use std::io::Stdin;
-use store::Found;
+use console::{Hex, field_end, next_line, number_in, whole};
+use editor_edit::{Editor, empty};
+use refusals::{Refusal, RefusedItem};
+use std::io;
+use std::io::{BufRead, BufReader};
+use store::Counts;
 
 // The longest row that is kept.
 const LONGEST: usize = 1024;
 
-// A program that is being entered: how many bytes its source reference has, and the editor's record.
+// A program that is being entered: its source reference at the front of a buffer, with its size, 0 before the first program; its tables, its store and its record.
+// Stays a buffer with a size beside it: a row may have as many bytes, and what is read is kept in fixed memory.
 #[derive(Drop)]
 struct Program {
-    source: usize,
+    source: [u8; LONGEST],
+    source_size: usize,
+    names: [u8; 2048],
+    values: [u8; 2048],
+    store: [u8; 32768],
     record: Editor,
 }
 
-// A program of which nothing is entered.
-fn begun(source: usize) -> Program {
-    Program {
-        source,
-        record: editor_edit::empty(),
+impl Program {
+    // What stands before the first program.
+    fn none() -> Program {
+        Program {
+            source: [0; LONGEST],
+            source_size: 0,
+            names: [0; 2048],
+            values: [0; 2048],
+            store: [0; 32768],
+            record: empty(),
+        }
     }
-}
 
-// Prints the bytes of the stored line with a number.
-fn print_line(number: usize, store: &[u8], record: Editor) {
-    if let Found::At(place) = store::find(store, store_counts(record), number) {
-        let at = place.at;
-        if at < store.len() {
-            print_bytes(front(&store[at..], place.size));
+    // The program's source reference.
+    fn source(&self) -> &[u8] {
+        front(&self.source, self.source_size)
+    }
+
+    // Begins the program of a source reference, of which nothing is entered.
+    fn begin(&mut self, source: &[u8]) {
+        copy(&mut self.source, 0, source);
+        self.source_size = source.len();
+        self.record = empty();
+    }
+
+    // Enters a line, and says how many names that added, or why it is refused. Each line begins with its number, so the line buffer has no bytes, and a wrong one is not kept.
+    fn enter(&mut self, text: &[u8]) -> Result<usize, RefusedItem> {
+        let Program {
+            names,
+            values,
+            store,
+            record,
+            ..
+        } = self;
+        let r = editor::enter(text, false, names, values, store, &mut [], *record);
+        *record = r.editor;
+        r.added
+    }
+
+    // Lists the line with a number to the front of a buffer, and says how many bytes that took.
+    fn list(&self, number: usize, out: &mut [u8]) -> Result<usize, Refusal> {
+        editor::list(
+            number,
+            &self.names,
+            &self.values,
+            &self.store,
+            self.record,
+            out,
+        )
+    }
+
+    // The bytes of the stored line with a number, where there is one.
+    fn line(&self, number: usize) -> Option<&[u8]> {
+        let place = store::find(&self.store, Counts::from(self.record), number)?;
+        let rest = self.store.get(place.at..)?;
+        Some(front(rest, place.size))
+    }
+
+    // Prints the line with a number, as bytes and as its listing; nothing if it is not there.
+    fn print_line(&self, rt: &impl Print, number: usize) {
+        let mut out = [0; 1024];
+        let Ok(written) = self.list(number, &mut out) else {
+            return;
+        };
+        let Some(line) = self.line(number) else {
+            return;
+        };
+        let line = Hex(line);
+        let _ = println!(rt; "B\t{line}");
+        let _ = rt.write_all(b"L\t");
+        let _ = rt.write_all(front(&out, written));
+        let _ = rt.write_all(b"\n");
+    }
+
+    // Prints the names of a program at its end; nothing before the first.
+    fn print_end(&self, rt: &impl Print) {
+        if self.source_size != 0 {
+            let names = Hex(front(&self.names, self.record.name_bytes));
+            let _ = println!(rt; "N\t{names}");
         }
     }
 }
 
-// Prints a line that is stored, as bytes and as its listing; nothing if it is not there.
-fn show_line(number: usize, names: &[u8], values: &[u8], store: &[u8], record: Editor) {
-    let mut out = [0u8; 1024];
-    let r = editor::list(number, names, values, store, record, &mut out);
-    if r.number != 0 {
+// Prints what entering a line answered.
+fn print_entered(rt: &impl Print, text: &[u8], answer: Result<usize, RefusedItem>) {
+    let (number, place, end) = match answer {
+        Ok(_) => (0, 0, 0),
+        Err(item) => (item.refusal.number(), item.place, item.end),
+    };
+    let _ = rt.write_all(b"E\t");
+    let _ = rt.write_all(text);
+    let _ = println!(rt; "\t{number}\t{place}\t{end}");
+}
+
+// Enters a line and prints what became of it.
+fn enter(rt: &impl Print, text: &[u8], program: &mut Program) {
+    let answer = program.enter(text);
+    print_entered(rt, text, answer);
+    if answer.is_err() {
         return;
     }
-    print(b"B\t");
-    print_line(number, store, record);
-    print(b"\nL\t");
-    print(front(&out, r.written));
-    print(b"\n");
-}
-
-// Prints the answer to a line.
-fn print_entered(text: &[u8], number: usize, place: usize, end: usize) {
-    print(b"E\t");
-    print(text);
-    print(b"\t");
-    print_number(number);
-    print(b"\t");
-    print_number(place);
-    print(b"\t");
-    print_number(end);
-    print(b"\n");
-}
-
-// Enters a line and prints what became of it. The editor's record afterwards. Each line begins with its number, so the line buffer has no bytes, and a wrong one is not kept.
-fn enter(
-    text: &[u8],
-    names: &mut [u8],
-    values: &mut [u8],
-    store: &mut [u8],
-    record: Editor,
-) -> Editor {
-    let mut line = [0u8; 0];
-    let r = editor::enter(text, false, names, values, store, &mut line, record);
-    let after = r.editor;
-    print_entered(text, r.number as usize, r.place, r.end);
-    if r.number == 0 {
-        show_line(
-            number_in(front(text, run_end(text, 0, Run::Digits))),
-            names,
-            values,
-            store,
-            after,
-        );
-    }
-    after
-}
-
-// Prints the names of a program at its end.
-fn end(program: Program, names: &[u8]) {
-    if program.source == 0 {
-        return;
-    }
-    let record = program.record;
-    print(b"N\t");
-    print_bytes(front(names, record.name_bytes));
-    print(b"\n");
-}
-
-// Ends a program and begins the next.
-fn begin(from: &[u8], source: &mut [u8], names: &[u8], program: Program) -> Program {
-    end(program, names);
-    copy(source, 0, from);
-    print(b"P\t");
-    print(from);
-    print(b"\n");
-    begun(from.len())
-}
-
-// The program that a row with a reference belongs to.
-fn program_of(from: &[u8], source: &mut [u8], names: &[u8], program: Program) -> Program {
-    if check::same(from, front(source, program.source)) {
-        program
-    } else {
-        begin(from, source, names, program)
+    if let Some(number) = number_in(front(text, run_end(text, 0, Run::Digits))) {
+        program.print_line(rt, number);
     }
 }
 
-// Takes a row: its line is entered into the program of its reference. The program afterwards.
-fn take_row(
-    row: &[u8],
-    source: &mut [u8],
-    names: &mut [u8],
-    values: &mut [u8],
-    store: &mut [u8],
-    before: Program,
-) -> Program {
+// Takes a row: its line is entered into the program of its reference, which begins here where it is another.
+fn take_row(rt: &impl Print, row: &[u8], program: &mut Program) {
     let tab = field_end(row, 0, b'\t');
-    if tab == row.len() {
-        print(b"bad\n");
-        return before;
+    let source = front(row, tab);
+    let Some(text) = row.get(tab + 1..) else {
+        let _ = println!(rt; "bad");
+        return;
+    };
+    if source != program.source() {
+        program.print_end(rt);
+        program.begin(source);
+        let _ = rt.write_all(b"P\t");
+        let _ = rt.write_all(source);
+        let _ = rt.write_all(b"\n");
     }
-    let from = tab + 1;
-    let program = program_of(front(row, tab), source, names, before);
-    let record = enter(&row[from..], names, values, store, program.record);
-    Program {
-        source: program.source,
-        record,
-    }
+    enter(rt, text, program);
 }
 
-// Takes every row of the input, and returns the last program. A proved loop has to end, and nothing says that the input does: so it counts its
-// turns down from a number that no run uses up.
-fn take_all(
-    stdin: Stdin,
-    buffer: &mut [u8],
-    row: &mut [u8],
-    source: &mut [u8],
-    names: &mut [u8],
-    values: &mut [u8],
-    store: &mut [u8],
-) -> Program {
-    let mut program = begun(0);
-    let mut input = console::start();
-    let mut turns = u64::MAX;
-    while turns > 0 {
-        let next = next_line(input, stdin, buffer, row);
-        if !next.there {
-            return program;
-        }
-        input = next.input;
-        program = take_row(
-            whole(row, next.length),
-            source,
-            names,
-            values,
-            store,
-            program,
-        );
-        turns -= 1;
+// Takes every row of the input, and ends the last program. A proved loop has to end, and nothing says that the input does: so its turns are as many as no run uses up.
+fn take_all(rt: &impl Print, input: &mut impl BufRead) {
+    let mut row = [0; LONGEST];
+    let mut program = Program::none();
+    for _ in 0..u64::MAX {
+        let Some(length) = next_line(input, &mut row) else {
+            break;
+        };
+        take_row(rt, whole(&row, length), &mut program);
     }
-    program
+    program.print_end(rt);
 }
 
-// Takes every row of the input and ends the last program.
-fn run(
-    stdin: Stdin,
-    buffer: &mut [u8],
-    row: &mut [u8],
-    source: &mut [u8],
-    names: &mut [u8],
-    values: &mut [u8],
-    store: &mut [u8],
-) {
-    let last = take_all(stdin, buffer, row, source, names, values, store);
-    end(last, names);
-}
-
-fn main(rt: HostRuntime) {
-    let mut buffer = io::buffer();
-    let mut row = [0u8; LONGEST];
-    let mut source = [0u8; LONGEST];
-    let mut names = [0u8; 2048];
-    let mut values = [0u8; 2048];
-    let mut store = [0u8; 32768];
-    run(
-        rt.stdin(),
-        &mut buffer,
-        &mut row,
-        &mut source,
-        &mut names,
-        &mut values,
-        &mut store,
-    );
+fn main(rt: HostRuntime) -> io::Result<()> {
+    let mut input = BufReader::new(rt.alloc(), rt.stdin())?;
+    take_all(&rt, &mut input);
+    Ok(())
 }

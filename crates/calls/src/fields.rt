@@ -1,123 +1,86 @@
 // The fields of a call, parted by one blank: bytes in lowercase hexadecimal, `-` for none, and numbers in decimal.
-ghost use Rattle.std.specs.Prelude.{◌≤◌};
+ghost use Rattle.std.specs.Prelude.{◌<◌, IfSome};
 
-use buffers::{byte_at, put};
-use console::{NO_NUMBER, field_end, number_in};
+use buffers::front;
+use console::{field_end, number_in};
 
-// A field as it was read: how many bytes it has, or its number, and where the next field begins. That is one past the line's end where no field
-// follows, and NOWHERE where none was read.
+// What is left of a call to be read: none once its last field was read.
 #[derive(Drop)]
-pub(crate) struct Field {
-    pub n: usize,
-    pub next: usize,
+pub(crate) struct Fields<'a> {
+    rest: Option<&'a [u8]>,
 }
 
-// The place from which no field can be read.
-const NOWHERE: usize = usize::MAX;
-
-// What is no field.
-fn missing() -> Field {
-    Field {
-        n: 0,
-        next: NOWHERE,
-    }
-}
-
-// The place after the blank that ends a field.
-fn after(end: usize) -> usize {
-    if end < NOWHERE { end + 1 } else { end }
-}
-
-// The worth of a hexadecimal digit, and 16 for a byte that is none.
-fn nibble(b: u8) -> u8
-    ensures { result ≤ 16 }
+// The worth of a lowercase hexadecimal digit.
+fn nibble(b: u8) -> Option<u8>
+    ensures { IfSome result (λ n. n < 16) }
 {
     match b {
-        48..=57 => b - 48,
-        97..=102 => b - 87,
-        _ => 16,
+        b'0'..=b'9' => Some(b - b'0'),
+        b'a'..=b'f' => Some(b - b'a' + 10),
+        _ => None,
     }
 }
 
-// Whether all bytes are hexadecimal digits; those before the first that is none are put into a buffer, a byte for a pair of them.
-fn read_pairs(digits: &[u8], out: &mut [u8]) -> bool {
-    let n = digits.len() / 2;
-    let mut i: usize = 0;
-    while i < n {
-        let high = nibble(byte_at(digits, 2 * i));
-        let low = nibble(byte_at(digits, 2 * i + 1));
-        if high == 16 {
-            return false;
+// The byte that two digits write.
+fn pair(high: u8, low: u8) -> Option<u8> {
+    Some(nibble(high)? * 16 + nibble(low)?)
+}
+
+// Puts the byte of each two digits into a buffer of half as many bytes, as far as these are digits.
+fn read_pairs(digits: &[u8], out: &mut [u8]) -> Option<()> {
+    for (byte, pair_of) in out.iter_mut().zip(digits.chunks_exact(2)) {
+        let [high, low] = pair_of else {
+            return None;
+        };
+        *byte = pair(*high, *low)?;
+    }
+    Some(())
+}
+
+impl<'a> Fields<'a> {
+    // The fields of a line.
+    pub(crate) fn of(line: &'a [u8]) -> Fields<'a> {
+        Fields { rest: Some(line) }
+    }
+
+    // The next field, where one is left.
+    pub(crate) fn next(&mut self) -> Option<&'a [u8]> {
+        let rest = self.rest?;
+        let end = field_end(rest, 0, b' ');
+        self.rest = rest.get(end + 1..);
+        Some(front(rest, end))
+    }
+
+    // The bytes of the next field, put to the front of a buffer that has room for them.
+    pub(crate) fn bytes<'b>(&mut self, room: &'b mut [u8]) -> Option<&'b mut [u8]> {
+        let digits = self.next()?;
+        if matches!(digits, [b'-']) {
+            return room.get_mut(..0);
         }
-        if low == 16 {
-            return false;
+        if digits.is_empty() || digits.len() % 2 == 1 {
+            return None;
         }
-        put(out, i, high * 16 + low);
-        i += 1;
+        let bytes = room.get_mut(..digits.len() / 2)?;
+        read_pairs(digits, bytes)?;
+        Some(bytes)
     }
-    true
-}
 
-// Bytes from their digits, put into a buffer that they fit into.
-fn read_bytes(digits: &[u8], next: usize, out: &mut [u8]) -> Field {
-    let n = digits.len() / 2;
-    if digits.len() % 2 == 1 {
-        return missing();
+    // The number of the next field.
+    pub(crate) fn number(&mut self) -> Option<usize> {
+        number_in(self.next()?)
     }
-    if n == 0 {
-        return missing();
-    }
-    if out.len() < n {
-        return missing();
-    }
-    if read_pairs(digits, out) {
-        Field { n, next }
-    } else {
-        missing()
-    }
-}
 
-// The field of bytes at a place of a line, put into a buffer.
-pub(crate) fn bytes_field(line: &[u8], at: usize, out: &mut [u8]) -> Field {
-    if line.len() <= at {
-        return missing();
-    }
-    let end = field_end(line, at, b' ');
-    if end - at == 1 {
-        if line[at] == b'-' {
-            return Field {
-                n: 0,
-                next: after(end),
-            };
+    // The switch of the next field, 0 or 1.
+    pub(crate) fn switch(&mut self) -> Option<bool> {
+        match self.number()? {
+            0 => Some(false),
+            1 => Some(true),
+            _ => None,
         }
     }
-    read_bytes(&line[at..end], after(end), out)
-}
 
-// The field with a number at a place of a line.
-pub(crate) fn number_field(line: &[u8], at: usize) -> Field {
-    if line.len() <= at {
-        return missing();
+    // Whether no field is left.
+    pub(crate) fn end(&self) -> Option<()> {
+        self.rest.is_none().then_some(())
     }
-    let end = field_end(line, at, b' ');
-    let n = number_in(&line[at..end]);
-    if n < NO_NUMBER {
-        Field {
-            n,
-            next: after(end),
-        }
-    } else {
-        missing()
-    }
-}
-
-// The field with the number of a switch, 0 or 1, at a place of a line.
-pub(crate) fn switch_field(line: &[u8], at: usize) -> Field {
-    let field = number_field(line, at);
-    if 1 < field.n { missing() } else { field }
-}
-
-// Whether a field was read before a place, and none follows.
-pub(crate) fn ends(line: &[u8], next: usize) -> bool {
-    next == after(line.len())
 }

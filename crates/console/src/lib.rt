@@ -1,11 +1,8 @@
-// What the programs share: a file, or lines parted into fields, taken from standard input, numbers read from digits, and numbers and bytes printed on standard output.
+// What the programs share: a file, or lines parted into fields, taken from standard input, numbers read from digits, and bytes shown in hexadecimal.
 #![tactic(auto)]
 
 mod input;
 mod output;
 
-pub use input::{
-    Input, KEPT, KEPT_FILE, Line, NO_NUMBER, field_end, next_line, number_in, read_file, start,
-    whole,
-};
-pub use output::{print, print_bytes, print_field, print_hex, print_number, tell, tell_field};
+pub use input::{KEPT, KEPT_FILE, field_end, next_line, number_in, read_file, whole};
+pub use output::Hex;

@@ -3,43 +3,33 @@
 #![tactic(auto)]
 
 use buffers::front;
-use console::{KEPT_FILE, print, print_field};
-use editor_examine::Verdict;
-use file_examine::Examined;
+use console::{KEPT_FILE, read_file};
+use editor_examine::Flaw;
+use file_examine::{Fault, examine};
+use std::io;
 
-// Prints what examining a program answered.
-fn print_verdict(v: Verdict) {
-    match v {
-        Verdict::Yes => print(b"yes"),
-        Verdict::UnsoundNames => print(b"names"),
-        Verdict::UnsoundValues => print(b"values"),
-        Verdict::UnsoundStore => print(b"store"),
-        Verdict::BadLine(n) => {
-            print(b"line");
-            print_field(n);
-        }
+// Prints what is wrong with a program.
+fn print_flaw(rt: &impl Print, flaw: Flaw) -> io::Result<()> {
+    match flaw {
+        Flaw::UnsoundNames => println!(rt; "names"),
+        Flaw::UnsoundValues => println!(rt; "values"),
+        Flaw::UnsoundStore => println!(rt; "store"),
+        Flaw::BadLine(line) => println!(rt; "line\t{line}"),
     }
 }
 
 // Prints what examining a file answered.
-fn print_examined(r: Examined) {
-    match r {
-        Examined::NotRead(number) => {
-            print(b"refused");
-            print_field(number as usize);
-        }
-        Examined::Program(v) => print_verdict(v),
+fn print_examined(rt: &impl Print, examined: Result<(), Fault>) -> io::Result<()> {
+    match examined {
+        Ok(()) => println!(rt; "yes"),
+        Err(Fault::NotRead(refusal)) => println!(rt; "refused\t{}", refusal.number()),
+        Err(Fault::Flawed(flaw)) => print_flaw(rt, flaw),
     }
-    print(b"\n");
 }
 
-// Reads the file on standard input and examines it.
-fn run(file: &mut [u8]) {
-    let size = console::read_file(file);
-    print_examined(file_examine::examine(front(file, size)));
-}
-
-fn main() {
-    let mut file = [0u8; KEPT_FILE];
-    run(&mut file);
+// Reads the file on standard input and examines it. A write that fails is left to the command that runs the program.
+fn main(rt: HostRuntime) {
+    let mut file = [0; KEPT_FILE];
+    let size = read_file(&mut file);
+    let _ = print_examined(&rt, examine(front(&file, size)));
 }

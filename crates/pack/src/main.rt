@@ -3,104 +3,84 @@
 #![tactic(auto)]
 
 use buffers::front;
-use console::{KEPT, next_line, print, tell, tell_field};
+use console::{KEPT, next_line};
 use editor_edit::{Editor, empty};
-use file_save::Saved;
-use std::io::Stdin;
+use refusals::{Refusal, RefusedItem};
+use std::io;
+use std::io::{BufRead, BufReader};
 
-// Enters a line, which is the one with this number in the input, and tells of a refusal. No line buffer is lent, so that a line without a number is refused.
-fn enter_line(
-    line: usize,
-    text: &[u8],
-    names: &mut [u8],
-    values: &mut [u8],
-    store: &mut [u8],
+// The program that is packed: its tables, its store and its record.
+#[derive(Drop)]
+struct Program {
+    names: [u8; 32768],
+    values: [u8; 2048],
+    store: [u8; 65535],
     record: Editor,
-) -> Editor {
-    let mut none = [0u8; 0];
-    let r = editor::enter(text, false, names, values, store, &mut none, record);
-    if r.number != 0 {
-        tell(b"R");
-        tell_field(line);
-        tell_field(r.number as usize);
-        tell_field(r.place);
-        tell_field(r.end);
-        tell(b"\n");
-    }
-    r.editor
 }
 
-// Enters every line of the input over empty tables and an empty store; the record afterwards.
-fn enter_all(
-    stdin: Stdin,
-    buffer: &mut [u8],
-    text: &mut [u8],
-    names: &mut [u8],
-    values: &mut [u8],
-    store: &mut [u8],
-) -> Editor {
-    let mut record = empty();
-    let mut input = console::start();
-    let mut count: usize = 0;
-    while count < usize::MAX {
-        let line = next_line(input, stdin, buffer, text);
-        if !line.there {
-            return record;
+impl Program {
+    // A program with empty tables and an empty store.
+    fn empty() -> Program {
+        Program {
+            names: [0; 32768],
+            values: [0; 2048],
+            store: [0; 65535],
+            record: empty(),
         }
-        input = line.input;
-        count += 1;
-        record = enter_line(
-            count,
-            front(text, line.length),
+    }
+
+    // Enters a line, and says how many names that added, or why it is refused. No line buffer is lent, so that a line without a number is refused.
+    fn enter(&mut self, text: &[u8]) -> Result<usize, RefusedItem> {
+        let Program {
             names,
             values,
             store,
             record,
-        );
+        } = self;
+        let r = editor::enter(text, false, names, values, store, &mut [], *record);
+        *record = r.editor;
+        r.added
     }
-    record
+
+    // Writes the program's file to the front of a buffer, and says how many bytes it has.
+    fn save(&self, file: &mut [u8]) -> Result<usize, Refusal> {
+        file_save::save(&self.names, &self.values, &self.store, self.record, file)
+    }
 }
 
-// Tells how it went: 0 or the number of the refusal, the lines and names of the program, and the bytes of its file.
-fn tell_saved(r: Saved, record: Editor) {
-    tell(b"S");
-    tell_field(r.number as usize);
-    tell_field(record.lines);
-    tell_field(record.name_count);
-    tell_field(r.written);
-    tell(b"\n");
+// Enters every line of the input, and tells of each that is refused.
+fn enter_all(rt: &impl Eprint, input: &mut impl BufRead, program: &mut Program) {
+    let mut text = [0; KEPT];
+    for count in 1..=usize::MAX {
+        let Some(length) = next_line(input, &mut text) else {
+            return;
+        };
+        if let Err(item) = program.enter(front(&text, length)) {
+            let number = item.refusal.number();
+            let place = item.place;
+            let end = item.end;
+            let _ = eprintln!(rt; "R\t{count}\t{number}\t{place}\t{end}");
+        }
+    }
 }
 
-// Enters all input, and writes the file of what is stored then.
-fn run(
-    stdin: Stdin,
-    buffer: &mut [u8],
-    text: &mut [u8],
-    names: &mut [u8],
-    values: &mut [u8],
-    store: &mut [u8],
-    file: &mut [u8],
-) {
-    let record = enter_all(stdin, buffer, text, names, values, store);
-    let r = file_save::save(names, values, store, record, file);
-    print(front(file, r.written));
-    tell_saved(r, record);
+// Writes the program's file, and tells how it went: 0 or the number of the refusal, the lines and names of the program, and the bytes of its file.
+fn write(rt: &(impl Print + Eprint), program: &Program) {
+    let mut file = [0; 65549];
+    let (number, written) = match program.save(&mut file) {
+        Ok(written) => (0, written),
+        Err(refusal) => (refusal.number(), 0),
+    };
+    let _ = rt.write_all(front(&file, written));
+    let lines = program.record.lines;
+    let names = program.record.name_count;
+    let _ = eprintln!(rt; "S\t{number}\t{lines}\t{names}\t{written}");
 }
 
-fn main(rt: HostRuntime) {
-    let mut buffer = io::buffer();
-    let mut text = [0u8; KEPT];
-    let mut names = [0u8; 32768];
-    let mut values = [0u8; 2048];
-    let mut store = [0u8; 65535];
-    let mut file = [0u8; 65549];
-    run(
-        rt.stdin(),
-        &mut buffer,
-        &mut text,
-        &mut names,
-        &mut values,
-        &mut store,
-        &mut file,
-    );
+fn main(rt: HostRuntime) -> io::Result<()> {
+    let mut input = BufReader::new(rt.alloc(), rt.stdin())?;
+    let mut program = Program::empty();
+    enter_all(&rt, &mut input, &mut program);
+    write(&rt, &program);
+    Ok(())
 }

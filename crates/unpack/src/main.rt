@@ -2,70 +2,92 @@
 // line that cannot be listed says its number and the refusal; the last line says how it went.
 #![tactic(auto)]
 
-use buffers::{front, lesser};
-use console::{KEPT_FILE, print, tell, tell_field};
+use buffers::front;
+use console::{KEPT_FILE, read_file};
 use editor_edit::{Editor, empty};
-use file_load::Loaded;
+use refusals::Refusal;
 use store::heads;
 
-// Prints the listing of a stored line, or tells why there is none.
-fn list_line(
-    number: usize,
-    names: &[u8],
-    values: &[u8],
-    store: &[u8],
+// The program that is unpacked: its tables, its store and its record.
+#[derive(Drop)]
+struct Program {
+    names: [u8; 65535],
+    values: [u8; 2048],
+    store: [u8; 65535],
     record: Editor,
-    out: &mut [u8],
-) {
-    let r = editor::list(number, names, values, store, record, out);
-    if r.number == 0 {
-        print(front(out, r.written));
-        print(b"\n");
-    } else {
-        tell(b"R");
-        tell_field(number);
-        tell_field(r.number as usize);
-        tell(b"\n");
+}
+
+impl Program {
+    // A program with empty tables and an empty store.
+    fn empty() -> Program {
+        Program {
+            names: [0; 65535],
+            values: [0; 2048],
+            store: [0; 65535],
+            record: empty(),
+        }
+    }
+
+    // Takes the program of a file.
+    fn load(&mut self, file: &[u8]) -> Result<(), Refusal> {
+        let Program {
+            names,
+            values,
+            store,
+            record,
+        } = self;
+        *record = file_load::load(file, names, values, store)?;
+        Ok(())
+    }
+
+    // Lists the line with a number to the front of a buffer, and says how many bytes that took.
+    fn list(&self, number: usize, out: &mut [u8]) -> Result<usize, Refusal> {
+        editor::list(
+            number,
+            &self.names,
+            &self.values,
+            &self.store,
+            self.record,
+            out,
+        )
     }
 }
 
-// Prints the listing of every stored line, in order.
-fn list_all(names: &[u8], values: &[u8], store: &[u8], record: Editor, out: &mut [u8]) {
-    let mut rest = front(store, record.used);
-    while 0 < rest.len() {
-        list_line(heads::number(rest), names, values, store, record, out);
-        let size = lesser(heads::size(rest), rest.len());
+// Prints the listing of every stored line, in order, or tells why one has none.
+fn list_all(rt: &(impl Print + Eprint), program: &Program) {
+    let mut out = [0; 65536];
+    let mut rest = front(&program.store, program.record.used);
+    while !rest.is_empty() {
+        let number = heads::number(rest);
+        match program.list(number, &mut out) {
+            Ok(written) => {
+                let _ = rt.write_all(front(&out, written));
+                let _ = rt.write_all(b"\n");
+            }
+            Err(refusal) => {
+                let refusal = refusal.number();
+                let _ = eprintln!(rt; "R\t{number}\t{refusal}");
+            }
+        }
+        let size = heads::size(rest);
         if size == 0 {
             return;
         }
-        rest = &rest[size..];
+        rest = rest.get(size..).unwrap_or(&[]);
     }
 }
 
-// Tells how it went: 0 or the number of the refusal, the lines and names of the program, and the bytes of the file.
-fn tell_loaded(r: Loaded, size: usize) {
-    let record = r.editor;
-    tell(b"S");
-    tell_field(r.number as usize);
-    tell_field(record.lines);
-    tell_field(record.name_count);
-    tell_field(size);
-    tell(b"\n");
-}
-
-// Reads the file on standard input and lists its program.
-fn run(file: &mut [u8], names: &mut [u8], values: &mut [u8], store: &mut [u8], out: &mut [u8]) {
-    let size = console::read_file(file);
-    let r = file_load::load(front(file, size), names, values, store, empty());
-    list_all(names, values, store, r.editor, out);
-    tell_loaded(r, size);
-}
-
-fn main() {
-    let mut file = [0u8; KEPT_FILE];
-    let mut names = [0u8; 65535];
-    let mut values = [0u8; 2048];
-    let mut store = [0u8; 65535];
-    let mut out = [0u8; 65536];
-    run(&mut file, &mut names, &mut values, &mut store, &mut out);
+// Reads the file on standard input and lists its program, and tells how it went: 0 or the number of the refusal, the lines and names of the program, and the bytes of the file.
+fn main(rt: HostRuntime) {
+    let mut file = [0; KEPT_FILE];
+    let mut program = Program::empty();
+    let size = read_file(&mut file);
+    let number = match program.load(front(&file, size)) {
+        Ok(()) => 0,
+        Err(refusal) => refusal.number(),
+    };
+    list_all(&rt, &program);
+    let lines = program.record.lines;
+    let names = program.record.name_count;
+    let _ = eprintln!(rt; "S\t{number}\t{lines}\t{names}\t{size}");
 }

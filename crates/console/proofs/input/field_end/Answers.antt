@@ -1,18 +1,18 @@
--- `field_end` meets its contract: the run up to the mark or the end.
-use native.Mathlib.Omega.{arith}
-use mathlib.Core.Path.{refl}
-use Rattle.buffers.specs.Runs.{run_on, run_off, run_past}
-use Rattle.console.specs.Fields.{unmarked, at_mark, off_mark}
+-- `field_end` meets its contract: the first mark, or the end.
+use Rattle.std.proofs.Common.{rules, tests, eqb}
+use Rattle.std.proofs.lemmas.Iterator.{YieldsList-from_slice}
+use Rattle.std.proofs.lemmas.Iterator.Search.{position_from_yields_List}
+use Rattle.console.proofs.FieldLaws.{found, none_found}
 use Rattle.console.proofs.input.field_end.Goals as goal
 
-pub loop-i-init : goal.loop-i-init
-loop-i-init c = (omega arith, omega (arith, c.requires), refl)
+pub returns-in-Some : goal.returns-in-Some
+returns-in-Some c =
+    found c.args.mark c.args.at c.args.line.now c.requires c.position.result
+    (position_from_yields_List (λ b. eqb b c.args.mark) _ _ c.position.result c.position.ensures.ran (YieldsList-from_slice _ c.iter.ensures.rest) (λ x b q k. search (rules, tests)))
+    c.in-Some.size c.in-Some.is
 
-pub returns-then-line-i : goal.returns-then-line-i
-returns-then-line-i c = let l = c.loop-i in let a = c.args in (omega (arith, l.invariant.2, run_off (unmarked a.mark) a.line.now l.i c.loop-i-test.true (at_mark a.mark _ c.if-line-i.true)), l.invariant.0, l.invariant.1)
-
-pub loop-i-preserved : goal.loop-i-preserved
-loop-i-preserved c = let a = c.args in (omega arith, omega arith, omega (arith, c.loop-i.invariant.2, run_on (unmarked a.mark) a.line.now c.loop-i.i c.loop-i-test.true (off_mark a.mark _ c.if-line-i.false)))
-
-pub returns : goal.returns
-returns c = (omega (arith, c.loop-i.invariant.2, run_past (unmarked c.args.mark) c.args.line.now c.loop-i.i c.loop-i-test.false), c.loop-i.invariant.0, c.loop-i.invariant.1)
+pub returns-in-None : goal.returns-in-None
+returns-in-None c =
+    none_found c.args.mark c.args.at c.args.line.now c.requires c.position.result
+    (position_from_yields_List (λ b. eqb b c.args.mark) _ _ c.position.result c.position.ensures.ran (YieldsList-from_slice _ c.iter.ensures.rest) (λ x b q k. search (rules, tests)))
+    c.in-None.is

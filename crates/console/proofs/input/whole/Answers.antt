@@ -1,10 +1,13 @@
 -- `whole` is all bytes of a line or none.
-use mathlib.Core.Path.{sym, ◌∙◌}
+use Rattle.std.proofs.Common.{ℕ, ◌-◌, ◌≡◌, take, arith, sym, ap, ◌∙◌}
 use Rattle.console.specs.Fields.{kept_all, kept_none}
 use Rattle.console.proofs.input.whole.Goals as goal
 
-pub returns-then-size-line : goal.returns-then-size-line
-returns-then-size-line c = c.front.ensures ∙ sym (kept_all c.args.size c.args.line.now c.if-size-line.true)
+pub returns-in-Some : goal.returns-in-Some
+returns-in-Some c =
+    let h = c.in-Some.ensures.lookup.0 in
+    let all : c.args.size - 0 ≡ c.args.size = omega arith in
+    h.2 ∙ ap (λ (n : ℕ). take n c.args.line.now) all ∙ sym (kept_all c.args.size c.args.line.now h.1)
 
-pub returns-else-size-line : goal.returns-else-size-line
-returns-else-size-line c = c.front-else-size-line.ensures ∙ sym (kept_none c.args.size c.args.line.now c.if-size-line.false)
+pub returns-in-None : goal.returns-in-None
+returns-in-None c = let h = c.in-None.ensures.lookup.0 in sym (kept_none c.args.size c.args.line.now (omega (arith, h)))
