@@ -10,7 +10,7 @@ use tag_counted::{
     save_by_counts,
 };
 use tag_numbers::{
-    put, write_batched, write_entered, write_listed, write_record, write_saved, write_verdict,
+    write_batched, write_entered, write_held, write_record, write_verdict, write_written,
 };
 
 // Enters a text, and writes the answer and the record's counts. `keep` says whether a wrong line is kept.
@@ -46,7 +46,7 @@ pub extern "C" fn virgontey_list(
     ensures { Lists (list_by_counts line names.now values.now store.now «record».now out.old) answer.old out.new answer.new }
 {
     let r = list_by_counts(line, names, values, store, record, out);
-    write_listed(answer, r);
+    write_written(answer, r);
 }
 
 // Lists the line in a line buffer, and writes the answer.
@@ -63,7 +63,7 @@ pub extern "C" fn virgontey_show(
     ensures { Lists (show line.now names.now name_bytes name_count values.now out.old) answer.old out.new answer.new }
 {
     let r = editor::show(line, names, name_bytes, name_count, values, out);
-    write_listed(answer, r);
+    write_written(answer, r);
 }
 
 // Enters the lines of a text, and writes the answer and the record's counts. `keep` says whether wrong lines are kept.
@@ -114,7 +114,7 @@ pub extern "C" fn virgontey_save(
     ensures { Saves (save_by_counts names.now values.now store.now «record».now out.old) answer.old out.new answer.new }
 {
     let r = save_by_counts(names, values, store, record, out);
-    write_saved(answer, r);
+    write_written(answer, r);
 }
 
 // Reads a file, and writes the answer and the record's counts.
@@ -130,8 +130,7 @@ pub extern "C" fn virgontey_load(
     ensures { Loads (load_by_counts file.now names.old values.old store.old «record».old) «record».old answer.old names.new values.new store.new «record».new answer.new }
 {
     let r = load_by_counts(file, names, values, store, record);
-    write_record(record, r.editor);
-    put(answer, 0, r.number as usize);
+    write_held(record, answer, r);
 }
 
 // Takes back the names that no line uses, and writes the answer and the record's counts.
@@ -146,6 +145,5 @@ pub extern "C" fn virgontey_collect(
     ensures { Collects (collect_by_counts names.old values.old store.old «record».old) «record».old answer.old names.new values.new store.new «record».new answer.new }
 {
     let r = collect_by_counts(names, values, store, record);
-    write_record(record, r.editor);
-    put(answer, 0, r.number as usize);
+    write_held(record, answer, r);
 }

@@ -11,6 +11,8 @@ use Rattle.paper.specs.Examine.{Verdict, verdict_number, verdict_line}
 use Rattle.paper.specs.Files.{Saved, not_saved, save, Loaded, not_loaded, load}
 use Rattle.paper.specs.Collect.{Collected, collect}
 use Rattle.requested.specs.RequestTerms.{all_unsound}
+use Rattle.refusals.specs.declared.Refusal.{Refusal}
+use Rattle.refusals.specs.Numbers.{number_of}
 use Rattle.editor_edit.specs.declared.Editor.{Editor}
 use Rattle.editor_edit.specs.States.{state}
 
@@ -113,6 +115,14 @@ pub record Collects (c : Collected) (r a names values store r' a' : List ℕ) : 
   pub store_so : store ≡ c.after.store
   pub record_so : r' ≡ sets r 0 (counts c.after)
   pub answer_so : a' ≡ sets a 0 (c.number ∷ [])
+
+-- A record that was made stands in the lent record, and 0 in the answer.
+abbrev pub Holds : List ℕ → List ℕ → List ℕ → List ℕ → Editor → Type 0
+Holds r r' a a' held = (r' ≡ sets r 0 (held.name_bytes ∷ held.name_count ∷ held.used ∷ held.lines ∷ held.greatest ∷ [])) × (a' ≡ sets a 0 (0 ∷ []))
+
+-- The lent record is as it was, and the number of a refusal stands in the answer.
+abbrev pub Keeps : List ℕ → List ℕ → List ℕ → List ℕ → Refusal → Type 0
+Keeps r r' a a' k = (r' ≡ r) × (a' ≡ sets a 0 (number_of k ∷ []))
 
 -- the counts of a record, written back, leave it as it was
 pub kept : (r names values store : List ℕ) → sets r 0 (counts (state names values store (editor_of r))) ≡ r

@@ -1,5 +1,0 @@
-use Rattle.tag_numbers.proofs.PutLaws.{six_put}
-use Rattle.tag_numbers.proofs.write_batched.Goals as goal
-
-pub returns : goal.returns
-returns c = six_put c.args.answer.now _ _ _ _ _ _ _ _ c.args.r.number _ _ _ c.put.ensures c.put-2.ensures c.put-3.ensures c.put-4.ensures c.put-5.ensures c.put-6.ensures
