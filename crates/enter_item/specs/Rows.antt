@@ -2,7 +2,7 @@
 use Rattle.std.specs.Prelude.{ℕ, ◌≡◌, refl, Bool, true, false, [], ◌∷◌, ◌++◌, eqb}
 use Rattle.std.proofs.Common.{sym, subst, ne_eqb, eqb-true}
 use Rattle.paper.specs.Bytes.{pick}
-use Rattle.paper.specs.Classes.{number, quoted, numeric_variable, string_variable, array, open_sign, close_sign, comma, equals, comparison, plus_minus, factor_sign, not_word, or_and, string_function, function_of_string, function_of_number}
+use Rattle.paper.specs.Classes.{number, quoted, numeric_variable, string_variable, array, open_sign, close_sign, comma, equals, comparison, plus_minus, not_word, string_function, function_of_string, function_of_number}
 use Rattle.paper.specs.Frames.{want_operand, want_more_terms, want_array_open, want_second, want_close, want_function_open, want_string, want_substring, want_string_comparison}
 use Rattle.paper.specs.Machine.{take, leave, refuse, row, at_row}
 use Rattle.paper.specs.Grammar.{itself, for_strings, as_prefix, put, look}

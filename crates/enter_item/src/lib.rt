@@ -114,11 +114,7 @@ pub fn token(line: &mut [u8], q: Spot, end: usize, b: u8) -> Spot
 pub fn compares(class: u8) -> bool
     ensures { result ≡ compares? class }
 {
-    match class {
-        class::COMPARISON => true,
-        class::EQUALS => true,
-        _ => false,
-    }
+    matches!(class, class::COMPARISON | class::EQUALS)
 }
 
 // An operator's token that many on.

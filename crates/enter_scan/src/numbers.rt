@@ -1,9 +1,10 @@
 // Numbers: digits, point, exponent.
 ghost use Rattle.std.specs.Prelude.{◌≡◌, ◌&&◌, ◌||◌, suc, ◌-◌, ◌<◌, eqb, length, take, drop};
+ghost use Rattle.std.specs.Option.{unwrap_or};
 ghost use Rattle.paper.specs.Bytes.{digit?};
 ghost use Rattle.paper.specs.Constants.{value};
 ghost use Rattle.paper.specs.Items.{sign_size, power_size};
-ghost use Rattle.enter_scan.specs.Kinds.{digits_size, power_at, number_shape, item_with};
+ghost use Rattle.enter_scan.specs.Kinds.{digits_size, no_power, power_at, number_shape, item_with};
 
 use crate::{Exponent, Item, Kind};
 use buffers::{Run, byte_at, is_digit, run_end};
@@ -13,10 +14,7 @@ use constant_bytes::Numeral;
 pub(crate) fn begins_number(b: u8, next: u8) -> bool
     ensures { result ≡ (digit? b || (eqb b 46 && digit? next)) }
 {
-    if is_digit(b) {
-        return true;
-    }
-    if b == b'.' { is_digit(next) } else { false }
+    is_digit(b) || b == b'.' && is_digit(next)
 }
 
 // Past the point at a place and the digits after it, if one stands there.
@@ -41,8 +39,7 @@ fn sign_length(b: u8) -> usize
     ensures { result ≡ sign_size b }
 {
     match b {
-        b'+' => 1,
-        b'-' => 1,
+        b'+' | b'-' => 1,
         _ => 0,
     }
 }
@@ -74,32 +71,31 @@ fn power_value(part: &[u8], at: usize, count: usize) -> u8
     tens * 10 + (byte_at(part, at + 1) - 48)
 }
 
+// No exponent.
+const NO_EXPONENT: Exponent = Exponent {
+    size: 0,
+    down: false,
+    power: 0,
+};
+
 // The exponent at a place: E, a sign if there is one, and one or two digits; none if they do not stand there.
-fn exponent(part: &[u8], at: usize) -> Exponent
-    ensures { result ≡ power_at part.now at }
+fn exponent(part: &[u8], at: usize) -> Option<Exponent>
+    ensures { unwrap_or result no_power ≡ power_at part.now at }
 {
     if byte_at(part, at) != b'E' {
-        return Exponent {
-            size: 0,
-            down: false,
-            power: 0,
-        };
+        return None;
     }
     let sign = byte_at(part, at + 1);
     let digits = at + 1 + sign_length(sign);
     let count = power_length(part, digits);
     if count == 0 {
-        return Exponent {
-            size: 0,
-            down: false,
-            power: 0,
-        };
+        return None;
     }
-    Exponent {
+    Some(Exponent {
         size: digits - at + count,
         down: sign == b'-',
         power: power_value(part, digits, count),
-    }
+    })
 }
 
 // The item of a number: digits with at most one point, and an exponent if one follows.
@@ -110,16 +106,13 @@ pub(crate) fn number_item(part: &[u8], at: usize) -> Item
     let point = run_end(part, at, Run::Digits);
     let end = past_fraction(part, point);
     let fraction = after_point(point, end);
-    let found = exponent(part, end);
-    let whole = point - at;
-    let down = found.down;
-    let power = found.power;
+    let found = exponent(part, end).unwrap_or(NO_EXPONENT);
     Item {
         kind: Kind::Number(Numeral {
-            whole,
+            whole: point - at,
             fraction,
-            down,
-            power,
+            down: found.down,
+            power: found.power,
         }),
         at,
         end: end + found.size,

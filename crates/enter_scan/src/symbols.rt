@@ -40,7 +40,7 @@ pub(crate) fn string_item(part: &[u8], at: usize) -> Item
 pub(crate) fn is_print_sign(b: u8, first: bool) -> bool
     ensures { result ≡ (eqb b 63 && first) }
 {
-    if b == b'?' { first } else { false }
+    first && b == b'?'
 }
 
 // The item at a byte that is no letter: the longest symbol there, or a byte that starts no item.
