@@ -16,6 +16,7 @@ use refusals::Refusal;
 const MOST_NAMES: usize = 256;
 
 // Takes back the names that no line uses and returns the record afterwards, or refuses with 1 or 10 and changes nothing. The caller's record is then as it was.
+// Stays with each buffer lent by itself: the export to C lends them so.
 pub fn collect(
     names: &mut [u8],
     values: &mut [u8],

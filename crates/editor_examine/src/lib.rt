@@ -72,6 +72,7 @@ fn examine_lines(lines: &[u8], names: &[u8], name_bytes: usize) -> Result<(), Fl
     let mut frames = [0u8; DEEPEST];
     let mut rest = lines;
     let mut least: usize = 0;
+    // Stays a loop over the rest: from a bad line on all the rest is searched, which an iterator over lines has given up.
     while !rest.is_empty() {
         let size = store::passing(rest, least, GREATEST_NUMBER + 1).ok_or(Flaw::UnsoundStore)?;
         let (line, after) = rest.split_at(size);
@@ -85,6 +86,7 @@ fn examine_lines(lines: &[u8], names: &[u8], name_bytes: usize) -> Result<(), Fl
 }
 
 // Examines a program: names, room for their values, and store, in this order, and then every line.
+// Stays with each table and its size lent by itself: the export to C lends them so.
 pub fn examine(
     names: &[u8],
     name_bytes: usize,

@@ -14,6 +14,7 @@ use refusals::{Refusal, RefusedItem};
 
 // Enters a text as `enter` does, over a lent record, which is updated, and returns how many names were added. A wrong line that is kept is a refusal too, of which
 // the record counts the line.
+// Stays with each buffer lent by itself, as they come to `enter`, which the export to C calls with them so.
 pub fn enter_lent(
     text: &[u8],
     keep: bool,

@@ -69,6 +69,7 @@ fn put_block(names: &[u8], values: &[u8], store: &[u8], e: Editor, out: &mut [u8
 }
 
 // Writes the file of a program to the front of a lent buffer and returns how many bytes it has, or refuses with 1 or 8 and writes nothing.
+// Stays with each buffer lent by itself: the export to C lends them so.
 pub fn save(
     names: &[u8],
     values: &[u8],
