@@ -1,15 +1,14 @@
 -- Sound tables: name by name, and whole.
-use Prim.Native.Nat.{ℕ, zero, suc, ◌+◌, ◌-◌, ◌*◌, ◌/◌, ◌%◌, ◌≤◌, ◌<◌}
-use native.Mathlib.Nat.{div-add-mod, mod-lt}
+use Prim.Native.Nat.{ℕ, zero, suc, ◌+◌, ◌-◌, ◌≤◌, ◌<◌}
 use native.Mathlib.Omega.{arith}
 use mathlib.Core.Path.{◌≡◌, refl, subst, sym, ap, ◌∙◌}
-use mathlib.Core.Bool.{Bool, true, false, not, ◌&&◌, ◌||◌, and-true, and-false}
+use mathlib.Core.Bool.{Bool, true, false, not, ◌&&◌, ◌||◌, and-false}
 use mathlib.Core.List.{List, [], ◌∷◌, ◌++◌, append_assoc}
 use lib.Dec.{leb, ltb, eqb, eqb-zero-suc, eqb-suc-zero, eqb-suc-suc}
 use lib.ListN.{length, take, get_or, set, length-append}
 use lib.Seq.{take_all}
 use Rattle.std.proofs.lemmas.List.{take-append-le}
-use borrow.Author.Tests.{lt-ltb, le-leb, lt-leb, leb-true, leb-false, eqb-true}
+use borrow.Author.Tests.{lt-ltb, le-leb, lt-leb, eqb-true}
 use Rattle.paper.specs.Bytes.{same, every}
 use Rattle.paper.specs.Words.{reserved?}
 use Rattle.paper.specs.Names.{names_in, name_bytes, less_open, name?, known?, all_different, sound_names, sound_table}
@@ -210,19 +209,3 @@ module _ (table : List ℕ) (size count : ℕ) where
   all_sound {r} {s} h k e f g =
       let z : closed? (take size table) ≡ true = sym e ∙ f in
       g ∙ sym (rw (whole h k, z))
-
--- the eighth of a room bounds the count as the room bounds eight times it
-pub eighth : (count room : ℕ) → leb count (room / 8) ≡ leb (8 * count) room
-eighth count room = go (leb count (room / 8)) refl
-  where
-    go : (b : Bool) → leb count (room / 8) ≡ b → b ≡ leb (8 * count) room
-    go true e = sym (le-leb (8 * count) room (omega (arith, leb-true count (room / 8) e, div-add-mod room 8)))
-    go false e = let h : room % 8 < 8 = mod-lt room (omega arith) in sym (lt-leb (8 * count) room (omega (arith, leb-false count (room / 8) e, div-add-mod room 8)))
-
--- where the values fit, the table decides
-pub table_decides : (a b r : Bool) → b ≡ true → r ≡ a → r ≡ a && b
-table_decides a b r e h = h ∙ sym (rw (e) (and-true a))
-
--- where they do not, nothing else counts
-pub no_room : (a b : Bool) → b ≡ false → false ≡ a && b
-no_room a b e = sym (rw (e) (and-false a))

@@ -90,9 +90,5 @@ pub fn values_fit(count: usize, value_room: usize) -> bool
 pub fn sound(names: &[u8], size: usize, count: usize, value_room: usize) -> bool
     ensures { result ≡ sound_table names.now size count && leb (8 * count) value_room }
 {
-    if values_fit(count, value_room) {
-        sound_table(names, size, count)
-    } else {
-        false
-    }
+    values_fit(count, value_room) && sound_table(names, size, count)
 }
