@@ -115,7 +115,8 @@ impl<'a> Iterator for TextLines<'a> {
     }
 }
 
-// Enters the lines of a text one after another, as single calls would, going on after a refusal. Tables, store and record are tested once: what a line leaves is sound again. `keep` says whether wrong lines are kept.
+// Enters the lines of a text one after another, as single calls would, going on after a refusal. Tables, store and record are tested once: what a line leaves
+// is sound again. `keep` says whether wrong lines are kept.
 // Stays with each buffer lent by itself: the export to C lends them so.
 pub fn batch(
     text: &[u8],

@@ -11,8 +11,5 @@ returns-in_err-held c =
     let p = err_from_is_err_and c.from_residual.result c.from_residual.ensures.1 in
     rw (p.1, p.2) (not_opened c.args.file.now c.if-file-gt-MOST.false _ (sym c.«open».ensures ∙ c.in_err-held.was))
 
-pub weigh_held-requires : goal.weigh_held-requires
-weigh_held-requires c = (sym c.«open».ensures ∙ c.in_ok-held.was, c.if-file-gt-MOST.false)
-
 pub returns : goal.returns
 returns c = c.weigh_held.ensures

@@ -3,17 +3,14 @@ use native.Mathlib.Omega.{arith}
 use mathlib.Core.Path.{◌≡◌, subst, sym, ap, ◌∙◌}
 use Rattle.std.specs.Prelude.{Some, None}
 use mathlib.Core.List.{List}
-use lib.ListN.{length, take, drop, get_or, replicate, length-replicate}
+use lib.ListN.{length, take, drop, get_or, replicate}
 use lib.Seq.{sets}
 use Rattle.paper.specs.Names.{names_in, most_names}
 use Rattle.names_kinds.specs.Kinds.{kinds_of}
 use Rattle.list_check.specs.KindLaws.{sound_kinds}
 use Rattle.list_weigh.specs.Weights.{Slight}
-use Rattle.file_weigh.proofs.LinesLaws.{going_first, going_done, going_small, going_line, going_refused, going_light, going_next}
+use Rattle.file_weigh.proofs.LinesLaws.{going_done, going_small, going_line, going_refused, going_light, going_next}
 use Rattle.file_weigh.proofs.weigh_lines.Goals as goal
-
-pub loop-rest-init : goal.loop-rest-init
-loop-rest-init c = (length-replicate {A = ℕ} 2056 0, going_first (names_in (take c.args.size c.args.names.now)) c.args.lines.now _ c.requires.3 c.nothing-total.ensures)
 
 pub split_at-requires : goal.split_at-requires
 split_at-requires c =
