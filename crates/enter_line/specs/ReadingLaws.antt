@@ -1,11 +1,12 @@
 -- The answer to a text, from its head and from what the reader of statements tells.
-use Rattle.std.specs.Prelude.{ℕ, suc, ◌+◌, ◌-◌, ◌/◌, ◌%◌, ◌≤◌, ◌<◌, Bool, true, false, eqb, leb, take, drop, set}
+use Rattle.std.specs.Prelude.{ℕ, suc, ◌+◌, ◌-◌, ◌/◌, ◌%◌, ◌≤◌, ◌<◌, Bool, true, false, eqb, leb, take, drop, set, Option, Result, Ok, Err}
 use Rattle.std.proofs.Common.{arith, ◌∙◌, zero-add, drop-drop}
 use Rattle.std.proofs.Math.Path.{◌≡◌, refl, subst, sym, ap}
 use mathlib.Core.List.{List, [], ◌∷◌, ◌++◌, append-nil}
 use borrow.Author.Tests.{eq-eqb, ne_eqb, le-leb, lt-leb, leb-true}
 use Rattle.std.proofs.Math.ListN.{length, length-drop}
 use Rattle.std.proofs.lemmas.List.Edits.{sets}
+use Rattle.std.specs.Bool.{then_some}
 use Rattle.std.proofs.Math.Seq.{drop-append_seam}
 use Rattle.paper.specs.Bytes.{pick, digit?, blank?, run}
 use Rattle.paper.specs.Tokens.{Token}
@@ -30,12 +31,17 @@ use Rattle.enter_item.specs.Says.{env, Mem, mem, spot, known, items_at, Asks}
 use Rattle.enter_item.specs.declared.Spot.{Spot}
 use Rattle.enter_statement.specs.Ends.{Halts}
 use Rattle.enter_statements.specs.Lines.{Finishes}
-use Rattle.enter_line.specs.Reading.{as_head, statements, number_alone, nothing, start_at, standing, Refuses, of_translated, of_start, Accepted, Told}
+use Rattle.enter_line.specs.Reading.{as_head, as_start, statements, number_alone, nothing, start_at, standing, gives_line, Refuses, of_translated, of_start, Accepted, Told}
 use Rattle.enter_line.specs.Places.{refused_within}
-use Rattle.enter_line.specs.declared.Head.{Head as Found}
-use Rattle.enter_line.specs.declared.Head.TheVariants.{Numbered, TooGreat, OnlyBlanks, Unnumbered}
+use Rattle.enter_line.specs.declared.Numbered.{Numbered}
+use Rattle.enter_line.specs.declared.NoNumber.{NoNumber}
+use Rattle.enter_line.specs.declared.NoNumber.TheVariants.{TooGreat, OnlyBlanks, Unnumbered}
+use Rattle.enter_line.specs.declared.Start.{Start as Begun}
+use Rattle.enter_line.specs.declared.Start.TheVariants.{Statements}
 use Rattle.enter_line.specs.declared.Reading.{Reading}
-use Rattle.enter_line.specs.declared.Reading.TheVariants.{Read, Delete, Refused}
+use Rattle.enter_line.specs.declared.Reading.TheVariants.{Read, Delete}
+use Rattle.refusals.specs.declared.Refusal.TheVariants.{NoNumber as No_number}
+use Rattle.refusals.specs.declared.RefusedItem.{RefusedItem}
 
 -- ---- the head
 
@@ -119,46 +125,46 @@ statements_within {n} {p} direct text h = go (head_of text) refl h
 
 -- ---- the start
 
-module _ {r : Found} (direct : Bool) (text : List ℕ) (h : head_of text ≡ as_head text r) where
-  start_head : {f : Found} → r ≡ f → start_at direct (head_of text) ≡ start_at direct (as_head text f)
+module _ {r : Result Numbered NoNumber} (direct : Bool) (text : List ℕ) (h : head_of text ≡ as_head text r) where
+  start_head : {f : Result Numbered NoNumber} → r ≡ f → start_at direct (head_of text) ≡ start_at direct (as_head text f)
   start_head e = ap (start_at direct) (h ∙ ap (as_head text) e)
 
-  module _ {n p e : ℕ} (q : r ≡ Numbered n p) (a : e ≡ p + run blank? (drop p text)) where
+  module _ {l : Numbered} {e : ℕ} (q : r ≡ Ok l) (a : e ≡ l.from + run blank? (drop l.from text)) where
     -- blanks alone stand after the number
-    pub start_alone : e ≡ length text → start_at direct (head_of text) ≡ number_alone n
+    pub start_alone : e ≡ length text → start_at direct (head_of text) ≡ number_alone l.number
     unfolding start_at
-    start_alone b = start_head q ∙ rw (eq-eqb (run blank? (drop p text)) (length (drop p text)) (omega (arith, length-drop p text)))
+    start_alone b = start_head q ∙ rw (eq-eqb (run blank? (drop l.from text)) (length (drop l.from text)) (omega (arith, length-drop l.from text)))
 
     -- more stands there
-    pub start_number : (e ≡ length text → ⊥) → start_at direct (head_of text) ≡ statements n p
+    pub start_number : (e ≡ length text → ⊥) → start_at direct (head_of text) ≡ statements l.number l.from
     unfolding start_at
     start_number b =
         let fits = numbered_within text (h ∙ ap (as_head text) q) in
-        start_head q ∙ rw (ne_eqb (run blank? (drop p text)) (length (drop p text)) (λ z. b (omega (arith, fits.1, length-drop p text))))
+        start_head q ∙ rw (ne_eqb (run blank? (drop l.from text)) (length (drop l.from text)) (λ z. b (omega (arith, fits.1, length-drop l.from text))))
 
   -- no number that a line can have
-  pub start_great : r ≡ TooGreat → start_at direct (head_of text) ≡ nothing
+  pub start_great : r ≡ Err TooGreat → start_at direct (head_of text) ≡ nothing
   unfolding start_at
   start_great q = start_head q
 
-  pub start_blanks : r ≡ OnlyBlanks → start_at direct (head_of text) ≡ nothing
+  pub start_blanks : r ≡ Err OnlyBlanks → start_at direct (head_of text) ≡ nothing
   unfolding start_at
   start_blanks q = start_head q
 
   -- no number
-  pub start_direct : r ≡ Unnumbered → direct ≡ true → start_at direct (head_of text) ≡ statements direct_number 0
+  pub start_without : {o : Option Begun} → r ≡ Err Unnumbered → o ≡ then_some direct (Statements (record { number = direct_number; from = 0 })) → start_at direct (head_of text) ≡ as_start o
   unfolding start_at
-  start_direct q t = start_head q ∙ rw t
-
-  pub start_none : r ≡ Unnumbered → direct ≡ false → start_at direct (head_of text) ≡ nothing
-  unfolding start_at
-  start_none q t = start_head q ∙ rw t
+  start_without q e = start_head q ∙ go direct ∙ sym (ap as_start e)
+    where
+      go : (b : Bool) → pick b (statements direct_number 0) nothing ≡ as_start (then_some b (Statements (record { number = direct_number; from = 0 })))
+      go true = refl
+      go false = refl
 
 -- ---- the answer
 
 module _ {ks : List (List ℕ)} {keep direct : Bool} {text line fresh line' fresh' : List ℕ} where
   -- nothing
-  pub told_nothing : start_at direct (head_of text) ≡ nothing → Told ks keep direct text line fresh line' fresh' (Refused 3 0 0)
+  pub told_nothing : start_at direct (head_of text) ≡ nothing → Told ks keep direct text line fresh line' fresh' (Err (record { refusal = No_number; place = 0; end = 0 }))
   unfolding of_start
   told_nothing h = record {
     answer = sym (ap (of_start keep ks text) h);
@@ -167,7 +173,7 @@ module _ {ks : List (List ℕ)} {keep direct : Bool} {text line fresh line' fres
   }
 
   -- a number alone
-  pub told_delete : {n : ℕ} → start_at direct (head_of text) ≡ number_alone n → Told ks keep direct text line fresh line' fresh' (Delete n)
+  pub told_delete : {n : ℕ} → start_at direct (head_of text) ≡ number_alone n → Told ks keep direct text line fresh line' fresh' (Ok (Delete n))
   unfolding of_start
   told_delete h = record {
     answer = sym (ap (of_start keep ks text) h);
@@ -177,7 +183,7 @@ module _ {ks : List (List ℕ)} {keep direct : Bool} {text line fresh line' fres
 
   module _ {n p : ℕ} (h : start_at direct (head_of text) ≡ statements n p) where
     -- statements, one of which is refused
-    pub told_refused : {k q : ℕ} {r : Reading} → translate p (drop p text) ≡ refused_at k (standing text q) → Refuses keep text n p k q line' r → Told ks keep direct text line fresh line' fresh' r
+    pub told_refused : {k q : ℕ} {r : Result Reading RefusedItem} → translate p (drop p text) ≡ refused_at k (standing text q) → Refuses keep text n p k q line' r → Told ks keep direct text line fresh line' fresh' r
     unfolding of_start of_translated
     told_refused {k} {q} t w = record {
       answer = w.answer ∙ sym (ap (of_start keep ks text) h ∙ ap (of_translated keep ks text n p) t);
@@ -197,12 +203,12 @@ module _ {ks : List (List ℕ)} {keep direct : Bool} {text line fresh line' fres
     -- statements that are accepted
     pub told_read : {size named : ℕ} {us : List Token} → translate p (drop p text) ≡ tokens us
         → (Accepted ks n us line fresh line' fresh') × (size ≡ length (line_bytes (add_names ks us) n us)) × (named ≡ length (name_bytes (names_added ks us)))
-        → Told ks keep direct text line fresh line' fresh' (Read (record { number = n; size = size; named = named }))
+        → Told ks keep direct text line fresh line' fresh' (Ok (Read (record { number = n; size = size; named = named })))
     unfolding of_start of_translated
     told_read {size} {named} {us} t w = record {
       answer =
-          ap (λ (x : ℕ). Read (record { number = n; size = x; named = named })) w.1
-          ∙ ap (λ (x : ℕ). Read (record { number = n; size = length (line_bytes (add_names ks us) n us); named = x })) w.2
+          ap (λ (x : ℕ). gives_line (record { number = n; size = x; named = named })) w.1
+          ∙ ap (λ (x : ℕ). gives_line (record { number = n; size = length (line_bytes (add_names ks us) n us); named = x })) w.2
           ∙ sym (ap (of_start keep ks text) h ∙ ap (of_translated keep ks text n p) t);
       accepted = λ n' p' ts e u.
           let i : p ≡ p' = cc in

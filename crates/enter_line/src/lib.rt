@@ -1,18 +1,20 @@
 // From text to token line, or its refusal: the number of the line, and then its statements.
 #![tactic(auto)]
 
-ghost use Rattle.std.specs.Prelude.{◌≡◌, ◌≤◌, length, take};
+ghost use Rattle.std.specs.Prelude.{◌≡◌, ◌≤◌, length};
 ghost use Rattle.paper.specs.Names.{names_in};
 ghost use Rattle.paper.specs.Line.{direct_number};
 ghost use Rattle.paper.specs.Calls.{head_of};
+ghost use Rattle.refusals.specs.Numbers.{number_of};
 ghost use Rattle.enter_line.specs.Reading.{as_head, start_at, as_start, Refuses, Told};
 
 use buffers::{Run, decimal, put, run_end};
 pub use enter_error::DIRECT_NUMBER;
 use enter_error::{keeps, write_error_line};
-use enter_item::{LINE_ROOM, NAMES_ROOM, Spot, Step, low_byte};
+use enter_item::{Draft, LINE_ROOM, Spot, Text, low_byte};
 use enter_scan::item_at;
 use enter_statements::statements;
+use refusals::{Refusal, RefusedAt, RefusedItem};
 use store::GREATEST_NUMBER;
 
 // A line that was read: its number, how many bytes it has, and how many bytes the names new in it have.
@@ -23,144 +25,163 @@ pub struct Line {
     pub named: usize,
 }
 
-// What reading a text gives: a line, the number alone of a line to delete, a refusal's number, its place and that place's end; or the error line that is
-// kept of a text refused with 4, with the place and its end.
+// What reading a text gives: a line; the number alone of a line to delete; or the error line that is kept of a text refused with NoReading, with that
+// refusal.
 #[derive(Clone, Copy)]
 pub enum Reading {
     Read(Line),
     Delete(usize),
-    Refused(u8, usize, usize),
-    Kept(Line, usize, usize),
+    Kept(Line, RefusedItem),
 }
 
-// How a text begins: its number and the place past its digits; digits worth too much for a line; no digit, in a text of blanks alone or in another.
+// The number of a line, and the place from which on its statements stand.
 #[derive(Clone, Copy)]
-enum Head {
-    Numbered(usize, usize),
+struct Numbered {
+    number: usize,
+    from: usize,
+}
+
+// Why a text begins with no number: its digits are worth too much for a line; it has no digit, as a text of blanks alone or another.
+#[derive(Clone, Copy)]
+enum NoNumber {
     TooGreat,
     OnlyBlanks,
     Unnumbered,
 }
 
-// The number is the digit run after blanks.
-fn head_of(text: &[u8]) -> Head
+// The number is the digit run after blanks; what it numbers stands past its digits.
+fn head_of(text: &[u8]) -> Result<Numbered, NoNumber>
     ensures { head_of text.now ≡ as_head text.now result }
 {
     let from = run_end(text, 0, Run::Blanks);
     let end = run_end(text, from, Run::Digits);
     if end == from {
         if from == text.len() {
-            return Head::OnlyBlanks;
+            return Err(NoNumber::OnlyBlanks);
         }
-        return Head::Unnumbered;
+        return Err(NoNumber::Unnumbered);
     }
     let number = decimal(&text[from..end]);
     if GREATEST_NUMBER < number {
-        return Head::TooGreat;
+        return Err(NoNumber::TooGreat);
     }
-    Head::Numbered(number, end)
+    Ok(Numbered { number, from: end })
 }
 
-// What a text is to be read as: the line with a number, whose statements stand from a place on; a number alone; nothing.
+// What a text is to be read as: the statements of a line, or its number alone.
 #[derive(Clone, Copy)]
 enum Start {
-    Statements(usize, usize),
+    Statements(Numbered),
     NumberAlone(usize),
-    Nothing,
 }
 
-// The start of a text. `direct` says whether one without a number is a line: its statements stand from the text's own start on.
-fn start_of(text: &[u8], direct: bool) -> Start
+// A line without a number: its statements stand from the text's own start on.
+const DIRECT: Numbered = Numbered {
+    number: DIRECT_NUMBER,
+    from: 0,
+};
+
+// The start of a text, if it has one. `direct` says whether one without a number is a line.
+fn start_of(text: &[u8], direct: bool) -> Option<Start>
     ensures { start_at direct (head_of text.now) ≡ as_start result }
 {
     match head_of(text) {
-        Head::Numbered(number, end) => {
-            if run_end(text, end, Run::Blanks) == text.len() {
-                Start::NumberAlone(number)
+        Ok(line) => {
+            if run_end(text, line.from, Run::Blanks) == text.len() {
+                Some(Start::NumberAlone(line.number))
             } else {
-                Start::Statements(number, end)
+                Some(Start::Statements(line))
             }
         }
-        Head::TooGreat => Start::Nothing,
-        Head::OnlyBlanks => Start::Nothing,
-        Head::Unnumbered => {
-            if direct {
-                Start::Statements(DIRECT_NUMBER, 0)
-            } else {
-                Start::Nothing
-            }
-        }
+        Err(NoNumber::TooGreat) => None,
+        Err(NoNumber::OnlyBlanks) => None,
+        Err(NoNumber::Unnumbered) => direct.then_some(Start::Statements(DIRECT)),
     }
 }
 
-// What comes of a text that is refused with 4 or 5 at a place, where the statements of the line with a number stand from `from` on: the error line, at the
-// front of `line`, where it is kept, or the refusal. The place ends with the item that stands there.
+// What comes of a text whose line, as it was numbered, is refused as having no reading or out of range: the error line, at the front of `line`, where it is
+// kept, or the refusal. Its place ends with the item that stands there.
 fn refused(
     text: &[u8],
     keep: bool,
-    line_number: usize,
-    from: usize,
-    number: u8,
-    place: usize,
+    numbered: Numbered,
+    at: RefusedAt,
     line: &mut [u8; LINE_ROOM],
-) -> Reading
-    requires { (line_number ≤ direct_number) × (from ≤ place) × (place ≤ length text.now) × (length text.now ≤ 120) }
-    ensures { Refuses keep text.now line_number from number place line.new result }
+) -> Result<Reading, RefusedItem>
+    requires { (numbered.number ≤ direct_number) × (numbered.from ≤ at.place) × (at.place ≤ length text.now) × (length text.now ≤ 120) }
+    ensures { Refuses keep text.now numbered.number numbered.from (number_of at.refusal) at.place line.new result }
 {
+    let Numbered { number, from } = numbered;
+    let RefusedAt { refusal, place } = at;
     let item = item_at(text, place, false);
     let end = item.end;
-    if keeps(text, keep, line_number, number, place) {
-        let size = write_error_line(line_number, &text[from..], place - from, line);
-        return Reading::Kept(
-            Line {
-                number: line_number,
-                size,
-                named: 0,
-            },
-            place,
-            end,
-        );
+    let answer = RefusedItem {
+        refusal,
+        place,
+        end,
+    };
+    if !keeps(text, keep, number, refusal.number(), place) {
+        return Err(answer);
     }
-    Reading::Refused(number, place, end)
+    let size = write_error_line(number, &text[from..], place - from, line);
+    let kept = Line {
+        number,
+        size,
+        named: 0,
+    };
+    Ok(Reading::Kept(kept, answer))
 }
 
-// Reads a text of at most 120 bytes over the first `size` bytes of a name table; one without a number only if `direct` says so. An accepted line, or the
-// error line of a wrong one that is kept, which `keep` says, is written to the front of `line`, and the names that are new in an accepted line to the
-// front of `fresh`; what they hold after any other answer is scratch.
+// The refusal of a text that is no line.
+const NO_NUMBER: RefusedItem = RefusedItem {
+    refusal: Refusal::NoNumber,
+    place: 0,
+    end: 0,
+};
+
+// Reads a text of at most 120 bytes over the bytes of a name table; one without a number only if `direct` says so. An accepted line, or the error line of a
+// wrong one that is kept, which `keep` says, is written to the front of the draft's line, and the names that are new in an accepted line to the front of its
+// new names; what they hold after any other answer is scratch.
 pub fn read(
     text: &[u8],
     keep: bool,
     direct: bool,
     names: &[u8],
-    size: usize,
-    line: &mut [u8; LINE_ROOM],
-    fresh: &mut [u8; NAMES_ROOM],
-) -> Reading
-    requires { (length text.now ≤ 120) × (size ≤ length names.now) × (240 ≤ length fresh.old) }
-    ensures { Told (names_in (take size names.now)) keep direct text.now line.old fresh.old line.new fresh.new result }
+    draft: &mut Draft,
+) -> Result<Reading, RefusedItem>
+    requires { (length text.now ≤ 120) × (240 ≤ length draft.old.fresh) }
+    ensures { Told (names_in names.now) keep direct text.now draft.old.line draft.old.fresh draft.new.line draft.new.fresh result }
 {
-    match start_of(text, direct) {
-        Start::Statements(number, from) => {
-            put(line, 0, low_byte(number));
-            put(line, 1, low_byte(number / 256));
-            let start = Spot {
-                at: from,
+    let Some(start) = start_of(text, direct) else {
+        return Err(NO_NUMBER);
+    };
+    match start {
+        Start::NumberAlone(number) => Ok(Reading::Delete(number)),
+        Start::Statements(numbered) => {
+            let number = numbered.number;
+            put(&mut draft.line, 0, low_byte(number));
+            put(&mut draft.line, 1, low_byte(number / 256));
+            let first = Spot {
+                at: numbered.from,
                 written: 3,
                 named: 0,
             };
-            match statements(text, start, line, &names[..size], fresh) {
-                Step::Done(p) => {
-                    put(line, 2, low_byte(p.written));
-                    Reading::Read(Line {
+            let whole = Text {
+                part: text,
+                offset: 0,
+                names,
+            };
+            match statements(whole, first, draft) {
+                Ok(last) => {
+                    put(&mut draft.line, 2, low_byte(last.written));
+                    Ok(Reading::Read(Line {
                         number,
-                        size: p.written,
-                        named: p.named,
-                    })
+                        size: last.written,
+                        named: last.named,
+                    }))
                 }
-                Step::Refused(k, place) => refused(text, keep, number, from, k, place, line),
+                Err(at) => refused(text, keep, numbered, at, &mut draft.line),
             }
         }
-        Start::NumberAlone(number) => Reading::Delete(number),
-        Start::Nothing => Reading::Refused(3, 0, 0),
     }
 }
