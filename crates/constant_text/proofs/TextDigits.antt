@@ -3,12 +3,10 @@ use Prim.Native.Nat.{ℕ, zero, suc, ◌+◌, ◌-◌, ◌*◌, ◌/◌, ◌%◌
 use native.Mathlib.Numerals.{add-one}
 use native.Mathlib.Omega.{arith}
 use mathlib.Core.Path.{◌≡◌, refl, sym, ap, ◌∙◌}
-use mathlib.Core.Bool.{Bool, true, false}
 use mathlib.Core.List.{List, [], ◌∷◌, ◌++◌}
-use lib.Dec.{eqb}
-use lib.ListN.{length, take, drop, get_or, length-take, drop_of_length-le, get_or-eq_default}
+use lib.ListN.{length, take, drop, get_or, length-take, drop_of_length-le}
 use lib.Seq.{slice, take-suc, take_all, drop-append-le, length-take-le}
-use borrow.Author.Tests.{ne_eqb, eqb-true, eqb-false}
+use borrow.Author.Tests.{ne_eqb}
 use Rattle.paper.specs.Constants.{digits_of, put_digit, trimmed}
 use Rattle.constant_text.specs.Texts.{six_here, digits_here, Trims}
 
@@ -49,17 +47,6 @@ unfolding digits_here
 digit_odd s p i b h z e =
     let k : i ≡ 2 * (i / 2) + 1 = omega arith in
     sym (ap (λ (j : ℕ). get_or (digits_of (drop 1 (six_here s p))) j 48) k ∙ low_digit (drop 1 (six_here s p)) (i / 2) ∙ ap (λ (j : ℕ). 48 + j % 16) (here_byte s p (i / 2) (omega arith) ∙ sym e))
-
--- past the end zeros
-pub digit_out : (s : List ℕ) (p i : ℕ) → i < 10 → length s ≤ p → 48 ≡ get_or (digits_here s p) i 48
-digit_out s p i h l = go (eqb (i % 2) 0) refl
-  where
-    none : 0 ≡ get_or s (p + 1 + i / 2) 0
-    none = let g : length s ≤ p + 1 + i / 2 = omega arith in sym (get_or-eq_default s 0 g)
-
-    go : (b : Bool) → eqb (i % 2) 0 ≡ b → 48 ≡ get_or (digits_here s p) i 48
-    go true e = digit_even s p i 0 h (eqb-true (i % 2) 0 e) none
-    go false e = digit_odd s p i 0 h (eqb-false (i % 2) 0 e) none
 
 -- there are ten
 pub ten_here : (s : List ℕ) (p : ℕ) → length (digits_here s p) ≡ 10

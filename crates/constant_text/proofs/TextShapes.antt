@@ -10,8 +10,8 @@ use lib.Seq.{slice, slice-cons, length-slice}
 use borrow.Author.Tests.{ne_eqb, eq-eqb, le-leb, lt-leb, ltb-true, ltb-false}
 use Rattle.paper.specs.Bytes.{pick}
 use Rattle.paper.specs.Constants.{trimmed, whole_part, with_point, plain_text, power_text, power_of_ten_text, text_of, constant_text}
-use Rattle.constant_text.specs.declared.texts.Layout.{Layout}
-use Rattle.constant_text.specs.Texts.{six_here, digits_here, lead, power_part, laid, Trims, Ordered, Shaped, part_size, power_size, size_of}
+use Rattle.constant_text.specs.declared.layout.Layout.{Layout}
+use Rattle.constant_text.specs.Texts.{six_here, digits_here, lead, power_part, laid, laid_at, Trims, part_size, power_size, size_of}
 use Rattle.std.specs.Prelude.{Option, Some, None}
 use Rattle.constant_text.proofs.TextDigits.{slice_none, ten_here}
 
@@ -45,13 +45,9 @@ point_some ds p e h l = rw (slice-cons p e ds 48 h l)
 -- ---- the layouts
 
 -- zero
-pub shaped_zero : (s : List ℕ) (p b : ℕ) → b ≡ get_or s p 0 → b ≡ 0 → Shaped (digits_here s p) (constant_text (six_here s p)) (record { from = 0; point = 0; end = 0; power = None })
-unfolding laid lead with_point power_part text_of
-shaped_zero s p b e z =
-    record {
-      ordered = record { whole = omega arith; fraction = omega arith; ten = omega arith; small = tt };
-      text_is = text_here s p ∙ rw (eq-eqb (get_or s p 0) 0 (sym e ∙ z));
-    }
+pub shaped_zero : (s : List ℕ) (p b : ℕ) → b ≡ get_or s p 0 → b ≡ 0 → constant_text (six_here s p) ≡ laid_at 0 0 0 None (digits_here s p)
+unfolding laid_at lead with_point power_part text_of
+shaped_zero s p b e z = text_here s p ∙ rw (eq-eqb (get_or s p 0) 0 (sym e ∙ z))
 
 -- the digits before the point of a plain number
 whole_go : (d e k : ℕ) (r : List ℕ) (b : Bool) → pick b (e ∷ take k r) (d ∷ e ∷ take k r) ≡ lead (slice (pick b 1 0) (suc (suc k)) (d ∷ e ∷ r))
@@ -67,21 +63,17 @@ whole_lead (d ∷ e ∷ r) zero h l = absurd (omega arith)
 whole_lead (d ∷ e ∷ r) (suc zero) h l = absurd (omega arith)
 whole_lead (d ∷ e ∷ r) (suc (suc k)) h l = whole_go d e k r (eqb d 48)
 
-laid_plain : (ds : List ℕ) (f n e : ℕ) → lead (slice f n ds) ≡ whole_part (take n ds) → Trims ds n e → laid (record { from = f; point = n; end = e; power = None }) ds ≡ plain_text n ds
-unfolding laid plain_text power_part
+laid_plain : (ds : List ℕ) (f n e : ℕ) → lead (slice f n ds) ≡ whole_part (take n ds) → Trims ds n e → laid_at f n e None ds ≡ plain_text n ds
+unfolding laid_at plain_text power_part
 laid_plain ds f n e w t = append-nil (lead (slice f n ds) ++ with_point (slice n e ds)) ∙ ap (λ (l : List ℕ). l ++ with_point (slice n e ds)) w ∙ ap (λ (l : List ℕ). whole_part (take n ds) ++ with_point l) t.kept
 
 text_plain : (s : List ℕ) (p b : ℕ) → b ≡ get_or s p 0 → 63 ≤ b → b ≤ 68 → constant_text (six_here s p) ≡ plain_text (2 * (b - 63)) (digits_here s p)
 unfolding text_of
 text_plain s p b e h l = text_here s p ∙ rw (← e, ne_eqb b 0 (λ z. omega arith), le-leb 63 b h, le-leb b 68 l)
 
-pub shaped_plain : (s : List ℕ) (p b n f e : ℕ) → b ≡ get_or s p 0 → 63 ≤ b → b ≤ 68 → n ≡ 2 * (b - 63) → f ≤ n → lead (slice f n (digits_here s p)) ≡ whole_part (take n (digits_here s p)) → Trims (digits_here s p) n e
-    → Shaped (digits_here s p) (constant_text (six_here s p)) (record { from = f; point = n; end = e; power = None })
-shaped_plain s p b n f e eb h l en hf w t =
-    record {
-      ordered = record { whole = hf; fraction = t.least; ten = t.most; small = tt };
-      text_is = text_plain s p b eb h l ∙ ap (λ (k : ℕ). plain_text k (digits_here s p)) (sym en) ∙ sym (laid_plain (digits_here s p) f n e w t);
-    }
+pub shaped_plain : (s : List ℕ) (p b n f e : ℕ) → b ≡ get_or s p 0 → 63 ≤ b → b ≤ 68 → n ≡ 2 * (b - 63) → lead (slice f n (digits_here s p)) ≡ whole_part (take n (digits_here s p)) → Trims (digits_here s p) n e
+    → constant_text (six_here s p) ≡ laid_at f n e None (digits_here s p)
+shaped_plain s p b n f e eb h l en w t = text_plain s p b eb h l ∙ ap (λ (k : ℕ). plain_text k (digits_here s p)) (sym en) ∙ sym (laid_plain (digits_here s p) f n e w t)
 
 -- no digit before the point
 pub plain_none : (ds : List ℕ) (n : ℕ) → n ≡ 0 → lead (slice 0 n ds) ≡ whole_part (take n ds)
@@ -101,8 +93,8 @@ zeros_most d f e = go (eqb d 48) e
 
 -- with a power of ten
 powered_go : (d x : ℕ) (r : List ℕ) (b n e w : ℕ) (t : Bool) → suc (suc (length r)) ≡ 10 → n ≡ pick t 1 0 → w ≡ 2 * b + 10 - n → Trims (d ∷ x ∷ r) (n + 1) e
-    → laid (record { from = n; point = n + 1; end = e; power = Some w }) (d ∷ x ∷ r) ≡ power_of_ten_text b (pick t (x ∷ r) (d ∷ x ∷ r))
-unfolding laid lead power_part power_of_ten_text
+    → laid_at n (n + 1) e (Some w) (d ∷ x ∷ r) ≡ power_of_ten_text b (pick t (x ∷ r) (d ∷ x ∷ r))
+unfolding laid_at lead power_part power_of_ten_text
 powered_go d x r b n e w true l en ew t =
     let k : w ≡ 2 * b + suc (length r) = omega arith in
     subst (λ (m : ℕ). Trims (d ∷ x ∷ r) (m + 1) e → (lead (slice m (m + 1) (d ∷ x ∷ r)) ++ with_point (slice (m + 1) e (d ∷ x ∷ r))) ++ power_text w ≡ (x ∷ [] ++ with_point (trimmed r)) ++ power_text (2 * b + suc (length r)))
@@ -113,20 +105,16 @@ powered_go d x r b n e w false l en ew t =
     (sym en) (λ t. rw (t.kept, k)) t
 
 laid_powered : (ds : List ℕ) (b n e w : ℕ) → length ds ≡ 10 → n ≡ pick (eqb (get_or ds 0 48) 48) 1 0 → w ≡ 2 * b + 10 - n → Trims ds (n + 1) e
-    → laid (record { from = n; point = n + 1; end = e; power = Some w }) ds ≡ power_of_ten_text b (whole_part ds)
+    → laid_at n (n + 1) e (Some w) ds ≡ power_of_ten_text b (whole_part ds)
 unfolding whole_part
 laid_powered [] b n e w l en ew t = absurd (omega arith)
 laid_powered (d ∷ []) b n e w l en ew t = absurd (omega arith)
 laid_powered (d ∷ x ∷ r) b n e w l en ew t = powered_go d x r b n e w (eqb d 48) l en ew t
 
-pub shaped_powered : (s : List ℕ) (p b n e w : ℕ) → b ≡ get_or s p 0 → (b ≡ 0 → ⊥) → (leb 63 b && leb b 68) ≡ false → b ≤ 255 → n ≡ pick (eqb (get_or (digits_here s p) 0 48) 48) 1 0 → w ≡ 2 * b + 10 - n → Trims (digits_here s p) (n + 1) e
-    → Shaped (digits_here s p) (constant_text (six_here s p)) (record { from = n; point = n + 1; end = e; power = Some w })
+pub shaped_powered : (s : List ℕ) (p b n e w : ℕ) → b ≡ get_or s p 0 → (b ≡ 0 → ⊥) → (leb 63 b && leb b 68) ≡ false → n ≡ pick (eqb (get_or (digits_here s p) 0 48) 48) 1 0 → w ≡ 2 * b + 10 - n → Trims (digits_here s p) (n + 1) e
+    → constant_text (six_here s p) ≡ laid_at n (n + 1) e (Some w) (digits_here s p)
 unfolding text_of
-shaped_powered s p b n e w eb z no! m en ew t =
-    record {
-      ordered = record { whole = omega arith; fraction = t.least; ten = t.most; small = omega arith };
-      text_is = text_here s p ∙ rw (← eb, ne_eqb b 0 z, no!) (sym (laid_powered (digits_here s p) b n e w (ten_here s p) en ew t));
-    }
+shaped_powered s p b n e w eb z no! en ew t = text_here s p ∙ rw (← eb, ne_eqb b 0 z, no!) (sym (laid_powered (digits_here s p) b n e w (ten_here s p) en ew t))
 
 -- ---- the length
 
@@ -156,12 +144,12 @@ part_power (Some x) = go (leb 137 x)
     go false = refl
 
 -- what is laid out has its length
-pub laid_size : (x : Layout) (ds : List ℕ) → Ordered x → length ds ≡ 10 → length (laid x ds) ≡ size_of x
-unfolding laid size_of
-laid_size x ds o l =
+pub laid_size : (x : Layout) (ds : List ℕ) → length ds ≡ 10 → length (laid x ds) ≡ size_of x
+unfolding laid laid_at size_of
+laid_size x ds l =
     length-append (lead (slice x.from x.point ds) ++ with_point (slice x.point x.end ds)) (power_part x.power)
     ∙ ap (λ (k : ℕ). k + length (power_part x.power)) (length-append (lead (slice x.from x.point ds)) (with_point (slice x.point x.end ds)))
-    ∙ rw (part_lead ds x.from x.point (omega (arith, o.fraction, o.ten)), part_point ds x.point x.end (omega (arith, o.ten)), part_power x.power)
+    ∙ rw (part_lead ds x.from x.point (omega (arith, x.fraction, x.ten)), part_point ds x.point x.end (omega (arith, x.ten)), part_power x.power)
 
 -- ---- the tests of the first byte
 

@@ -14,8 +14,8 @@ use Rattle.paper.specs.Bytes.{every}
 use Rattle.paper.specs.Constants.{with_point, power_text}
 use Rattle.buffers.specs.Sets.{sets_append, sets_out}
 use Rattle.std.specs.Prelude.{Some, None}
-use Rattle.constant_text.specs.declared.texts.Layout.{Layout}
-use Rattle.constant_text.specs.Texts.{digits_most, lead, power_part, laid, Ordered, Shaped, Wrote, size_of}
+use Rattle.constant_text.specs.declared.layout.Layout.{Layout}
+use Rattle.constant_text.specs.Texts.{digits_most, lead, power_part, laid, laid_at, Shaped, Wrote, size_of}
 use Rattle.constant_text.proofs.TextDigits.{slice_more}
 use Rattle.constant_text.proofs.TextShapes.{lead_none, lead_some, point_none, point_some, laid_size}
 
@@ -91,14 +91,14 @@ unfolding with_point
 point_most [] h = omega arith
 point_most (d ∷ l) h = omega arith
 
-pub whole_next : (ds : List ℕ) {old new : List ℕ} {x : Layout} {n r : ℕ} → Ordered x → length ds ≡ 10 → Wrote n old new (lead (slice x.from x.point ds)) r → r ≤ n + 10
-whole_next ds {x = x} o l w =
-    let k : length (slice x.from x.point ds) ≤ 10 = omega (arith, length-slice x.from x.point ds (omega (arith, o.fraction, o.ten)), o.fraction, o.ten) in
+pub whole_next : (ds : List ℕ) (x : Layout) {old new : List ℕ} {n r : ℕ} → length ds ≡ 10 → Wrote n old new (lead (slice x.from x.point ds)) r → r ≤ n + 10
+whole_next ds x l w =
+    let k : length (slice x.from x.point ds) ≤ 10 = omega (arith, length-slice x.from x.point ds (omega (arith, x.fraction, x.ten)), x.fraction, x.ten) in
     omega (arith, w.next, lead_most (slice x.from x.point ds) k)
 
-pub fraction_next : (ds : List ℕ) {old new : List ℕ} {x : Layout} {n r : ℕ} → Ordered x → length ds ≡ 10 → Wrote n old new (with_point (slice x.point x.end ds)) r → r ≤ n + 11
-fraction_next ds {x = x} o l w =
-    let k : length (slice x.point x.end ds) ≤ 10 = omega (arith, length-slice x.point x.end ds (omega (arith, o.ten)), o.ten) in
+pub fraction_next : (ds : List ℕ) (x : Layout) {old new : List ℕ} {n r : ℕ} → length ds ≡ 10 → Wrote n old new (with_point (slice x.point x.end ds)) r → r ≤ n + 11
+fraction_next ds x l w =
+    let k : length (slice x.point x.end ds) ≤ 10 = omega (arith, length-slice x.point x.end ds (omega (arith, x.ten)), x.ten) in
     omega (arith, w.next, point_most (slice x.point x.end ds) k)
 
 -- ---- the power of ten
@@ -119,7 +119,7 @@ wrote_down old new n x h e = rw (lt-leb 137 x h) (record { next = refl; wrote = 
 
 -- the length of a text that is laid out
 pub text_size : {ds text : List ℕ} {x : Layout} {r : ℕ} → Shaped ds text x → length ds ≡ 10 → r ≡ size_of x → r ≡ length text
-text_size {ds} {text} {x} {r} h l e = e ∙ sym (ap length h.text_is ∙ laid_size x ds h.ordered l)
+text_size {ds} {text} {x} {r} h l e = e ∙ sym (ap length h.text_is ∙ laid_size x ds l)
 
 -- nothing is written past the end
 pub text_out : {ds text : List ℕ} {x : Layout} {r n : ℕ} (old : List ℕ) → Shaped ds text x → length ds ≡ 10 → r ≡ size_of x → length old ≤ n → (r ≡ length text) × (old ≡ sets old n text)
@@ -129,7 +129,7 @@ text_out {text = text} {n = n} old h l e o = (text_size h l e, sym (sets_out old
 pub text_in : {ds text : List ℕ} {x : Layout} {n p w r : ℕ} {old l1 l2 new : List ℕ} → Shaped ds text x
     → Wrote n old l1 (lead (slice x.from x.point ds)) p → Wrote p l1 l2 (with_point (slice x.point x.end ds)) w → Wrote w l2 new (power_part x.power) r
     → (r - n ≡ length text) × (new ≡ sets old n text)
-unfolding laid
+unfolding laid laid_at
 text_in {ds} {text} {x} {n} {p} {w} {r} {old} {l1} {l2} {new} h a b c =
     let z : Wrote n old new (laid x ds) r = wrote_then (wrote_then a b) c in
     (subst (λ (t : List ℕ). r - n ≡ length t) (sym h.text_is) (omega (arith, z.next)), z.wrote ∙ ap (λ (t : List ℕ). sets old n t) (sym h.text_is))

@@ -1,10 +1,10 @@
 -- Six bytes at a place of a list, and how their text is laid out.
-use Rattle.std.specs.Prelude.{ℕ, ◌+◌, ◌-◌, ◌/◌, ◌%◌, ◌≤◌, ◌≡◌, Bool, ◌&&◌, Option, Some, None, IfSome, List, [], ◌∷◌, ◌++◌, leb, ltb, length, drop, get_or}
+use Rattle.std.specs.Prelude.{ℕ, ◌+◌, ◌-◌, ◌/◌, ◌%◌, ◌≤◌, ◌≡◌, Bool, ◌&&◌, Option, Some, None, List, [], ◌∷◌, ◌++◌, leb, ltb, length, drop, get_or}
 use Rattle.std.proofs.lemmas.List.Edits.{sets}
 use Rattle.std.proofs.Math.Seq.{slice}
 use Rattle.paper.specs.Bytes.{pick}
 use Rattle.paper.specs.Constants.{digits_of, trimmed, with_point, power_text}
-use Rattle.constant_text.specs.declared.texts.Layout.{Layout}
+use Rattle.constant_text.specs.declared.layout.Layout.{Layout}
 
 -- the six bytes at a place, zeros past the end
 unfoldable pub six_here : List ℕ → ℕ → List ℕ
@@ -30,9 +30,13 @@ unfoldable pub power_part : Option ℕ → List ℕ
 power_part (Some x) = power_text x
 power_part None = []
 
--- ten digits laid out: those before the point, those after it, and the power of ten
+-- ten digits laid out: those from a place to the point before it, those up to an end after it, and the power of ten
+unfoldable pub laid_at : ℕ → ℕ → ℕ → Option ℕ → List ℕ → List ℕ
+laid_at from point end power ds = (lead (slice from point ds) ++ with_point (slice point end ds)) ++ power_part power
+
+-- as a layout says
 unfoldable pub laid : Layout → List ℕ → List ℕ
-laid x ds = (lead (slice x.from x.point ds) ++ with_point (slice x.point x.end ds)) ++ power_part x.power
+laid x ds = laid_at x.from x.point x.end x.power ds
 
 -- the digits from a place to the last that is no useless zero
 pub record Trims (ds : List ℕ) (p r : ℕ) : Type 0 where
@@ -40,16 +44,8 @@ pub record Trims (ds : List ℕ) (p r : ℕ) : Type 0 where
   pub most : r ≤ 10
   pub kept : slice p r ds ≡ trimmed (drop p ds)
 
--- the places of a layout stand in their order, and the power of ten is that of some first byte
-pub record Ordered (x : Layout) : Type 0 where
-  pub whole : x.from ≤ x.point
-  pub fraction : x.point ≤ x.end
-  pub ten : x.end ≤ 10
-  pub small : IfSome x.power (λ p. p ≤ 520)
-
 -- a text is laid out so
 pub record Shaped (ds text : List ℕ) (x : Layout) : Type 0 where
-  pub ordered : Ordered x
   pub text_is : text ≡ laid x ds
 
 -- the length of digits from one place to another: `none` if there are none, else so many `more`

@@ -7,6 +7,7 @@ ghost use Rattle.paper.specs.Constants.{right_constant?, constant_text};
 ghost use Rattle.constant_text.specs.Texts.{six_here};
 
 mod decimals;
+mod layout;
 mod texts;
 
 use buffers::byte_at;

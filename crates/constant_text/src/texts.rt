@@ -4,7 +4,9 @@ ghost use Rattle.std.proofs.lemmas.List.Edits.{sets};
 ghost use Rattle.std.proofs.Math.Seq.{slice};
 ghost use Rattle.paper.specs.Bytes.{pick};
 ghost use Rattle.paper.specs.Constants.{with_point, constant_text};
-ghost use Rattle.constant_text.specs.Texts.{six_here, digits_here, lead, power_part, Trims, Ordered, Shaped, Wrote, part_size, size_of};
+ghost use Rattle.constant_text.specs.Texts.{six_here, digits_here, lead, power_part, Trims, Shaped, Wrote, part_size, size_of};
+
+use crate::layout::Layout;
 
 // The first byte of 0.01: from here on a constant's text has no power of ten.
 const PLAIN_LEAST: u8 = 0x3f;
@@ -17,16 +19,6 @@ const DIGITS: usize = 10;
 
 // What is added to a power of ten in a layout.
 const UNIT: usize = 137;
-
-// How the ten digits of a constant are laid out: those from `from` to `point` stand before the point, a zero if there are none; those
-// from `point` to `end` after it, with no point if there are none; then the power of ten and `UNIT`, if there is one.
-#[derive(Clone, Copy)]
-pub struct Layout {
-    pub from: usize,
-    pub point: usize,
-    pub end: usize,
-    pub power: Option<usize>,
-}
 
 // A digit of a constant, as text.
 pub fn digit(six: &[u8; 6], i: usize) -> u8
@@ -131,7 +123,6 @@ pub fn part_size(from: usize, to: usize, none: usize, more: usize) -> usize
 
 // The length of a text that is laid out so.
 pub fn size(x: Layout) -> usize
-    requires { Ordered x }
     ensures { result ≡ size_of x }
 {
     let digits = part_size(x.from, x.point, 1, 0) + part_size(x.point, x.end, 0, 1);
@@ -153,7 +144,7 @@ pub fn write_digits(six: &[u8; 6], from: usize, to: usize, out: &mut [u8], n: us
 
 // Writes the digits before the point, and returns the place after them.
 pub fn write_whole(six: &[u8; 6], x: Layout, out: &mut [u8], n: usize) -> usize
-    requires { Ordered x × (n ≤ length out.old) }
+    requires { n ≤ length out.old }
     ensures { Wrote n out.old out.new (lead (slice x.from x.point (digits_here six.now 0))) result }
 {
     if x.point <= x.from {
@@ -166,7 +157,7 @@ pub fn write_whole(six: &[u8; 6], x: Layout, out: &mut [u8], n: usize) -> usize
 
 // Writes a point and the digits after it, and returns the place after them.
 pub fn write_fraction(six: &[u8; 6], x: Layout, out: &mut [u8], n: usize) -> usize
-    requires { Ordered x × (n ≤ length out.old + 10) }
+    requires { n ≤ length out.old + 10 }
     ensures { Wrote n out.old out.new (with_point (slice x.point x.end (digits_here six.now 0))) result }
 {
     if x.end <= x.point {
@@ -192,7 +183,7 @@ pub fn write_exponent(out: &mut [u8], n: usize, sign: u8, x: usize)
 
 // Writes the power of ten, if there is one, and returns the place after it.
 pub fn write_power(x: Layout, out: &mut [u8], n: usize) -> usize
-    requires { Ordered x × (n ≤ length out.old + 21) }
+    requires { n ≤ length out.old + 21 }
     ensures { Wrote n out.old out.new (power_part x.power) result }
 {
     let Some(power) = x.power else { return n };

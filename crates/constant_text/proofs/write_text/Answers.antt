@@ -18,10 +18,10 @@ returns-then-out-n c =
     (text_out a.out.now c.laid_out-layout.ensures (ten_here c.six_at-six.result 0) c.size.ensures c.if-out-n.true)
 
 pub write_fraction-power-requires : goal.write_fraction-power-requires
-write_fraction-power-requires c = (c.laid_out-layout.ensures.ordered, omega (arith, whole_next (digits_here c.six_at-six.result 0) c.laid_out-layout.ensures.ordered (ten_here c.six_at-six.result 0) c.write_whole-point.ensures, c.write_whole-point.auto.out))
+write_fraction-power-requires c = omega (arith, whole_next (digits_here c.six_at-six.result 0) c.laid_out-layout.result (ten_here c.six_at-six.result 0) c.write_whole-point.ensures, c.write_whole-point.auto.out)
 
 pub write_power-end-requires : goal.write_power-end-requires
-write_power-end-requires c = (c.laid_out-layout.ensures.ordered, omega (arith, whole_next (digits_here c.six_at-six.result 0) c.laid_out-layout.ensures.ordered (ten_here c.six_at-six.result 0) c.write_whole-point.ensures, fraction_next (digits_here c.six_at-six.result 0) c.laid_out-layout.ensures.ordered (ten_here c.six_at-six.result 0) c.write_fraction-power.ensures, c.write_whole-point.auto.out, c.write_fraction-power.auto.out))
+write_power-end-requires c = omega (arith, whole_next (digits_here c.six_at-six.result 0) c.laid_out-layout.result (ten_here c.six_at-six.result 0) c.write_whole-point.ensures, fraction_next (digits_here c.six_at-six.result 0) c.laid_out-layout.result (ten_here c.six_at-six.result 0) c.write_fraction-power.ensures, c.write_whole-point.auto.out, c.write_fraction-power.auto.out)
 
 pub returns : goal.returns
 returns c =

@@ -9,4 +9,4 @@ pub returns-then-x : goal.returns-then-x
 returns-then-x c = let a = c.args in wrote_none (digits_here a.six.now 0) a.out.now a.n a.x.point a.x.end c.if-x.true
 
 pub returns : goal.returns
-returns c = let a = c.args in wrote_fraction (digits_here a.six.now 0) a.out.now c.put.new.out c.write_digits.new.out a.n a.x.point a.x.end c.if-x.false (omega (arith, (ten_here a.six.now 0), c.requires.0.ten)) c.put.ensures c.write_digits.ensures
+returns c = let a = c.args in wrote_fraction (digits_here a.six.now 0) a.out.now c.put.new.out c.write_digits.new.out a.n a.x.point a.x.end c.if-x.false (omega (arith, (ten_here a.six.now 0), c.args.x.ten)) c.put.ensures c.write_digits.ensures

@@ -9,4 +9,4 @@ pub returns-then-x : goal.returns-then-x
 returns-then-x c = let a = c.args in wrote_zero (digits_here a.six.now 0) a.out.now c.put.new.out a.n a.x.from a.x.point c.if-x.true c.put.ensures
 
 pub returns : goal.returns
-returns c = let a = c.args in wrote_whole (digits_here a.six.now 0) a.out.now c.write_digits.new.out a.n a.x.from a.x.point c.if-x.false (omega (arith, (ten_here a.six.now 0), c.requires.0.fraction, c.requires.0.ten)) c.write_digits.ensures
+returns c = let a = c.args in wrote_whole (digits_here a.six.now 0) a.out.now c.write_digits.new.out a.n a.x.from a.x.point c.if-x.false (omega (arith, (ten_here a.six.now 0), c.args.x.fraction, c.args.x.ten)) c.write_digits.ensures
