@@ -35,7 +35,8 @@ pub fn quoted_length(kind: Kind) -> usize
     }
 }
 
-// The number of a word's or symbol's token, 0 of any other item.
+// The number of a word's or symbol's token, 0 of any other item. Stays a number and no option: each reader looks at the class first, and `Seen.own`, which
+// hands it on, is one of the three things that the contract `Shows` has of every item.
 pub fn own_token(kind: Kind) -> u8
     ensures { result ≡ own_kind kind }
 {

@@ -97,6 +97,9 @@ pub fn low_byte(n: usize) -> u8
     (n % 256) as u8
 }
 
+// Stays a line and new names as two slices in the readers from here to those of `Draft`: a draft's arrays have one length, and these readers promise the
+// same to callers whose slices have any.
+
 // One token is written, and what follows stands at `end`.
 pub fn token(line: &mut [u8], q: Spot, end: usize, b: u8) -> Spot
     requires { q.written ≤ 1000 }

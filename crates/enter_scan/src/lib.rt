@@ -52,6 +52,9 @@ pub struct RawText {
     pub end: usize,
 }
 
+// Stays a part and a place in it as two parameters in this crate: what is answered are places in the same part, so a pair would be taken apart and made again
+// at each step.
+
 // The item at a place where no blank stands; `first` says: in statement position.
 pub fn item_at(part: &[u8], at: usize, first: bool) -> Item
     ensures { result ≡ item_with (shape_at first (drop at part.now)) at }
