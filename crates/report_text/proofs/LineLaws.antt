@@ -16,6 +16,12 @@ use Rattle.paper.specs.Weigh.{Columns, Weighed, field, columns_text, report_line
 use Rattle.list_text.specs.Texts.{Writes}
 use Rattle.list_text.specs.InTurn.{then, as_text, one_text, writes_then}
 use Rattle.report_text.specs.Fields.{fields, answer_text}
+use Rattle.std.specs.Prelude.{Result, Ok, Err}
+use Rattle.refusals.specs.declared.Refusal.{Refusal}
+use Rattle.refusals.specs.Numbers.{number_of}
+use Rattle.editor_edit.specs.Refusals.{some_number}
+use Rattle.file_weigh.specs.declared.Columns.{Columns as Answer}
+use Rattle.file_weigh.specs.Answers.{columns, weighed}
 
 -- ---- fields
 
@@ -40,9 +46,6 @@ fields_none ns n old = record { size = refl; bytes = refl }
 pub fields_more : (ns : List ℕ) (i n k r : ℕ) {old mid new : List ℕ} → i < length ns → Writes (fields (take i ns)) n old k mid → Writes (field (get_or ns i 0)) (n + k) mid r new → Writes (fields (take (i + 1) ns)) n old (k + r) new
 fields_more ns i n k r h w v = as_text (writes_then w v refl) (fields_next ns i h)
 
-pub fields_done : (ns : List ℕ) (i n k : ℕ) {old new : List ℕ} → length ns ≤ i → Writes (fields (take i ns)) n old k new → Writes (fields ns) n old k new
-fields_done ns i n k h w = as_text w (ap fields (take_all i ns h))
-
 -- ---- columns
 
 pub columns_fields : (c : Columns) → fields (c.lines ∷ c.names ∷ c.used ∷ c.listing ∷ c.variables ∷ c.numbers ∷ c.strings ∷ c.raw_text ∷ c.others ∷ []) ≡ columns_text c
@@ -63,6 +66,14 @@ pub refused_written : (w : Weighed) (n r : ℕ) {old mid new : List ℕ} → (w.
 unfolding bytes
 refused_written w n r {old} {mid} e f v =
     let word : Writes (9 ∷ bytes "refused") n old 8 mid = record { size = refl; bytes = f } in as_text (writes_then word v (omega arith)) (answer_refused w e)
+
+-- the columns of a file that is weighed
+pub columns_written : (w : Result Answer Refusal) (c : Answer) (n r : ℕ) {old new : List ℕ} → w ≡ Ok c → Writes (columns_text (columns c)) n old r new → Writes (answer_text (weighed w)) n old r new
+columns_written w c n r {old} {new} e v = subst (λ (x : Result Answer Refusal). Writes (answer_text (weighed x)) n old r new) (sym e) (as_text v (answer_columns (weighed (Ok c)) refl))
+
+-- and the number of one that is refused
+pub refusal_written : (w : Result Answer Refusal) (k : Refusal) (m n r : ℕ) {old mid new : List ℕ} → w ≡ Err k → m ≡ number_of k → mid ≡ sets old n (9 ∷ bytes "refused") → Writes (field m) (n + 8) mid r new → Writes (answer_text (weighed w)) n old (r + 8) new
+refusal_written w k m n r {old} {mid} {new} e i f v = subst (λ (x : Result Answer Refusal). Writes (answer_text (weighed x)) n old (r + 8) new) (sym e) (refused_written (weighed (Err k)) n r (some_number k) f (subst (λ (x : ℕ). Writes (field x) (n + 8) mid r new) i v))
 
 line_is : (name : List ℕ) (w : Weighed) → (name ++ answer_text w) ++ 0x0a ∷ [] ≡ report_line name w
 unfolding report_line answer_text

@@ -5,11 +5,12 @@ ghost use Rattle.std.specs.Prelude.{◌≡◌, ◌≤◌, ◌+◌, ◌^◌, leng
 ghost use Rattle.paper.specs.Listing.{decimal};
 ghost use Rattle.paper.specs.Weigh.{field, columns_text, report_line, total_line};
 ghost use Rattle.list_text.specs.Texts.{Writes};
-ghost use Rattle.file_weigh.specs.Answers.{columns, weighed};
+ghost use Rattle.file_weigh.specs.Answers.{columns, weighed as weighed-answer};
 ghost use Rattle.report_text.specs.Fields.{fields, answer_text};
 
 use buffers::{copy, put};
-use file_weigh::{Columns, Weighed};
+use file_weigh::Columns;
+use refusals::Refusal;
 
 // How many digits a number may have.
 const DIGITS: usize = 20;
@@ -62,11 +63,9 @@ fn write_fields(numbers: &[usize], out: &mut [u8], n: usize) -> usize
     requires { (n ≤ 2 ^ 63) × (length numbers.now ≤ 9) }
     ensures { Writes (fields numbers.now) n out.old result out.new × (result ≤ 189) }
 {
-    let mut written: usize = 0;
-    let mut i: usize = 0;
-    while i < numbers.len() {
-        written += write_field(numbers[i], out, n + written);
-        i += 1;
+    let mut written = 0;
+    for number in numbers {
+        written += write_field(*number, out, n + written);
     }
     written
 }
@@ -77,40 +76,43 @@ fn write_columns(c: Columns, out: &mut [u8], n: usize) -> usize
     ensures { Writes (columns_text (columns c)) n out.old result out.new × (result ≤ 189) }
 {
     let w = c.weight;
-    let numbers = [
-        c.lines,
-        c.names,
-        c.used,
-        w.listing,
-        w.variables,
-        w.numbers,
-        w.strings,
-        w.raw_text,
-        w.others,
-    ];
-    write_fields(&numbers, out, n)
+    write_fields(
+        &[
+            c.lines,
+            c.names,
+            c.used,
+            w.listing,
+            w.variables,
+            w.numbers,
+            w.strings,
+            w.raw_text,
+            w.others,
+        ],
+        out,
+        n,
+    )
 }
 
 // Writes the columns of a program, or `refused` and the number.
-fn write_answer(w: Weighed, out: &mut [u8], n: usize) -> usize
+fn write_answer(weighed: Result<Columns, Refusal>, out: &mut [u8], n: usize) -> usize
     requires { n ≤ 2 ^ 63 }
-    ensures { Writes (answer_text (weighed w)) n out.old result out.new × (result ≤ 189) }
+    ensures { Writes (answer_text (weighed-answer weighed)) n out.old result out.new × (result ≤ 189) }
 {
-    let number = w.number as usize;
-    let c = w.columns;
-    if number == 0 {
-        return write_columns(c, out, n);
+    match weighed {
+        Ok(columns) => write_columns(columns, out, n),
+        Err(refusal) => {
+            copy(out, n, &REFUSED);
+            write_field(refusal.number() as usize, out, n + 8) + 8
+        }
     }
-    copy(out, n, &REFUSED);
-    write_field(number, out, n + 8) + 8
 }
 
 // Writes the line of a program with a name to the front of a buffer, as much as fits, and returns its length.
-pub fn write_line(name: &[u8], w: Weighed, out: &mut [u8]) -> usize
-    ensures { Writes (report_line name.now (weighed w)) 0 out.old result out.new }
+pub fn write_line(name: &[u8], weighed: Result<Columns, Refusal>, out: &mut [u8]) -> usize
+    ensures { Writes (report_line name.now (weighed-answer weighed)) 0 out.old result out.new }
 {
     copy(out, 0, name);
-    let end = name.len() + write_answer(w, out, name.len());
+    let end = name.len() + write_answer(weighed, out, name.len());
     put(out, end, b'\n');
     end + 1
 }

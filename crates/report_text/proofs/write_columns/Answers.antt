@@ -1,11 +1,7 @@
-use native.Mathlib.Omega.{arith}
 use Rattle.list_text.specs.InTurn.{as_text}
 use Rattle.file_weigh.specs.Answers.{columns}
 use Rattle.report_text.proofs.LineLaws.{columns_fields}
 use Rattle.report_text.proofs.write_columns.Goals as goal
-
-pub write_fields-requires : goal.write_fields-requires
-write_fields-requires c = (omega (arith, c.requires), omega arith)
 
 pub returns : goal.returns
 returns c = (as_text c.write_fields.ensures.0 (columns_fields (columns c.args.c)), c.write_fields.ensures.1)
