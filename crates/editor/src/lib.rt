@@ -11,7 +11,7 @@ ghost use Rattle.editor_list.specs.Answers.{listed};
 
 use editor_edit::{Editor, Entered, refused};
 use editor_list::{list_stored, show_sound};
-use enter_item::{LINE_ROOM, NAMES_ROOM};
+use enter_item::{Draft, LINE_ROOM, NAMES_ROOM};
 use readings::{asked, edit, read};
 use refusals::Refusal;
 use store::Counts;
@@ -28,22 +28,14 @@ pub fn enter_sound(
     requires { T (sound_state (state names.old values.old store.old e)) }
     ensures { entered result names.new values.new store.new ≡ enter_with keep text.now (state names.old values.old store.old e) }
 {
-    let mut line = [0u8; LINE_ROOM];
-    let mut fresh = [0u8; NAMES_ROOM];
+    let mut draft = Draft {
+        line: [0u8; LINE_ROOM],
+        fresh: [0u8; NAMES_ROOM],
+    };
     let mut buffer = [0u8; 0];
-    let reading = read(text, keep, false, names, e, &mut line, &mut fresh);
+    let reading = read(text, keep, false, names, e, &mut draft);
     let place = store::find_sound(store, Counts::from(e), asked(reading));
-    edit(
-        reading,
-        place,
-        &line,
-        &fresh,
-        names,
-        values,
-        store,
-        &mut buffer,
-        e,
-    )
+    edit(reading, place, &draft, names, values, store, &mut buffer, e)
 }
 
 // Enters a text: a line is put in or takes the place of the one with its number, a number alone deletes. A line without a number is written to the
@@ -64,13 +56,13 @@ pub fn enter(
     if !names_sound::sound(names, e.name_bytes, e.name_count, values.len()) {
         return refused(Refusal::Unsound, e);
     }
-    let mut bytes = [0u8; LINE_ROOM];
-    let mut fresh = [0u8; NAMES_ROOM];
-    let reading = read(text, keep, true, names, e, &mut bytes, &mut fresh);
+    let mut draft = Draft {
+        line: [0u8; LINE_ROOM],
+        fresh: [0u8; NAMES_ROOM],
+    };
+    let reading = read(text, keep, true, names, e, &mut draft);
     match store::find(store, Counts::from(e), asked(reading)) {
-        Some(place) => edit(
-            reading, place, &bytes, &fresh, names, values, store, line, e,
-        ),
+        Some(place) => edit(reading, place, &draft, names, values, store, line, e),
         None => refused(Refusal::Unsound, e),
     }
 }

@@ -7,7 +7,7 @@ ghost use Rattle.editor.specs.Readings.{asked_number, Ready, Edits, Prepared};
 
 use buffers::front;
 use editor_edit::{Editor, Entered, refused_at};
-use enter_item::{LINE_ROOM, NAMES_ROOM};
+use enter_item::Draft;
 use enter_line::{DIRECT_NUMBER, Reading};
 use refusals::{Refusal, RefusedItem};
 use store::Place;
@@ -15,7 +15,7 @@ use store::Place;
 // The most bytes that a text may have.
 const LONGEST_TEXT: usize = 120;
 
-// What a text of any length is read as over sound names, or its refusal, with scratch for its line and for the names that are new in it. `direct` says whether one
+// What a text of any length is read as over sound names, or its refusal, with a draft for its line and for the names that are new in it. `direct` says whether one
 // without a number is a line, `keep` whether a wrong line is kept.
 pub(crate) fn read(
     text: &[u8],
@@ -23,11 +23,10 @@ pub(crate) fn read(
     direct: bool,
     names: &[u8],
     e: Editor,
-    line: &mut [u8; LINE_ROOM],
-    fresh: &mut [u8; NAMES_ROOM],
+    draft: &mut Draft,
 ) -> Result<Reading, RefusedItem>
-    requires { (e.name_bytes ≤ length names.now) × (255 ≤ length line.old) × (240 ≤ length fresh.old) }
-    ensures { Prepared keep direct names.now e text.now line.new fresh.new result }
+    requires { (e.name_bytes ≤ length names.now) × (255 ≤ length draft.old.line) × (240 ≤ length draft.old.fresh) }
+    ensures { Prepared keep direct names.now e text.now draft.new.line draft.new.fresh result }
 {
     if LONGEST_TEXT < text.len() {
         return Err(RefusedItem {
@@ -36,7 +35,7 @@ pub(crate) fn read(
             end: 0,
         });
     }
-    enter_line::read(text, keep, direct, &names[..e.name_bytes], line, fresh)
+    enter_line::read(text, keep, direct, &names[..e.name_bytes], draft)
 }
 
 // The number of the line that a text is about, as it was read; 0 of a text that is refused.
@@ -57,8 +56,7 @@ pub(crate) fn asked(reading: Result<Reading, RefusedItem>) -> usize
 pub(crate) fn edit(
     reading: Result<Reading, RefusedItem>,
     place: Place,
-    line: &[u8; LINE_ROOM],
-    fresh: &[u8; NAMES_ROOM],
+    draft: &Draft,
     names: &mut [u8],
     values: &mut [u8],
     store: &mut [u8],
@@ -66,17 +64,18 @@ pub(crate) fn edit(
     e: Editor,
 ) -> Entered
     requires { (T (sound_state (state names.old values.old store.old e))) × (Lies place (asked_number reading) (state names.old values.old store.old e))
-        × (Ready (names_in (take e.name_bytes names.old)) line.now fresh.now reading) }
-    ensures { Edits (state names.old values.old store.old e) buffer.old line.now fresh.now reading (typed_outcome result names.new values.new store.new buffer.new) }
+        × (Ready (names_in (take e.name_bytes names.old)) draft.now.line draft.now.fresh reading) }
+    ensures { Edits (state names.old values.old store.old e) buffer.old draft.now.line draft.now.fresh reading (typed_outcome result names.new values.new store.new buffer.new) }
 {
     let reading = match reading {
         Ok(reading) => reading,
         Err(item) => return refused_at(item, e),
     };
+    let line = &draft.line;
     match reading {
         Reading::Delete(_) => editor_lines::take_out(place, names, values, store, e),
         Reading::Read(l) => {
-            let new = front(fresh, l.named);
+            let new = front(&draft.fresh, l.named);
             if l.number == DIRECT_NUMBER {
                 editor_accept::accept_direct(buffer, line, l.size, new, names, values, e)
             } else {
