@@ -5,29 +5,80 @@ use native.Mathlib.Omega.{arith}
 use Rattle.std.proofs.Math.Path.{◌≡◌, refl, sym, ap}
 use Rattle.std.proofs.Math.Bool.{true, false, not}
 use mathlib.Core.List.{List, [], ◌∷◌, ◌++◌}
-use Rattle.std.proofs.Math.Dec.{eqb}
+use Rattle.std.proofs.Math.Dec.{eqb, eqb-suc-suc}
 use Rattle.std.proofs.Math.ListN.{length, take, set, length-append}
 use Rattle.std.proofs.Math.Seq.{sets}
+use borrow.Author.Tests.{eq-eqb, ne_eqb}
 use Rattle.std.specs.List.{list_any}
-use Rattle.paper.specs.Bytes.{every, blank}
+use Rattle.paper.specs.Bytes.{pick, run, every, blank}
 use Rattle.paper.specs.Items.{raw_byte?}
-use Rattle.paper.specs.Line.{direct_number}
-use Rattle.paper.specs.Errors.{flipped, marked_at, error_line}
+use Rattle.paper.specs.Line.{direct_number, direct_number?}
+use Rattle.paper.specs.Errors.{flipped, marked_at, error_line, keepable?}
 use Rattle.buffers.specs.Sets.{sets_append, front}
 use Rattle.enter_item.specs.Draft.{low}
 use Rattle.enter_item.specs.DraftLaws.{patched, high_byte}
+use Rattle.enter_error.specs.Keeps.{keeps?}
 
 -- ---- the test
 
--- every byte of a text may stand in a run of raw bytes where none is 9B
-pub every_raw : (s : List ℕ) → every raw_byte? s ≡ not (list_any (λ b. eqb b 0x9b) s)
-unfolding every raw_byte?
-every_raw [] = refl
-every_raw (b ∷ s) = go (eqb b 0x9b) (every_raw s)
+-- a run is the whole list where every entry passes
+whole_run : (q : ℕ → Bool) (s : List ℕ) → eqb (run q s) (length s) ≡ every q s
+unfolding run every
+whole_run q [] = refl
+whole_run q (x ∷ s) = go (q x) (whole_run q s)
   where
-    go : (is : Bool) → every raw_byte? s ≡ not (list_any (λ b. eqb b 0x9b) s) → not is && every raw_byte? s ≡ not (is || list_any (λ b. eqb b 0x9b) s)
-    go true h = refl
-    go false h = h
+    go : (b : Bool) → eqb (run q s) (length s) ≡ every q s → eqb (pick b (suc (run q s)) 0) (suc (length s)) ≡ b && every q s
+    go true h = eqb-suc-suc (run q s) (length s) ∙ h
+    go false h = ne_eqb 0 (suc (length s)) (λ e. omega arith)
+
+module _ (text : List ℕ) (keep : Bool) (n k place : ℕ) where
+  -- not kept: wrong lines are not; no number; not 4; a 1B
+  pub off : not keep ≡ true → false ≡ keeps? keep text n k place
+  unfolding keeps?
+  off h = go keep h
+    where
+      go : (b : Bool) → not b ≡ true → false ≡ b && (not (direct_number? n) && (eqb k 4 && keepable? place text))
+      go true h = let z : ◌≡◌ {A = ℕ} 0 1 = cc in absurd (omega arith)
+      go false h = refl
+
+  and_false : (b : Bool) → false ≡ b && false
+  and_false true = refl
+  and_false false = refl
+
+  pub without_number : n ≡ direct_number → false ≡ keeps? keep text n k place
+  unfolding keeps? direct_number?
+  without_number h = rw (eq-eqb n direct_number h) (and_false keep)
+
+  module _ (on : not keep ≡ false) (some : n ≡ direct_number → ⊥) where
+    tested : keeps? keep text n k place ≡ eqb k 4 && keepable? place text
+    unfolding keeps? direct_number?
+    tested = rw (ne_eqb n direct_number some) (go keep on)
+      where
+        go : (b : Bool) → not b ≡ false → b && (eqb k 4 && keepable? place text) ≡ eqb k 4 && keepable? place text
+        go true h = refl
+        go false h = let z : ◌≡◌ {A = ℕ} 0 1 = cc in absurd (omega arith)
+
+    pub another_number : (k ≡ 4 → ⊥) → false ≡ keeps? keep text n k place
+    another_number h = sym (tested ∙ rw (ne_eqb k 4 h))
+
+    module _ (four : k ≡ 4) (b : ℕ) (is : b ≡ get_or text place blank) where
+      pub marked_1b : b ≡ 0x1b → false ≡ keeps? keep text n k place
+      unfolding keepable?
+      marked_1b h = sym (tested ∙ rw (eq-eqb k 4 four, ← is, eq-eqb b 0x1b h) (sym (and_false (every raw_byte? text))))
+
+      pub no_9b : (b ≡ 0x1b → ⊥) → (e : ℕ) → e ≡ run raw_byte? text → eqb e (length text) ≡ keeps? keep text n k place
+      unfolding keepable?
+      no_9b h e ran = sym (tested ∙ rw (eq-eqb k 4 four, ← is, ne_eqb b 0x1b h, ran, whole_run raw_byte? text) (and_true (every raw_byte? text)))
+        where
+          and_true : (c : Bool) → c && true ≡ c
+          and_true true = refl
+          and_true false = refl
+
+-- a byte that is there does not depend on what stands for one that is not
+pub same_byte : (s : List ℕ) (i d e : ℕ) → i < length s → get_or s i d ≡ get_or s i e
+same_byte [] i d e h = absurd (omega arith)
+same_byte (x ∷ s) zero d e h = refl
+same_byte (x ∷ s) (suc i) d e h = same_byte s i d e (omega arith)
 
 -- ---- the line
 
@@ -80,3 +131,13 @@ module _ (line text : List ℕ) (n place : ℕ) (lawful : n ≤ direct_number) (
     where
       low_size : (size : ℕ) → size ≡ length marked → (6 + size) % 256 ≡ 6 + length marked
       low_size size h = omega (arith, sized size h)
+
+-- every byte of a text may stand in a run of raw bytes where none is 9B
+pub every_raw : (s : List ℕ) → every raw_byte? s ≡ not (list_any (λ b. eqb b 0x9b) s)
+unfolding every raw_byte?
+every_raw [] = refl
+every_raw (b ∷ s) = go (eqb b 0x9b) (every_raw s)
+  where
+    go : (is : Bool) → every raw_byte? s ≡ not (list_any (λ b. eqb b 0x9b) s) → not is && every raw_byte? s ≡ not (is || list_any (λ b. eqb b 0x9b) s)
+    go true h = refl
+    go false h = h
