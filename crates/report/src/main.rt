@@ -2,141 +2,83 @@
 // it cannot be read; and last a line with the sums.
 #![tactic(auto)]
 
-ghost use Rattle.std.specs.Prelude.{◌≡◌, ◌≤◌, length};
-ghost use Rattle.file_weigh.specs.Answers.{Sized};
+ghost use Rattle.file_weigh.specs.Answers.{columns_in, Sized};
 
 use buffers::front;
-use console::{next_line, print};
-use file_weigh::{Columns, Weighed, unweighed};
+use console::next_line;
+use file_weigh::{Columns, added, no_columns, weigh};
+use refusals::Refusal;
 use std::fs::File;
-use std::io::Read;
-
-// The number for a file that cannot be opened or read.
-const NOT_OPENED: u8 = 14;
+use std::io;
+use std::io::{BufRead, BufReader, Read};
 
 // How many names are taken at most, so that no sum can pass its bound; none that follow are looked at.
 const MOST_NAMES: usize = 1073741824;
 
-// What was read of a file: whether a read failed, and how many bytes came.
-#[derive(Clone, Copy)]
-struct Got {
-    failed: bool,
-    size: usize,
-}
+// The longest name that is kept: longer than any path.
+const LONGEST_NAME: usize = 4096;
 
-// Nothing, since a file cannot be opened or a read failed.
-fn nothing_read() -> Got
-    ensures { result.size ≡ 0 }
-{
-    Got {
-        failed: true,
-        size: 0,
-    }
-}
-
-// Reads once into a part of a buffer.
-fn read_part(from: &mut File, part: &mut [u8]) -> Got
-    ensures { result.size ≤ length part.old }
-{
-    match from.read(part) {
-        Ok(size) => Got {
-            failed: false,
-            size,
-        },
-        Err(_) => nothing_read(),
-    }
-}
-
-// Reads a file to its end, or as much of it as the buffer has room for.
-fn read_file(from: &mut File, file: &mut [u8]) -> Got {
-    let mut size: usize = 0;
+// Reads a file to its end, or as much of it as the buffer has room for, and says how many bytes that is.
+fn read_file(from: &mut impl Read, file: &mut [u8]) -> io::Result<usize> {
+    let mut size = 0;
     while size < file.len() {
-        let part = read_part(from, &mut file[size..]);
-        if part.size == 0 {
-            return Got {
-                failed: part.failed,
-                size,
-            };
+        let part = from.read(&mut file[size..])?;
+        if part == 0 {
+            break;
         }
-        size += part.size;
+        size += part;
     }
-    Got {
-        failed: false,
-        size,
-    }
+    Ok(size)
 }
 
-// The file with a name, opened to be read: none if it cannot be opened. A name is a path of UTF-8 text, as std's are.
-fn opened(rt: &HostRuntime, name: &[u8]) -> Option<File> {
-    match str::from_utf8(name) {
-        Ok(path) => File::open(rt, path).ok(),
-        Err(_) => None,
-    }
-}
-
-// Opens the file with a name, reads it as `read_file` does, and closes it.
-fn read_named(rt: &HostRuntime, name: &[u8], file: &mut [u8]) -> Got {
-    match opened(rt, name) {
-        Some(mut from) => read_file(&mut from, file),
-        None => nothing_read(),
-    }
+// Opens the file with a name, reads it as `read_file` does, and closes it; none where that fails. A name is a path of UTF-8 text, as std's are.
+fn read_named(rt: &HostRuntime, name: &[u8], file: &mut [u8]) -> Option<usize> {
+    let path = str::from_utf8(name).ok()?;
+    let mut from = File::open(rt, path).ok()?;
+    read_file(&mut from, file).ok()
 }
 
 // What the file with a name weighs. The buffer has room for one byte more than a file may have.
-fn weigh_file(rt: &HostRuntime, name: &[u8], file: &mut [u8]) -> Weighed
-    ensures { Sized 65535 result.columns }
+fn weigh_file(rt: &HostRuntime, name: &[u8], file: &mut [u8]) -> Result<Columns, Refusal>
+    ensures { Sized 65535 (columns_in result) }
 {
-    let got = read_named(rt, name, file);
-    if got.failed {
-        return unweighed(NOT_OPENED);
-    }
-    file_weigh::weigh(front(file, got.size))
+    let size = read_named(rt, name, file).ok_or(Refusal::NoFile)?;
+    weigh(front(file, size))
 }
 
 // Weighs the file with a name and prints its line; what it adds to the sums.
 fn report_file(rt: &HostRuntime, name: &[u8], file: &mut [u8], out: &mut [u8]) -> Columns
     ensures { Sized 65535 result }
 {
-    let w = weigh_file(rt, name, file);
-    let size = report_text::write_line(name, w, out);
-    print(front(out, size));
-    w.columns
+    let weighed = weigh_file(rt, name, file);
+    let size = report_text::write_line(name, weighed, out);
+    let _ = rt.write_all(front(out, size));
+    match weighed {
+        Ok(columns) => columns,
+        Err(_) => no_columns(),
+    }
 }
 
 // Reports on each name of the input, in order; the sums.
-fn report_all(
-    rt: &HostRuntime,
-    buffer: &mut [u8],
-    name: &mut [u8],
-    file: &mut [u8],
-    out: &mut [u8],
-) -> Columns {
-    let mut total = file_weigh::no_columns();
-    let mut input = console::start();
-    let mut count: usize = 0;
-    while count < MOST_NAMES {
-        let line = next_line(input, rt.stdin(), buffer, name);
-        if !line.there {
-            return total;
-        }
-        input = line.input;
-        total = file_weigh::added(total, report_file(rt, front(name, line.length), file, out));
-        count += 1;
+fn report_all(rt: &HostRuntime, input: &mut impl BufRead, out: &mut [u8]) -> Columns {
+    let mut name = [0; LONGEST_NAME];
+    let mut file = [0; 65536];
+    let mut total = no_columns();
+    for count in 0..MOST_NAMES {
+        let Some(length) = next_line(input, &mut name) else {
+            break;
+        };
+        total = added(total, report_file(rt, front(&name, length), &mut file, out));
     }
     total
 }
 
 // Reports on all names, and prints the sums.
-fn run(rt: &HostRuntime, buffer: &mut [u8], name: &mut [u8], file: &mut [u8], out: &mut [u8]) {
-    let total = report_all(rt, buffer, name, file, out);
-    let size = report_text::write_total(total, out);
-    print(front(out, size));
-}
-
-fn main(rt: HostRuntime) {
-    let mut buffer = io::buffer();
-    let mut name = io::buffer();
-    let mut file = [0u8; 65536];
-    let mut out = [0u8; 4352];
-    run(&rt, &mut buffer, &mut name, &mut file, &mut out);
+fn main(rt: HostRuntime) -> io::Result<()> {
+    let mut input = BufReader::new(rt.alloc(), rt.stdin())?;
+    let mut out = [0; 4352];
+    let total = report_all(&rt, &mut input, &mut out);
+    let size = report_text::write_total(total, &mut out);
+    let _ = rt.write_all(front(&out, size));
+    Ok(())
 }
