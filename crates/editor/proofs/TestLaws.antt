@@ -14,7 +14,7 @@ use Rattle.laws.specs.Tests.{and_left, as_T, is_true}
 use Rattle.laws.specs.Names.{sound_facts}
 use Rattle.store.specs.declared.Counts.{Counts}
 use Rattle.store.specs.declared.Place.{Place}
-use Rattle.std.specs.Prelude.{Option, Some, None, Result, Ok, Err}
+use Rattle.std.specs.Prelude.{Option, Some, None, Result, Err}
 use Rattle.std.specs.Option.{ok_or}
 use Rattle.refusals.specs.declared.Refusal.{Refusal}
 use native.Mathlib.Omega.{arith}
