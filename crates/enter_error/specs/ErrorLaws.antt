@@ -9,6 +9,7 @@ use Rattle.std.proofs.Math.Dec.{eqb, eqb-suc-suc}
 use Rattle.std.proofs.Math.ListN.{length, take, set, length-append}
 use Rattle.std.proofs.Math.Seq.{sets}
 use borrow.Author.Tests.{eq-eqb, ne_eqb}
+use Rattle.std.specs.Int.{w16, to_le_bytes}
 use Rattle.std.specs.List.{list_any}
 use Rattle.paper.specs.Bytes.{pick, run, every, blank}
 use Rattle.paper.specs.Items.{raw_byte?}
@@ -104,6 +105,11 @@ module _ (place : ℕ) (text : List ℕ) where
 
   marked_few : place ≤ length text → length (marked_at place text) ≤ length text + 1
   marked_few h = omega (arith, lengths, length-take-le place text h, length-drop (suc place) text)
+
+-- a number's two bytes, the low one first
+pub two_bytes : (n : ℕ) → to_le_bytes w16 n ≡ low n ∷ low (n / 256) ∷ []
+unfolding low
+two_bytes n = refl
 
 -- the bytes that were put, one after another, are the line
 module _ (line text : List ℕ) (n place : ℕ) (lawful : n ≤ direct_number) (fits : place ≤ length text) (short : length text ≤ 120) where

@@ -41,6 +41,7 @@ fn is_keepable(text: &[u8], place: usize) -> bool
 
 // Whether the line with a number that is refused at a place of its text is kept: where wrong lines are, with 4, and if its text has no 9B, and no 1B at
 // the place. One without a number is not.
+// Stays a number: what is said of each number, of a refusal or not, may not be said of fewer.
 pub fn keeps(text: &[u8], keep: bool, line_number: usize, number: u8, place: usize) -> bool
     ensures { result ≡ keeps? keep text.now line_number number place }
 {
@@ -74,8 +75,7 @@ pub fn write_error_line(
 {
     let mark = flip(byte_or_blank(text, place));
     let size = 6 + marked_size(text, place);
-    put(line, 0, low_byte(number));
-    put(line, 1, low_byte(number / 256));
+    copy(line, 0, &(number as u16).to_le_bytes());
     put(line, 2, low_byte(size));
     put(line, 3, low_byte(size));
     put(line, 4, ERROR_TOKEN);

@@ -152,6 +152,14 @@ module _ {r : Result Numbered NoNumber} (direct : Bool) (text : List ℕ) (h : h
   start_blanks q = start_head q
 
   -- no number
+  pub start_direct : r ≡ Err Unnumbered → direct ≡ true → start_at direct (head_of text) ≡ statements direct_number 0
+  unfolding start_at
+  start_direct q t = start_head q ∙ rw t
+
+  pub start_none : r ≡ Err Unnumbered → direct ≡ false → start_at direct (head_of text) ≡ nothing
+  unfolding start_at
+  start_none q t = start_head q ∙ rw t
+
   pub start_without : {o : Option Begun} → r ≡ Err Unnumbered → o ≡ then_some direct (Statements (record { number = direct_number; from = 0 })) → start_at direct (head_of text) ≡ as_start o
   unfolding start_at
   start_without q e = start_head q ∙ go direct ∙ sym (ap as_start e)

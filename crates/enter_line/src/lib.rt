@@ -8,7 +8,7 @@ ghost use Rattle.paper.specs.Calls.{head_of};
 ghost use Rattle.refusals.specs.Numbers.{number_of};
 ghost use Rattle.enter_line.specs.Reading.{as_head, start_at, as_start, Refuses, Told};
 
-use buffers::{Run, decimal, put, run_end};
+use buffers::{Run, copy, decimal, put, run_end};
 pub use enter_error::DIRECT_NUMBER;
 use enter_error::{keeps, write_error_line};
 use enter_item::{Draft, LINE_ROOM, Spot, Text, low_byte};
@@ -159,8 +159,7 @@ pub fn read(
         Start::NumberAlone(number) => Ok(Reading::Delete(number)),
         Start::Statements(numbered) => {
             let number = numbered.number;
-            put(&mut draft.line, 0, low_byte(number));
-            put(&mut draft.line, 1, low_byte(number / 256));
+            copy(&mut draft.line, 0, &(number as u16).to_le_bytes());
             let first = Spot {
                 at: numbered.from,
                 written: 3,

@@ -104,6 +104,12 @@ moves_over {fs} {first} {depth} {E} {q} {m} {m'} {r} new o = record {
   stop = λ z e. let x : ◌≡◌ {A = ℕ} 0 1 = cc in absurd (omega arith);
 }
 
+pub moves_more : {fs : List ℕ} {first : Bool} {depth : ℕ} {E : Env} {q p : Spot} {m m' : Mem} (new : List ℕ) → Reads fs (items_at E first q.at) E q m m' (Ok (More p)) → Moves fs first depth E q m m' new (Ok (End (More p)))
+moves_more new o = moves_over new o
+
+pub moves_last : {fs : List ℕ} {first : Bool} {depth : ℕ} {E : Env} {q p : Spot} {m m' : Mem} (new : List ℕ) → Reads fs (items_at E first q.at) E q m m' (Ok (Last p)) → Moves fs first depth E q m m' new (Ok (End (Last p)))
+moves_last new o = moves_over new o
+
 pub moves_stop : {fs : List ℕ} {first : Bool} {depth : ℕ} {E : Env} {q : Spot} {m m' : Mem} {r : RefusedAt} (new : List ℕ) → Reads fs (items_at E first q.at) E q m m' (Err r) → Moves fs first depth E q m m' new (Err r)
 moves_stop {fs} {first} {depth} {E} {q} {m} {m'} {r} new o = record {
   on = λ z j e. let x : ◌≡◌ {A = ℕ} 0 1 = cc in absurd (omega arith);
@@ -151,7 +157,7 @@ moves_far {E} {q} {m} {m'} {t} {a} {e} {r} {h} new i s x y =
 
 -- another statement
 pub moves_statement : {E : Env} {q : Spot} {m : Mem} {t : Token} {a e : ℕ} (new : List ℕ) → Asks E q m → (class t ≡ number → ⊥) → Next E true q.at t a e → Moves (want_after_then ∷ []) true 1 E q m m new (Ok (End (More q)))
-moves_statement {t = t} new g h s = moves_over new (reads_same (then_statement s (after_then_same (class t) h)) (reads_none g))
+moves_statement {t = t} new g h s = moves_more new (reads_same (then_statement s (after_then_same (class t) h)) (reads_none g))
 
 -- ---- an item that the stack took
 
@@ -187,14 +193,14 @@ pub taken_colon : {E : Env} {q q' : Spot} {m m' : Mem} {t : Token} {a e c b : �
 unfolding opens
 taken_colon {g = g} {fs = fs} {gs = gs} depth new x k w n z =
     let tk = took_opener colon refl (omega arith) (omega arith) x.asks x.next (x.class ∙ k) w n z in
-    moves_over new
+    moves_more new
     (ends_step fs (want_statement ∷ []) (known_step x (λ y. absurd (omega (arith, k))) (at_colon g gs (subst (λ (y : ℕ). T (stepped? y g gs)) k (left_so x)))) tk (reads_none tk.pass.asks))
 
 -- the line's end
 pub taken_last : {E : Env} {q q' : Spot} {m m' : Mem} {t : Token} {a e c b : ℕ} {g : Gives} {fs gs : List ℕ} (depth : ℕ) (new : List ℕ) → Taking E q m t a e c g fs gs → c ≡ line_end → b ≡ own_of t
     → m' ≡ mem (set m.line q.written b) m.fresh → q' ≡ spot e (q.written + 1) q.named → Moves fs false depth E q m m' new (Ok (End (Last q')))
 taken_last {g = g} {fs = fs} {gs = gs} depth new x k w n z =
-    moves_over new
+    moves_last new
     (ends_last fs (known_step x (λ y. absurd (omega (arith, k))) (at_end g gs (subst (λ (y : ℕ). T (stepped? y g gs)) k (left_so x)))) x.asks x.next (x.class ∙ k) w n z)
 
 -- THEN, as it is passed

@@ -26,6 +26,7 @@ pub enum Ended {
 }
 
 // What a step comes to: it goes on from a place with so many frames, or the rest is read.
+// Stays an enum of its own: neither case is a failure, as the Err of a Result would be.
 #[derive(Clone, Copy)]
 pub enum Moved {
     On(Spot, usize),
@@ -33,6 +34,7 @@ pub enum Moved {
 }
 
 // The frame of a term.
+// Stays a number, as the next one does: the grammar's table, whose clauses speak of numbers, is looked up by it.
 const WANT_OPERAND: u8 = 5;
 
 // The frame of a statement's end.
@@ -118,6 +120,7 @@ fn nests(part: &[u8]) -> bool {
 }
 
 // Whether the reader of terms is to read a frame: it wants a term, and the text does not nest. The table reads all others, with no deeper calls.
+// Stays a test of a flag: a closure for the step would take all that both steps take, and choose between them no plainer.
 fn by_term(frame: u8, nested: bool) -> bool
     ensures { result ≡ true → frame ≡ want_operand }
 {
@@ -149,6 +152,7 @@ fn advance(
 }
 
 // Reads on with a stack of frames until the statement ends.
+// Stays a buffer with a depth beside it: the clause of `grammar::take_item`, which moves the stack on, is about both.
 pub fn follow(
     text: Text,
     start: Spot,

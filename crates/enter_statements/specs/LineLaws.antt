@@ -9,7 +9,7 @@ use Rattle.std.proofs.lemmas.List.Edits.{sets}
 use Rattle.paper.specs.Tokens.{Token}
 use Rattle.paper.specs.Names.{name_bytes, add_names}
 use Rattle.paper.specs.Items.{Item, scan}
-use Rattle.paper.specs.Machine.{Run, done, and_taken, read}
+use Rattle.paper.specs.Machine.{Run, and_taken, read}
 use Rattle.paper.specs.Machine.{take as takes_item}
 use Rattle.paper.specs.MachineLaws.{all_taken}
 use Rattle.paper.specs.Frames.{want_statement}

@@ -6,7 +6,7 @@ use Rattle.paper.specs.Names.{name_bytes, add_names}
 use Rattle.paper.specs.Bytes.{pick}
 use Rattle.paper.specs.Classes.{remark}
 use Rattle.paper.specs.Items.{Item, raw_at}
-use Rattle.paper.specs.Machine.{Taken, left, done, read}
+use Rattle.paper.specs.Machine.{Taken, left, read}
 use Rattle.paper.specs.MachineLaws.{all_taken}
 use Rattle.paper.specs.Frames.{want_statement}
 use Rattle.paper.specs.Grammar.{Gives, look_in_range}
