@@ -19,6 +19,7 @@ fn is_formed(line: &[u8], kinds: &[u8], frames: &mut [u8]) -> bool
     let mut at: usize = 3;
     let mut end: usize = 3;
     let mut depth: usize = 1;
+    // Stays a loop by hand: list_check::check_next, whose promise is kept as it is, tells a piece, tests it and passes it in one call.
     while at < line.len() {
         let Some(next) = list_check::check_next(line, at, end, kinds, frames, depth) else {
             return false;

@@ -52,6 +52,7 @@ fn to_next(line: &[u8], from: usize, end: usize, numbers: &[u8]) -> usize
 }
 
 // The new offset of the statement that begins with a piece at a place, if one begins there; the piece's new place is `to`.
+// Stays a number and no Option: what is answered where no statement begins is not read, and list_write writes the offset of each piece that has one alike.
 pub fn new_offset(
     line: &[u8],
     at: usize,

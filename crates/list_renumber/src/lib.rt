@@ -16,6 +16,7 @@ fn renumber_line(room: &mut [u8], from: usize, size: usize, numbers: &[u8]) -> u
     let mut at: usize = 3;
     let mut end: usize = 3;
     let mut to: usize = 3;
+    // Stays a loop by hand: each piece is written into the bytes that the next are read from, which an iterator would hold lent.
     while at < size {
         let line = &room[from..stop];
         let piece = list_pieces::piece_at(line, at, end);

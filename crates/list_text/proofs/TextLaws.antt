@@ -1,11 +1,11 @@
 -- Texts written one after the other, and the texts of single tokens.
-use Prim.Native.Nat.{ℕ, zero, suc, min, ◌+◌, ◌-◌, ◌≤◌, ◌<◌}
+use Prim.Native.Nat.{ℕ, zero, suc, ◌+◌, ◌-◌, ◌≤◌, ◌<◌}
 use native.Mathlib.Omega.{arith}
 use mathlib.Core.Path.{◌≡◌, refl, subst, sym, ap, ap₂, ◌∙◌}
 use mathlib.Core.Bool.{Bool, true, false, not}
 use mathlib.Core.List.{List, [], ◌∷◌, ◌++◌, append-nil}
 use lib.Dec.{T, leb, leb→le}
-use lib.ListN.{length, take, drop, get_or, set, length-append, length-take, length-drop}
+use lib.ListN.{length, take, drop, get_or, set, length-append, length-drop}
 use lib.Seq.{sets, take_all, drop-drop, length-take-le}
 use Rattle.paper.specs.Bytes.{pick, bytes, same, every, blank}
 use Rattle.paper.specs.Classes.{unfit}
@@ -224,23 +224,6 @@ text_writes ns l at t k = ap (λ (z : List ℕ). token_text (statement t) ++ tak
 
 pub quoted_writes : (ns : List (List ℕ)) (l : List ℕ) (at k : ℕ) → 34 ∷ take k (drop (at + 2) l) ++ 34 ∷ [] ≡ piece_text ns (drop at l) (Piece'.Quoted k)
 quoted_writes ns l at k = ap (λ (z : List ℕ). 34 ∷ take k z ++ 34 ∷ []) (sym (drop-drop 2 at l)) ∙ quoted_piece ns (drop at l) k
-
--- ---- a spelling's length
-
-size_at : (s : List ℕ) (from end : ℕ) → length (take (end - from) (drop from s)) ≡ min (end - from) (length s - from)
-size_at s from end = length-take (end - from) (drop from s) ∙ ap (min (end - from)) (length-drop from s)
-
-pub size_none : (s : List ℕ) (from end : ℕ) → length s ≤ from → 0 ≡ length (take (end - from) (drop from s))
-size_none s from end h = omega (arith, size_at s from end)
-
-pub size_back : (s : List ℕ) (from end : ℕ) → end ≤ from → 0 ≡ length (take (end - from) (drop from s))
-size_back s from end h = omega (arith, size_at s from end)
-
-pub size_whole : (s : List ℕ) (from end : ℕ) → end ≤ length s → end - from ≡ length (take (end - from) (drop from s))
-size_whole s from end h = omega (arith, size_at s from end)
-
-pub size_cut : (s : List ℕ) (from end : ℕ) → length s < end → length s - from ≡ length (take (end - from) (drop from s))
-size_cut s from end h = omega (arith, size_at s from end)
 
 -- a spelling for which there is no room
 pub unwritten : (x : List ℕ) {n m : ℕ} {old : List ℕ} → length old ≤ n → m ≡ length x → Writes (all_cleared x) n old m old

@@ -25,14 +25,13 @@ const WORDS_SIZE: usize = 355;
 const BLANK: u8 = b' ';
 
 // Writes bytes with their top bits cleared to a place, as many as fit.
+// Stays with a place `n` beside `out`: each call writes at another place, and a place past the end is one where nothing fits, which no part of a slice is.
 fn write_cleared(out: &mut [u8], n: usize, src: &[u8])
     requires { n ≤ 2 ^ 63 }
     ensures { out.new ≡ sets out.old n (all_cleared src.now) }
 {
-    let mut i: usize = 0;
-    while i < src.len() {
-        buffers::put(out, n + i, table::clear(src[i]));
-        i += 1;
+    for (i, b) in src.iter().enumerate() {
+        buffers::put(out, n + i, table::clear(*b));
     }
 }
 
@@ -40,13 +39,7 @@ fn write_cleared(out: &mut [u8], n: usize, src: &[u8])
 fn size_between(size: usize, from: usize, end: usize) -> usize
     ensures { (s : List ℕ) → length s ≡ size → result ≡ length (take (end - from) (drop from s)) }
 {
-    if size <= from {
-        return 0;
-    }
-    if end <= from {
-        return 0;
-    }
-    if end <= size { end - from } else { size - from }
+    size.min(end).saturating_sub(from)
 }
 
 // How many bytes stand at a part of the fixed words or of the name table.
@@ -110,6 +103,7 @@ fn write_operator(token: u8, names: &[u8], out: &mut [u8], n: usize) -> usize
 }
 
 // Writes the name with a number, less its `(`.
+// Stays with `size` beside `names`, as names_numbered::name_at: a size past the end of the bytes counts as their end.
 fn write_name(number: usize, names: &[u8], size: usize, out: &mut [u8], n: usize) -> usize
     requires { n ≤ length out.old }
     ensures { Writes (less_open (get_or (names_in (take size names.now)) number [])) n out.old result out.new }
@@ -192,16 +186,13 @@ fn digit(number: usize) -> u8
 fn zeros_before(number: usize) -> usize
     ensures { result ≡ zeros number }
 {
-    if 10000 <= number {
-        return 0;
+    match number {
+        0..=9 => 4,
+        10..=99 => 3,
+        100..=999 => 2,
+        1000..=9999 => 1,
+        _ => 0,
     }
-    if 1000 <= number {
-        return 1;
-    }
-    if 100 <= number {
-        return 2;
-    }
-    if 10 <= number { 3 } else { 4 }
 }
 
 // Writes a line's number and a blank to the front of a buffer, as much as fits, and returns their length.

@@ -1,23 +1,24 @@
+use native.Mathlib.Omega.{arith}
 use borrow.Author.Tests.{le-leb, lt-leb}
 use Rattle.list_text.specs.Texts.{zeros}
 use Rattle.list_text.proofs.zeros_before.Goals as goal
 
-pub returns-then-number-ge10000 : goal.returns-then-number-ge10000
+pub returns-in-0-to-9 : goal.returns-in-0-to-9
 unfolding zeros
-returns-then-number-ge10000 c = rw (le-leb 10000 _ c.if-number-ge10000.true)
+returns-in-0-to-9 c = rw (lt-leb 10000 c.args.number (omega arith), lt-leb 1000 c.args.number (omega arith), lt-leb 100 c.args.number (omega arith), lt-leb 10 c.args.number (omega arith))
 
-pub returns-then-number-ge1000 : goal.returns-then-number-ge1000
+pub returns-in-10-to-99 : goal.returns-in-10-to-99
 unfolding zeros
-returns-then-number-ge1000 c = rw (lt-leb 10000 _ c.if-number-ge10000.false, le-leb 1000 _ c.if-number-ge1000.true)
+returns-in-10-to-99 c = rw (lt-leb 10000 c.args.number (omega arith), lt-leb 1000 c.args.number (omega arith), lt-leb 100 c.args.number (omega arith), le-leb 10 c.args.number (omega arith))
 
-pub returns-then-number-ge100 : goal.returns-then-number-ge100
+pub returns-in-100-to-999 : goal.returns-in-100-to-999
 unfolding zeros
-returns-then-number-ge100 c = rw (lt-leb 10000 _ c.if-number-ge10000.false, lt-leb 1000 _ c.if-number-ge1000.false, le-leb 100 _ c.if-number-ge100.true)
+returns-in-100-to-999 c = rw (lt-leb 10000 c.args.number (omega arith), lt-leb 1000 c.args.number (omega arith), le-leb 100 c.args.number (omega arith))
 
-pub returns-then-number-ge10 : goal.returns-then-number-ge10
+pub returns-in-1000-to-9999 : goal.returns-in-1000-to-9999
 unfolding zeros
-returns-then-number-ge10 c = rw (lt-leb 10000 _ c.if-number-ge10000.false, lt-leb 1000 _ c.if-number-ge1000.false, lt-leb 100 _ c.if-number-ge100.false, le-leb 10 _ c.if-number-ge10.true)
+returns-in-1000-to-9999 c = rw (lt-leb 10000 c.args.number (omega arith), le-leb 1000 c.args.number (omega arith))
 
-pub returns-else-number-ge10 : goal.returns-else-number-ge10
+pub returns-in_default : goal.returns-in_default
 unfolding zeros
-returns-else-number-ge10 c = rw (lt-leb 10000 _ c.if-number-ge10000.false, lt-leb 1000 _ c.if-number-ge1000.false, lt-leb 100 _ c.if-number-ge100.false, lt-leb 10 _ c.if-number-ge10.false)
+returns-in_default c = rw (le-leb 10000 c.args.number (omega arith))
