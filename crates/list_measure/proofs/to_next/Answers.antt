@@ -4,7 +4,7 @@ use Prim.Native.Nat.{ℕ}
 use mathlib.Core.Path.{◌≡◌, sym, ap, ◌∙◌}
 use lib.ListN.{length, drop}
 use Rattle.list_pieces.specs.declared.Pieces.{Pieces}
-use Rattle.list_pieces.specs.Pieces.{piece_at, end_after}
+use Rattle.list_pieces.specs.Pieces.{end_after}
 use Rattle.list_pieces.specs.Walk.{passes}
 use Rattle.list_measure.proofs.PassingLaws.{fits, passing_shorter}
 use Rattle.list_measure.proofs.MeasureLaws.{counting_first, counting_next, counting_so, counting_begins, counting_ends}

@@ -1,6 +1,6 @@
 -- The invariant: over whatever names, what is written and the bytes of the rest are the new line; and no more is written than was read.
 use native.Mathlib.Omega.{arith}
-use Prim.Native.Nat.{◌+◌, ◌-◌}
+use Prim.Native.Nat.{◌+◌}
 use mathlib.Core.Path.{refl, sym, ◌∙◌}
 use lib.ListN.{get_or}
 use Rattle.list_pieces.specs.PieceLaws.{piece_some}
