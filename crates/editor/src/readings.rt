@@ -15,8 +15,8 @@ use store::Place;
 // The most bytes that a text may have.
 const LONGEST_TEXT: usize = 120;
 
-// What a text of any length is read as over sound names, or its refusal, with a draft for its line and for the names that are new in it. `direct` says whether one
-// without a number is a line, `keep` whether a wrong line is kept.
+// What a text of any length is read as over sound names, or its refusal, with a draft for its line and the names that are new in it. `direct` says
+// whether one without a number is a line, `keep` whether a wrong line is kept.
 pub(crate) fn read(
     text: &[u8],
     keep: bool,
