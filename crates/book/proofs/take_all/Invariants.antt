@@ -1,5 +1,0 @@
--- `take_all` is safe and ends: the turns left fall.
-use Rattle.book.proofs.take_all.Given as goal
-
-abbrev pub decreases-loop-turns : goal.decreases-loop-turns
-decreases-loop-turns l = l.turns
