@@ -26,15 +26,13 @@ fn put_digits(number: usize, digits: &mut [u8]) -> usize
     requires { length digits.old ≡ 20 }
     ensures { (drop result digits.new ≡ decimal 20 number) × (result ≤ 20) }
 {
-    let mut at = DIGITS;
     let mut rest = number;
-    while 0 < at {
-        at -= 1;
+    for at in (0..DIGITS).rev() {
         digits[at] = b'0' + (rest % 10) as u8;
         if rest < 10 {
             return at;
         }
-        rest = rest / 10;
+        rest /= 10;
     }
     0
 }
