@@ -11,6 +11,7 @@ pub(crate) struct Fields<'a> {
 }
 
 // The worth of a lowercase hexadecimal digit.
+// Stays by hand: std's to_digit takes capitals too.
 fn nibble(b: u8) -> Option<u8>
     ensures { IfSome result (λ n. n < 16) }
 {

@@ -87,6 +87,7 @@ pub fn field_end(line: &[u8], at: usize, mark: u8) -> usize
 }
 
 // The number that decimal digits write, where there are digits alone and the number is below 2 ^ 63.
+// Stays by hand: std's parse takes a sign before the digits, and numbers from 2 ^ 63 on.
 pub fn number_in(digits: &[u8]) -> Option<usize>
     ensures { result ≡ number_of digits.now }
 {

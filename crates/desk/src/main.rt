@@ -107,6 +107,7 @@ fn stored_at(at: usize, used: usize, store: &[u8]) -> Option<Stored>
 }
 
 // Prints the listing of every stored line, in order.
+// Stays a walk by hand: it goes from place to place, and how far the next line lies is known once its head is read.
 fn list_all(rt: &impl Print, desk: &Desk) {
     let mut out = [0; 1024];
     let mut at = 0;

@@ -10,6 +10,7 @@ use std::io;
 use std::io::{BufRead, BufReader};
 
 // The program that is packed: its tables, its store and its record.
+// Stays a type of this program alone: each program has rooms of sizes of its own and lends them to calls of its own, and one type for all would say the contracts of these calls again.
 #[derive(Drop)]
 struct Program {
     names: [u8; 32768],

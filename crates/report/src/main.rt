@@ -19,6 +19,7 @@ const MOST_NAMES: usize = 1073741824;
 const LONGEST_NAME: usize = 4096;
 
 // Reads a file to its end, or as much of it as the buffer has room for, and says how many bytes that is.
+// Stays a loop by hand: each read gives as many bytes as it likes, and a file is kept in fixed memory, where read_to_end would want a Vec.
 fn read_file(from: &mut impl Read, file: &mut [u8]) -> io::Result<usize> {
     let mut size = 0;
     while size < file.len() {

@@ -15,6 +15,7 @@ use editor_examine::Flaw;
 use refusals::Refusal;
 
 // The number at a place, 0 past the end.
+// Stays beside byte_at of buffers: a generic one is no plainer, since this is a chain of the library's.
 fn number_at(s: &[usize], at: usize) -> usize
     ensures { result ≡ get_or s.now at 0 }
 {
@@ -22,6 +23,7 @@ fn number_at(s: &[usize], at: usize) -> usize
 }
 
 // Writes numbers from the front on, as many as there is room for.
+// Stays beside the copy of bytes in buffers: a generic one is no plainer, since this is two calls of the library.
 pub fn write_numbers(out: &mut [usize], numbers: &[usize])
     ensures { out.new ≡ sets out.old 0 numbers.now }
 {

@@ -9,6 +9,7 @@ use refusals::Refusal;
 use store::heads;
 
 // The program that is unpacked: its tables, its store and its record.
+// Stays a type of this program alone: each program has rooms of sizes of its own and lends them to calls of its own, and one type for all would say the contracts of these calls again.
 #[derive(Drop)]
 struct Program {
     names: [u8; 65535],
@@ -54,6 +55,7 @@ impl Program {
 }
 
 // Prints the listing of every stored line, in order, or tells why one has none.
+// Stays a loop by hand: what is left is the rest of a slice, and how far the next line lies is known once its head is read.
 fn list_all(rt: &(impl Print + Eprint), program: &Program) {
     let mut out = [0; 65536];
     let mut rest = front(&program.store, program.record.used);
