@@ -39,7 +39,7 @@ pub fn mark_lines(lines: &[u8], names: &[u8], size: usize, marks: &mut [u8]) -> 
     list_kinds(buffers::front(names, size), &mut kinds);
     let mut frames = [0u8; DEEPEST];
     let mut rest = lines;
-    // Stays a loop over the rest: where a line ends its third byte says, and no method of slices cuts by a length that is read on the way.
+    // Goes over the rest by hand, as the other walks over a store's lines do: crate `store` has no iterator over them.
     while !rest.is_empty() {
         let (line, after) = rest.split_at(heads::size(rest));
         if !mark_line(line, &kinds, marks, &mut frames) {

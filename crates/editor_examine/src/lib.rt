@@ -72,7 +72,7 @@ fn examine_lines(lines: &[u8], names: &[u8], name_bytes: usize) -> Result<(), Fl
     let mut frames = [0u8; DEEPEST];
     let mut rest = lines;
     let mut least: usize = 0;
-    // Stays a loop over the rest: from a bad line on all the rest is searched, which an iterator over lines has given up.
+    // Goes over the rest by hand, as the other walks over a store's lines do: crate `store` has no iterator over them.
     while !rest.is_empty() {
         let size = store::passing(rest, least, GREATEST_NUMBER + 1).ok_or(Flaw::UnsoundStore)?;
         let (line, after) = rest.split_at(size);

@@ -47,7 +47,7 @@ fn unsound(file: &[u8]) -> Flaw
 }
 
 // What examining the program that a file holds answers.
-// Stays with the file and its record apart: the edit zero_byte_as_line gives one of the parts another place in the file.
+// Cuts the file's parts by the record, as `file_load`, `file_examine` and `file_weigh` each do: no type holds them.
 fn program(file: &[u8], held: Editor) -> Result<(), Flaw>
     requires { opened file.now ≡ Ok held }
     ensures { verdict result ≡ examined_parts (parts_of file.now) }

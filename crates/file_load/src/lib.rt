@@ -98,7 +98,7 @@ pub fn open(file: &[u8]) -> Result<Editor, Refusal>
 }
 
 // Copies the program that a file holds to the fronts of lent buffers, or refuses with 8 where one is too small.
-// Stays with the file and its record apart: the edit zero_byte_as_value gives one of the parts another place in the file.
+// Cuts the file's parts by the record, as `file_load`, `file_examine` and `file_weigh` each do: no type holds them.
 fn place(
     file: &[u8],
     held: Editor,

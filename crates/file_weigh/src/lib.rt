@@ -67,7 +67,7 @@ fn weigh_lines(lines: &[u8], names: &[u8], size: usize) -> Option<Weight>
     let mut frames = [0u8; DEEPEST];
     let mut total = list_weigh::nothing();
     let mut rest = lines;
-    // Stays a loop over the rest: where a line ends its third byte says, and no method of slices cuts by a length that is read on the way.
+    // Goes over the rest by hand, as the other walks over a store's lines do: crate `store` has no iterator over them.
     while !rest.is_empty() {
         let (line, after) = rest.split_at(heads::size(rest));
         let own = list_weigh::weigh(line, names, size, &kinds, &mut frames)?;
@@ -78,7 +78,7 @@ fn weigh_lines(lines: &[u8], names: &[u8], size: usize) -> Option<Weight>
 }
 
 // What the program in a file weighs, whose record was found there: 10, or its columns.
-// Stays with the file and its record apart: a struct of both would be opened here again, to cut two parts of the file by four of the record's counts.
+// Cuts the file's parts by the record, as `file_load`, `file_examine` and `file_weigh` each do: no type holds them.
 fn weigh_held(file: &[u8], held: Editor) -> Result<Columns, Refusal>
     requires { (opened file.now ≡ Ok held) × (length file.now ≤ 65535) }
     ensures { (weighed result ≡ weigh-call file.now) × Sized 65535 (columns_in result) }

@@ -55,7 +55,7 @@ impl Program {
 }
 
 // Prints the listing of every stored line, in order, or tells why one has none.
-// Stays a loop by hand: what is left is the rest of a slice, and how far the next line lies is known once its head is read.
+// Goes over the rest by hand, as the other walks over a store's lines do: crate `store` has no iterator over them.
 fn list_all(rt: &(impl Print + Eprint), program: &Program) {
     let mut out = [0; 65536];
     let mut rest = front(&program.store, program.record.used);
