@@ -42,10 +42,11 @@ fn to_next(line: &[u8], from: usize, end: usize, numbers: &[u8]) -> usize
     ensures { (from + result ≤ length line.now) × ((ns new : List (List ℕ)) → Passing ns new numbers.now from end (drop from line.now) → result ≡ to_next new (tokens_at ns line.now from end)) }
 {
     let mut n: usize = 0;
-    for (at, piece) in Pieces::within(line, from, end) {
-        if at == end {
+    let mut pieces = Pieces::within(line, from, end);
+    while pieces.at != end {
+        let Some((_, piece)) = pieces.next() else {
             return n;
-        }
+        };
         n += new_size(piece, numbers);
     }
     n
