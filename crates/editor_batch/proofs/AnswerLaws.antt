@@ -1,15 +1,13 @@
 -- The answer with that to one line more: taken, refused as the first, refused after another.
 use Prim.Native.Nat.{ℕ, zero, suc, ◌+◌}
 use native.Mathlib.Numerals.{add-one}
-use native.Mathlib.Omega.{arith}
+use native.Mathlib.Nat.{add-zero}
 use mathlib.Core.Path.{◌≡◌, refl, sym, ap, ◌∙◌}
 use mathlib.Core.Bool.{Bool, false}
 use mathlib.Core.List.{List, []}
 use lib.ListN.{length}
 use borrow.Author.Tests.{ne_eqb}
-use Rattle.std.specs.Prelude.{Option, Some, None, Ok, Err, is_none, eqb}
-use Rattle.std.specs.Option.{option_or}
-use Rattle.paper.specs.Bytes.{pick}
+use Rattle.std.specs.Prelude.{Some, Ok, Err}
 use Rattle.paper.specs.Calls.{State, sound_state, refusal, enter_with}
 use Rattle.paper.specs.Batch.{Batched as Outcome, text_lines, no_lines, with_answer, batch}
 use Rattle.paper.specs.Open.{everything}
@@ -22,35 +20,25 @@ use Rattle.editor_edit.specs.Refusals.{some_number}
 use Rattle.editor_edit.specs.declared.Editor.{Editor}
 use Rattle.editor_edit.specs.declared.Entered.{Entered}
 use Rattle.editor_edit.specs.States.{state, entered, refusing, no_place, empty_record}
-use Rattle.editor_batch.specs.declared.FirstRefusal.{FirstRefusal}
 use Rattle.editor_batch.specs.declared.Batched.{Batched}
-use Rattle.editor_batch.specs.Answers.{batched, first_in, Firsts}
+use Rattle.editor_batch.specs.Answers.{batched}
 
--- an answer is that with one line more, whatever the lent buffers hold, and has a first refusal exactly if it counts one
+-- an answer is that with one line more, whatever the lent buffers hold
 abbrev pub OneMore : Batched → Entered → Batched → Type 0
-OneMore b e r = ((n v s n' v' s' : List ℕ) → batched r n v s ≡ with_answer (batched b n' v' s') (entered e n v s)) × Firsts r
+OneMore b e r = (n v s n' v' s' : List ℕ) → batched r n v s ≡ with_answer (batched b n' v' s') (entered e n v s)
 
--- the first refusal of those before and one more
-first_kept : (o : Option FirstRefusal) (this : FirstRefusal) (refused : ℕ) → is_none o ≡ eqb refused 0 → first_in (option_or o (Some this)) ≡ pick (eqb refused 0) (first_in (Some this)) (first_in o)
-first_kept None this refused h = rw (sym h)
-first_kept (Some f) this refused h = rw (sym h)
-
-some_first : (o : Option FirstRefusal) (this : FirstRefusal) → is_none (option_or o (Some this)) ≡ false
-some_first None this = refl
-some_first (Some f) this = refl
-
-module _ (b : Batched) (e : Entered) (firsts : Firsts b) where
+module _ (b : Batched) (e : Entered) where
   pub one_taken : (added : ℕ) → e.added ≡ Ok added → OneMore b e (record { taken = b.taken + 1; refused = b.refused; first = b.first; editor = e.editor })
   unfolding with_answer
-  one_taken added h = (λ n v s n' v' s'. rw (h, add-one b.taken), firsts)
+  one_taken added h n v s n' v' s' = rw (h, add-one b.taken)
 
-  pub one_refused : (item : RefusedItem) → e.added ≡ Err item → OneMore b e (record { taken = b.taken; refused = b.refused + 1; first = option_or b.first (Some (record { line = b.taken + b.refused + 1; item = item })); editor = e.editor })
+  pub first_refused : (item : RefusedItem) → e.added ≡ Err item → b.refused ≡ 0 → OneMore b e (record { taken = b.taken; refused = 1; first = Some (record { line = b.taken + 1; item = item }); editor = e.editor })
   unfolding with_answer
-  one_refused item h =
-      let this : FirstRefusal = record { line = b.taken + b.refused + 1; item = item } in (
-        λ n v s n' v' s'. rw (h, ne_eqb (number_of item.refusal) 0 (some_number item.refusal), first_kept b.first this b.refused firsts, add-one b.refused, add-one (b.taken + b.refused)),
-        some_first b.first this ∙ sym (ne_eqb (b.refused + 1) 0 (λ z. omega arith)),
-      )
+  first_refused item h k n v s n' v' s' = rw (h, ne_eqb (number_of item.refusal) 0 (some_number item.refusal), k, add-zero b.taken, add-one b.taken)
+
+  pub also_refused : (item : RefusedItem) → e.added ≡ Err item → (b.refused ≡ 0 → ⊥) → OneMore b e (record { taken = b.taken; refused = b.refused + 1; first = b.first; editor = e.editor })
+  unfolding with_answer
+  also_refused item h k n v s n' v' s' = rw (h, ne_eqb (number_of item.refusal) 0 (some_number item.refusal), ne_eqb b.refused 0 k, add-one b.refused)
 
 -- a line refused because the tables are unsound
 pub refused_unsound : (keep : Bool) (line names values store : List ℕ) (e : Editor) (r : Entered) → r ≡ refusing (no_place Unsound) e → sound_state (state names values store e) ≡ false

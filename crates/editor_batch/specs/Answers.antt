@@ -1,5 +1,5 @@
 -- What the call answered, as an answer of `paper`.
-use Rattle.std.specs.Prelude.{ℕ, ◌≡◌, List, Option, Some, None, is_none, eqb}
+use Rattle.std.specs.Prelude.{ℕ, List, Option, Some, None}
 use Rattle.paper.specs.Items.{span, no_span}
 use Rattle.paper.specs.Batch.{RefusedLine}
 use Rattle.paper.specs.Batch.{Batched as Outcome}
@@ -21,7 +21,3 @@ batched r names values store = record { taken = r.taken; refused = r.refused; fi
 -- the answer before any line is entered
 abbrev pub nothing_entered : Editor → Batched
 nothing_entered e = record { taken = 0; refused = 0; first = None; editor = e }
-
--- there is a first refusal exactly if a line was refused
-abbrev pub Firsts : Batched → Type 0
-Firsts b = is_none b.first ≡ eqb b.refused 0

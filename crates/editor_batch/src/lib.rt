@@ -7,7 +7,7 @@ ghost use Rattle.paper.specs.Calls.{sound_state, enter_with};
 ghost use Rattle.paper.specs.Batch.{text_lines, with_answer, batch as batch-call};
 ghost use Rattle.requested.specs.RequestTerms.{all_unsound};
 ghost use Rattle.editor_edit.specs.States.{state, entered};
-ghost use Rattle.editor_batch.specs.Answers.{batched, nothing_entered, Firsts};
+ghost use Rattle.editor_batch.specs.Answers.{batched, nothing_entered};
 ghost use Rattle.editor_batch.specs.Lines.{coming};
 
 use buffers::{Run, run_end};
@@ -43,9 +43,10 @@ fn no_lines(e: Editor) -> Batched
 }
 
 // The answer with that to one line more.
+#[tactic(auto, using(crate::proofs::AnswerLaws::one_taken, crate::proofs::AnswerLaws::first_refused, crate::proofs::AnswerLaws::also_refused))]
 fn with_answer(b: Batched, e: Entered) -> Batched
-    requires { (b.taken + b.refused < 0xffffffffffffffff) × Firsts b }
-    ensures { ((n v s n' v' s' : List ℕ) → batched result n v s ≡ with_answer (batched b n' v' s') (entered e n v s)) × Firsts result }
+    requires { b.taken + b.refused < 0xffffffffffffffff }
+    ensures { (n v s n' v' s' : List ℕ) → batched result n v s ≡ with_answer (batched b n' v' s') (entered e n v s) }
 {
     match e.added {
         Ok(_) => Batched {
@@ -55,9 +56,10 @@ fn with_answer(b: Batched, e: Entered) -> Batched
         },
         Err(item) => {
             let line = b.taken + b.refused + 1;
+            let this = Some(FirstRefusal { line, item });
             Batched {
                 refused: b.refused + 1,
-                first: b.first.or(Some(FirstRefusal { line, item })),
+                first: if b.refused == 0 { this } else { b.first },
                 editor: e.editor,
                 ..b
             }

@@ -5,7 +5,7 @@ use Prim.Native.Nat.{◌+◌, ◌≤◌}
 use lib.ListN.{length}
 use Rattle.paper.specs.Calls.{sound_state}
 use Rattle.paper.specs.Batch.{text_lines}
-use Rattle.editor_batch.specs.Answers.{batched, Firsts}
+use Rattle.editor_batch.specs.Answers.{batched}
 use Rattle.editor_batch.specs.Lines.{coming}
 use Rattle.editor_batch.proofs.TurnLaws.{going_on}
 use Rattle.editor_batch.proofs.batch.Given as goal
@@ -14,7 +14,6 @@ abbrev pub invariant-loop-line : goal.invariant-loop-line
 invariant-loop-line l =
     (l.sound ≡ sound_state (batched l.b l.names l.values l.store).after)
     × (l.b.taken + l.b.refused + length (coming l.line-iterator) ≤ length l.text)
-    × Firsts l.b
     × (length l.names ≡ length l.initial.names)
     × (length l.values ≡ length l.initial.values)
     × (length l.store ≡ length l.initial.store)
