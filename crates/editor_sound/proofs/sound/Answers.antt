@@ -1,4 +1,3 @@
-use mathlib.Core.Path.{◌∙◌}
 use Rattle.editor_edit.specs.States.{state}
 use Rattle.editor_sound.specs.Tests.{store_decides, unsound_tables}
 use Rattle.editor_sound.proofs.sound.Goals as goal
@@ -11,4 +10,6 @@ returns-then-sound c =
 pub returns-else-sound : goal.returns-else-sound
 returns-else-sound c =
     let args = c.args in
-    c.if-sound.false ∙ unsound_tables (state args.names.now args.values.now args.store.now args.e) _ c.sound.ensures c.if-sound.false
+    let no = c.if-sound.false in
+    let unsound = unsound_tables (state args.names.now args.values.now args.store.now args.e) _ c.sound.ensures no in
+    cc
