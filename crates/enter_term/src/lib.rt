@@ -14,13 +14,13 @@ use tokens::{OperatorToken, class};
 
 // An expression: terms, each joined to the one before it.
 #[cycle(terms)]
-fn expression(text: Text, q: Spot, draft: &mut Draft) -> Result<Spot, RefusedAt>
-    requires { Asks (env_of text) q draft.old }
-    ensures { Says (want_operand ∷ want_more_terms ∷ []) (env_of text.entry) q draft.old draft.new result }
+fn expression(text: &Text, q: Spot, draft: &mut Draft) -> Result<Spot, RefusedAt>
+    requires { Asks (env_of text.now) q draft.old }
+    ensures { Says (want_operand ∷ want_more_terms ∷ []) (env_of text.now) q draft.old draft.new result }
 {
     let mut p = q;
     loop {
-        let next = term(text, p, draft)?;
+        let next = term_at(text, p, draft)?;
         let seen = see(text.part, next.at, false);
         if !joins_terms(seen.class) {
             return Ok(next);
@@ -31,19 +31,19 @@ fn expression(text: Text, q: Spot, draft: &mut Draft) -> Result<Spot, RefusedAt>
 
 // An expression and the closing parenthesis.
 #[cycle(terms)]
-fn enclosed(text: Text, q: Spot, draft: &mut Draft) -> Result<Spot, RefusedAt>
-    requires { Asks (env_of text) q draft.old }
-    ensures { Says (want_operand ∷ want_more_terms ∷ want_close ∷ []) (env_of text.entry) q draft.old draft.new result }
+fn enclosed(text: &Text, q: Spot, draft: &mut Draft) -> Result<Spot, RefusedAt>
+    requires { Asks (env_of text.now) q draft.old }
+    ensures { Says (want_operand ∷ want_more_terms ∷ want_close ∷ []) (env_of text.now) q draft.old draft.new result }
 {
     let p = expression(text, q, draft)?;
-    draft.expect(text, p, class::CLOSE_SIGN, OperatorToken::CLOSE)
+    draft.expect(*text, p, class::CLOSE_SIGN, OperatorToken::CLOSE)
 }
 
 // One or two subscripts and the closing parenthesis.
 #[cycle(terms)]
-fn subscripts(text: Text, q: Spot, draft: &mut Draft) -> Result<Spot, RefusedAt>
-    requires { Asks (env_of text) q draft.old }
-    ensures { Says (want_operand ∷ want_more_terms ∷ want_second ∷ []) (env_of text.entry) q draft.old draft.new result }
+fn subscripts(text: &Text, q: Spot, draft: &mut Draft) -> Result<Spot, RefusedAt>
+    requires { Asks (env_of text.now) q draft.old }
+    ensures { Says (want_operand ∷ want_more_terms ∷ want_second ∷ []) (env_of text.now) q draft.old draft.new result }
 {
     let p = expression(text, q, draft)?;
     second(text, p, draft)
@@ -51,9 +51,9 @@ fn subscripts(text: Text, q: Spot, draft: &mut Draft) -> Result<Spot, RefusedAt>
 
 // After a subscript: a comma and a second one, or the closing parenthesis.
 #[cycle(terms)]
-fn second(text: Text, q: Spot, draft: &mut Draft) -> Result<Spot, RefusedAt>
-    requires { Asks (env_of text) q draft.old }
-    ensures { Says (want_second ∷ []) (env_of text.entry) q draft.old draft.new result }
+fn second(text: &Text, q: Spot, draft: &mut Draft) -> Result<Spot, RefusedAt>
+    requires { Asks (env_of text.now) q draft.old }
+    ensures { Says (want_second ∷ []) (env_of text.now) q draft.old draft.new result }
 {
     let seen = see(text.part, q.at, false);
     let it = seen.item;
@@ -69,40 +69,40 @@ fn second(text: Text, q: Spot, draft: &mut Draft) -> Result<Spot, RefusedAt>
 
 // A function's argument.
 #[cycle(terms)]
-fn argument(text: Text, q: Spot, draft: &mut Draft) -> Result<Spot, RefusedAt>
-    requires { Asks (env_of text) q draft.old }
-    ensures { Says (want_function_open ∷ want_operand ∷ want_more_terms ∷ want_close ∷ []) (env_of text.entry) q draft.old draft.new result }
+fn argument(text: &Text, q: Spot, draft: &mut Draft) -> Result<Spot, RefusedAt>
+    requires { Asks (env_of text.now) q draft.old }
+    ensures { Says (want_function_open ∷ want_operand ∷ want_more_terms ∷ want_close ∷ []) (env_of text.now) q draft.old draft.new result }
 {
-    let p = draft.expect(text, q, class::OPEN_SIGN, OperatorToken::FUNCTION_OPEN)?;
+    let p = draft.expect(*text, q, class::OPEN_SIGN, OperatorToken::FUNCTION_OPEN)?;
     enclosed(text, p, draft)
 }
 
 // The argument of a function of a string.
 #[cycle(terms)]
-fn string_argument(text: Text, q: Spot, draft: &mut Draft) -> Result<Spot, RefusedAt>
-    requires { Asks (env_of text) q draft.old }
-    ensures { Says (want_function_open ∷ want_string ∷ want_close ∷ []) (env_of text.entry) q draft.old draft.new result }
+fn string_argument(text: &Text, q: Spot, draft: &mut Draft) -> Result<Spot, RefusedAt>
+    requires { Asks (env_of text.now) q draft.old }
+    ensures { Says (want_function_open ∷ want_string ∷ want_close ∷ []) (env_of text.now) q draft.old draft.new result }
 {
-    let p = draft.expect(text, q, class::OPEN_SIGN, OperatorToken::FUNCTION_OPEN)?;
+    let p = draft.expect(*text, q, class::OPEN_SIGN, OperatorToken::FUNCTION_OPEN)?;
     let r = string(text, p, draft)?;
-    draft.expect(text, r, class::CLOSE_SIGN, OperatorToken::CLOSE)
+    draft.expect(*text, r, class::CLOSE_SIGN, OperatorToken::CLOSE)
 }
 
 // An array's subscripts.
 #[cycle(terms)]
-fn element(text: Text, q: Spot, draft: &mut Draft) -> Result<Spot, RefusedAt>
-    requires { Asks (env_of text) q draft.old }
-    ensures { Says (want_array_open ∷ want_operand ∷ want_more_terms ∷ want_second ∷ []) (env_of text.entry) q draft.old draft.new result }
+fn element(text: &Text, q: Spot, draft: &mut Draft) -> Result<Spot, RefusedAt>
+    requires { Asks (env_of text.now) q draft.old }
+    ensures { Says (want_array_open ∷ want_operand ∷ want_more_terms ∷ want_second ∷ []) (env_of text.now) q draft.old draft.new result }
 {
-    let p = draft.expect(text, q, class::OPEN_SIGN, OperatorToken::ARRAY_OPEN)?;
+    let p = draft.expect(*text, q, class::OPEN_SIGN, OperatorToken::ARRAY_OPEN)?;
     subscripts(text, p, draft)
 }
 
 // A string's subscripts, or nothing.
 #[cycle(terms)]
-fn substring(text: Text, q: Spot, draft: &mut Draft) -> Result<Spot, RefusedAt>
-    requires { Asks (env_of text) q draft.old }
-    ensures { Says (want_substring ∷ []) (env_of text.entry) q draft.old draft.new result }
+fn substring(text: &Text, q: Spot, draft: &mut Draft) -> Result<Spot, RefusedAt>
+    requires { Asks (env_of text.now) q draft.old }
+    ensures { Says (want_substring ∷ []) (env_of text.now) q draft.old draft.new result }
 {
     let seen = see(text.part, q.at, false);
     if seen.class != class::OPEN_SIGN {
@@ -114,9 +114,9 @@ fn substring(text: Text, q: Spot, draft: &mut Draft) -> Result<Spot, RefusedAt>
 
 // A comparison with a string.
 #[cycle(terms)]
-fn comparison(text: Text, q: Spot, draft: &mut Draft) -> Result<Spot, RefusedAt>
-    requires { Asks (env_of text) q draft.old }
-    ensures { Says (want_string_comparison ∷ []) (env_of text.entry) q draft.old draft.new result }
+fn comparison(text: &Text, q: Spot, draft: &mut Draft) -> Result<Spot, RefusedAt>
+    requires { Asks (env_of text.now) q draft.old }
+    ensures { Says (want_string_comparison ∷ []) (env_of text.now) q draft.old draft.new result }
 {
     let seen = see(text.part, q.at, false);
     let it = seen.item;
@@ -129,9 +129,9 @@ fn comparison(text: Text, q: Spot, draft: &mut Draft) -> Result<Spot, RefusedAt>
 
 // A string compared with a string.
 #[cycle(terms)]
-fn compared(text: Text, q: Spot, draft: &mut Draft) -> Result<Spot, RefusedAt>
-    requires { Asks (env_of text) q draft.old }
-    ensures { Says (want_string ∷ want_string_comparison ∷ []) (env_of text.entry) q draft.old draft.new result }
+fn compared(text: &Text, q: Spot, draft: &mut Draft) -> Result<Spot, RefusedAt>
+    requires { Asks (env_of text.now) q draft.old }
+    ensures { Says (want_string ∷ want_string_comparison ∷ []) (env_of text.now) q draft.old draft.new result }
 {
     let p = string(text, q, draft)?;
     comparison(text, p, draft)
@@ -139,16 +139,16 @@ fn compared(text: Text, q: Spot, draft: &mut Draft) -> Result<Spot, RefusedAt>
 
 // A string: quoted, a variable or a part of one, or what a function gives.
 #[cycle(terms)]
-fn string(text: Text, q: Spot, draft: &mut Draft) -> Result<Spot, RefusedAt>
-    requires { Asks (env_of text) q draft.old }
-    ensures { Says (want_string ∷ []) (env_of text.entry) q draft.old draft.new result }
+fn string(text: &Text, q: Spot, draft: &mut Draft) -> Result<Spot, RefusedAt>
+    requires { Asks (env_of text.now) q draft.old }
+    ensures { Says (want_string ∷ []) (env_of text.now) q draft.old draft.new result }
 {
     let seen = see(text.part, q.at, false);
     let it = seen.item;
     match seen.class {
-        class::QUOTED => Ok(draft.quoted(text, it, q)),
+        class::QUOTED => Ok(draft.quoted(*text, it, q)),
         class::STRING_VARIABLE => {
-            let p = draft.variable(text, it, q);
+            let p = draft.variable(*text, it, q);
             substring(text, p, draft)
         }
         class::STRING_FUNCTION => {
@@ -161,16 +161,16 @@ fn string(text: Text, q: Spot, draft: &mut Draft) -> Result<Spot, RefusedAt>
 
 // What a term has after its prefixes, of which the first item was seen: an operand or two strings compared.
 #[cycle(terms)]
-fn operand(text: Text, seen: Seen, q: Spot, draft: &mut Draft) -> Result<Spot, RefusedAt>
-    requires { (Asks (env_of text) q draft.old) × (Shows text.part.now q.at false seen) × (seen.class ≡ plus_minus → ⊥) × (seen.class ≡ not_word → ⊥) }
-    ensures { Says (want_operand ∷ []) (env_of text.entry) q draft.old draft.new result }
+fn operand(text: &Text, seen: Seen, q: Spot, draft: &mut Draft) -> Result<Spot, RefusedAt>
+    requires { (Asks (env_of text.now) q draft.old) × (Shows text.now.part.now q.at false seen) × (seen.class ≡ plus_minus → ⊥) × (seen.class ≡ not_word → ⊥) }
+    ensures { Says (want_operand ∷ []) (env_of text.now) q draft.old draft.new result }
 {
     let it = seen.item;
     match seen.class {
-        class::NUMBER => draft.constant(text, it, q),
-        class::NUMERIC_VARIABLE => Ok(draft.variable(text, it, q)),
+        class::NUMBER => draft.constant(*text, it, q),
+        class::NUMERIC_VARIABLE => Ok(draft.variable(*text, it, q)),
         class::ARRAY => {
-            let p = draft.variable(text, it, q);
+            let p = draft.variable(*text, it, q);
             element(text, p, draft)
         }
         class::OPEN_SIGN => {
@@ -192,11 +192,11 @@ fn operand(text: Text, seen: Seen, q: Spot, draft: &mut Draft) -> Result<Spot, R
     }
 }
 
-// A term: its prefixes, and then an operand or two strings compared.
+// A term, as `term` says it. The readers of the cycle pass the text on by a reference, since a copy for each call would make their frames larger.
 #[cycle(terms)]
-pub fn term(text: Text, q: Spot, draft: &mut Draft) -> Result<Spot, RefusedAt>
-    requires { Asks (env_of text) q draft.old }
-    ensures { Says (want_operand ∷ []) (env_of text.entry) q draft.old draft.new result }
+fn term_at(text: &Text, q: Spot, draft: &mut Draft) -> Result<Spot, RefusedAt>
+    requires { Asks (env_of text.now) q draft.old }
+    ensures { Says (want_operand ∷ []) (env_of text.now) q draft.old draft.new result }
 {
     let mut p = q;
     loop {
@@ -208,4 +208,12 @@ pub fn term(text: Text, q: Spot, draft: &mut Draft) -> Result<Spot, RefusedAt>
             _ => return operand(text, seen, p, draft),
         }
     }
+}
+
+// A term: its prefixes, and then an operand or two strings compared.
+pub fn term(text: Text, q: Spot, draft: &mut Draft) -> Result<Spot, RefusedAt>
+    requires { Asks (env_of text) q draft.old }
+    ensures { Says (want_operand ∷ []) (env_of text.entry) q draft.old draft.new result }
+{
+    term_at(&text, q, draft)
 }

@@ -83,26 +83,26 @@ enclosed-returns-in_err-p t c = let e = err_from_is_err_and c.from_residual.resu
 pub expression-loop-next-init : goal.expression-loop-next-init
 expression-loop-next-init t c = onward_first c.requires
 
-pub expression-term-requires : goal.expression-term-requires
-expression-term-requires t c = let loop = c.loop-next.invariant in (omega (arith, loop.ahead, loop.asks.within), loop.asks)
+pub expression-term_at-requires : goal.expression-term_at-requires
+expression-term_at-requires t c = let loop = c.loop-next.invariant in (omega (arith, loop.ahead, loop.asks.within), loop.asks)
 
 pub expression-see-seen-requires : goal.expression-see-seen-requires
-expression-see-seen-requires t c = (c.term.ensures.got _ c.in_ok-next.was).asks.within
+expression-see-seen-requires t c = (c.term_at.ensures.got _ c.in_ok-next.was).asks.within
 
 pub expression-token-p-requires : goal.expression-token-p-requires
-expression-token-p-requires t c = let next = c.in_ok-next.was in let term = c.term.ensures.got in omega (arith, (term _ next).asks.few, (term _ next).asks.short, (term _ next).asks.within)
+expression-token-p-requires t c = let next = c.in_ok-next.was in let term = c.term_at.ensures.got in omega (arith, (term _ next).asks.few, (term _ next).asks.short, (term _ next).asks.within)
 
 pub expression-loop-next-smaller : goal.expression-loop-next-smaller
-expression-loop-next-smaller t c = let token = c.token-p.ensures in let if1 = c.if-not-joins_terms.false in let joins = c.joins_terms.ensures in let see = c.see-seen in let next = c.in_ok-next.was in let term = c.term.ensures.got in let took = took_own see.result.class (joins_sign see.result.class (sym (joins) ∙ if1)) (term _ (next)).asks (see.ensures.next _ _) (sym see.ensures.class) see.ensures.own token.0 token.1 in omega (arith, (term _ next).ahead, took.pass.ahead, took.pass.asks.within)
+expression-loop-next-smaller t c = let token = c.token-p.ensures in let if1 = c.if-not-joins_terms.false in let joins = c.joins_terms.ensures in let see = c.see-seen in let next = c.in_ok-next.was in let term = c.term_at.ensures.got in let took = took_own see.result.class (joins_sign see.result.class (sym (joins) ∙ if1)) (term _ (next)).asks (see.ensures.next _ _) (sym see.ensures.class) see.ensures.own token.0 token.1 in omega (arith, (term _ next).ahead, took.pass.ahead, took.pass.asks.within)
 
 pub expression-loop-next-preserved : goal.expression-loop-next-preserved
-expression-loop-next-preserved t c = let token = c.token-p in let if1 = c.if-not-joins_terms.false in let joins = c.joins_terms.ensures in let see = c.see-seen in let next = c.in_ok-next.was in let term = c.term in let loop = c.loop-next.invariant in onward_joins see.result.class (sym joins ∙ if1) (sym see.ensures.class) loop (term.ensures.got _ next) (took_own see.result.class (joins_sign see.result.class (sym joins ∙ if1)) (term.ensures.got _ next).asks (see.ensures.next _ _) (sym see.ensures.class) see.ensures.own token.ensures.0 token.ensures.1)
+expression-loop-next-preserved t c = let token = c.token-p in let if1 = c.if-not-joins_terms.false in let joins = c.joins_terms.ensures in let see = c.see-seen in let next = c.in_ok-next.was in let term = c.term_at in let loop = c.loop-next.invariant in onward_joins see.result.class (sym joins ∙ if1) (sym see.ensures.class) loop (term.ensures.got _ next) (took_own see.result.class (joins_sign see.result.class (sym joins ∙ if1)) (term.ensures.got _ next).asks (see.ensures.next _ _) (sym see.ensures.class) see.ensures.own token.ensures.0 token.ensures.1)
 
 pub expression-returns-then-not-joins_terms : goal.expression-returns-then-not-joins_terms
-expression-returns-then-not-joins_terms t c = let see = c.see-seen in let next = c.in_ok-next.was in let term = c.term.ensures.got in c.loop-next.invariant.goes _ _ (says_then (term _ next) (leaves want_more_terms (term _ next).asks (see.ensures.next _ _) (ap (look want_more_terms) (sym see.ensures.class) ∙ more_else see.result.class (sym c.joins_terms.ensures ∙ c.if-not-joins_terms.true))))
+expression-returns-then-not-joins_terms t c = let see = c.see-seen in let next = c.in_ok-next.was in let term = c.term_at.ensures.got in c.loop-next.invariant.goes _ _ (says_then (term _ next) (leaves want_more_terms (term _ next).asks (see.ensures.next _ _) (ap (look want_more_terms) (sym see.ensures.class) ∙ more_else see.result.class (sym c.joins_terms.ensures ∙ c.if-not-joins_terms.true))))
 
 pub expression-returns-in_err-next : goal.expression-returns-in_err-next
-expression-returns-in_err-next t c = let e = err_from_is_err_and c.from_residual.result c.from_residual.ensures.1 in rw (e.1, e.2) (c.loop-next.invariant.goes _ _ (says_first (want_more_terms ∷ []) c.term.ensures c.in_err-next.was))
+expression-returns-in_err-next t c = let e = err_from_is_err_and c.from_residual.result c.from_residual.ensures.1 in rw (e.1, e.2) (c.loop-next.invariant.goes _ _ (says_first (want_more_terms ∷ []) c.term_at.ensures c.in_err-next.was))
 
 pub operand-refuse-requires : goal.operand-refuse-requires
 operand-refuse-requires t c = let pre = c.requires in (omega (arith, pre.1.sees.spans, pre.1.sees.within), pre.0.short)
@@ -278,32 +278,32 @@ substring-returns t c = let token = c.token-p.ensures in let match = c.if-seen-n
 pub substring-returns-then-seen-ne-OPEN_SIGN : goal.substring-returns-then-seen-ne-OPEN_SIGN
 substring-returns-then-seen-ne-OPEN_SIGN t c = let see = c.see-seen in leaves want_substring c.requires (see.ensures.next _ _) (ap (look want_substring) (sym see.ensures.class) ∙ substring_else see.result.class c.if-seen-ne-OPEN_SIGN.true)
 
-pub term-loop-draft-init : goal.term-loop-draft-init
-term-loop-draft-init t c = onward_first c.requires
+pub term_at-loop-draft-init : goal.term_at-loop-draft-init
+term_at-loop-draft-init t c = onward_first c.requires
 
-pub term-see-seen-requires : goal.term-see-seen-requires
-term-see-seen-requires t c = c.loop-draft.invariant.asks.within
+pub term_at-see-seen-requires : goal.term_at-see-seen-requires
+term_at-see-seen-requires t c = c.loop-draft.invariant.asks.within
 
-pub term-token-p-requires : goal.term-token-p-requires
-term-token-p-requires t c = let loop = c.loop-draft.invariant.asks in omega (arith, loop.few, loop.short, loop.within)
+pub term_at-token-p-requires : goal.term_at-token-p-requires
+term_at-token-p-requires t c = let loop = c.loop-draft.invariant.asks in omega (arith, loop.few, loop.short, loop.within)
 
-pub term-loop-draft-smaller-in-18 : goal.term-loop-draft-smaller-in-18
-term-loop-draft-smaller-in-18 t c = let token = c.token-p.ensures in let prefix-operator = c.prefix_operator.ensures in let match = c.in-18.is in let see = c.see-seen.ensures in let loop = c.loop-draft.invariant.asks in let took = took_prefix plus_minus refl loop (see.next _ _) (sym see.class ∙ match) (prefix-operator ∙ ap (shifted 0x10) see.own) token.0 token.1 in omega (arith, took.pass.ahead, took.pass.asks.within)
+pub term_at-loop-draft-smaller-in-18 : goal.term_at-loop-draft-smaller-in-18
+term_at-loop-draft-smaller-in-18 t c = let token = c.token-p.ensures in let prefix-operator = c.prefix_operator.ensures in let match = c.in-18.is in let see = c.see-seen.ensures in let loop = c.loop-draft.invariant.asks in let took = took_prefix plus_minus refl loop (see.next _ _) (sym see.class ∙ match) (prefix-operator ∙ ap (shifted 0x10) see.own) token.0 token.1 in omega (arith, took.pass.ahead, took.pass.asks.within)
 
-pub term-loop-draft-preserved-in-18 : goal.term-loop-draft-preserved-in-18
-term-loop-draft-preserved-in-18 t c = let token = c.token-p in let match = c.in-18.is in let see = c.see-seen.ensures in let loop = c.loop-draft.invariant in onward_takes want_operand plus_minus operand_sign refl (sym see.class ∙ match) loop (took_prefix plus_minus refl loop.asks (see.next _ _) (sym see.class ∙ match) (c.prefix_operator.ensures ∙ ap (shifted 0x10) see.own) token.ensures.0 token.ensures.1)
+pub term_at-loop-draft-preserved-in-18 : goal.term_at-loop-draft-preserved-in-18
+term_at-loop-draft-preserved-in-18 t c = let token = c.token-p in let match = c.in-18.is in let see = c.see-seen.ensures in let loop = c.loop-draft.invariant in onward_takes want_operand plus_minus operand_sign refl (sym see.class ∙ match) loop (took_prefix plus_minus refl loop.asks (see.next _ _) (sym see.class ∙ match) (c.prefix_operator.ensures ∙ ap (shifted 0x10) see.own) token.ensures.0 token.ensures.1)
 
-pub term-token-p-requires-in-20 : goal.term-token-p-requires-in-20
-term-token-p-requires-in-20 t c = let loop = c.loop-draft.invariant.asks in omega (arith, loop.few, loop.short, loop.within)
+pub term_at-token-p-requires-in-20 : goal.term_at-token-p-requires-in-20
+term_at-token-p-requires-in-20 t c = let loop = c.loop-draft.invariant.asks in omega (arith, loop.few, loop.short, loop.within)
 
-pub term-loop-draft-smaller : goal.term-loop-draft-smaller
-term-loop-draft-smaller t c = let token2 = c.token-p-in-20.ensures in let match = c.in-20.is in let see = c.see-seen.ensures in let loop = c.loop-draft.invariant.asks in let took = took_own not_word refl loop (see.next _ _) (sym see.class ∙ match) see.own token2.0 token2.1 in omega (arith, took.pass.ahead, took.pass.asks.within)
+pub term_at-loop-draft-smaller : goal.term_at-loop-draft-smaller
+term_at-loop-draft-smaller t c = let token2 = c.token-p-in-20.ensures in let match = c.in-20.is in let see = c.see-seen.ensures in let loop = c.loop-draft.invariant.asks in let took = took_own not_word refl loop (see.next _ _) (sym see.class ∙ match) see.own token2.0 token2.1 in omega (arith, took.pass.ahead, took.pass.asks.within)
 
-pub term-loop-draft-preserved : goal.term-loop-draft-preserved
-term-loop-draft-preserved t c = let token2 = c.token-p-in-20 in let match = c.in-20.is in let see = c.see-seen.ensures in let loop = c.loop-draft.invariant in onward_takes want_operand not_word operand_not refl (sym see.class ∙ match) loop (took_own not_word refl loop.asks (see.next _ _) (sym see.class ∙ match) see.own token2.ensures.0 token2.ensures.1)
+pub term_at-loop-draft-preserved : goal.term_at-loop-draft-preserved
+term_at-loop-draft-preserved t c = let token2 = c.token-p-in-20 in let match = c.in-20.is in let see = c.see-seen.ensures in let loop = c.loop-draft.invariant in onward_takes want_operand not_word operand_not refl (sym see.class ∙ match) loop (took_own not_word refl loop.asks (see.next _ _) (sym see.class ∙ match) see.own token2.ensures.0 token2.ensures.1)
 
-pub term-operand-requires : goal.term-operand-requires
-term-operand-requires t c = let match = c.in_default.in_default-own.rest in let loop = c.loop-draft.invariant in (omega (arith, loop.ahead, loop.asks.within), (loop.asks, c.see-seen.ensures, match.0.1, match.1))
+pub term_at-operand-requires : goal.term_at-operand-requires
+term_at-operand-requires t c = let match = c.in_default.in_default-own.rest in let loop = c.loop-draft.invariant in (omega (arith, loop.ahead, loop.asks.within), (loop.asks, c.see-seen.ensures, match.0.1, match.1))
 
-pub term-returns-in_default : goal.term-returns-in_default
-term-returns-in_default t c = c.loop-draft.invariant.goes _ _ c.operand.ensures
+pub term_at-returns-in_default : goal.term_at-returns-in_default
+term_at-returns-in_default t c = c.loop-draft.invariant.goes _ _ c.operand.ensures
