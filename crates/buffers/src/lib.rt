@@ -35,12 +35,14 @@ pub fn put(out: &mut [u8], at: usize, b: u8)
 }
 
 // Copies bytes to a place, as many as fit.
+// Stays a loop over places: the library's copy_from_slice is compiled to a call of memmove, which an archive for C would need from outside.
 pub fn copy(out: &mut [u8], at: usize, src: &[u8])
     ensures { out.new ≡ sets out.old at src.now }
 {
-    let first = at.min(out.len());
-    let size = src.len().min(out.len() - first);
-    out[first..first + size].copy_from_slice(&src[..size]);
+    let size = src.len().min(out.len().saturating_sub(at));
+    for i in 0..size {
+        out[at + i] = src[i];
+    }
 }
 
 // Whether a byte is one of 0 to 9.
