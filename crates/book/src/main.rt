@@ -11,11 +11,10 @@
 #![tactic(auto)]
 
 use buffers::{Run, copy, front, run_end};
-use console::{Hex, field_end, next_line, number_in, whole};
+use console::{Ahead, Hex, field_end, next_line, number_in, whole};
 use editor_edit::{Editor, empty};
 use refusals::{Refusal, RefusedItem};
-use std::io;
-use std::io::{BufRead, BufReader};
+use std::io::BufRead;
 use store::Counts;
 
 // The longest row that is kept.
@@ -170,8 +169,7 @@ fn take_all(rt: &impl Print, input: &mut impl BufRead) {
     program.print_end(rt);
 }
 
-fn main(rt: HostRuntime) -> io::Result<()> {
-    let mut input = BufReader::new(rt.alloc(), rt.stdin())?;
+fn main(rt: HostRuntime) {
+    let mut input = Ahead::<8192>::of(rt.stdin());
     take_all(&rt, &mut input);
-    Ok(())
 }

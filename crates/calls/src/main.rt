@@ -3,7 +3,7 @@
 
 mod fields;
 
-use console::{Hex, next_line, whole};
+use console::{Ahead, Hex, next_line, whole};
 use editor_batch::Batched;
 use editor_edit::Editor;
 use editor_examine::Flaw;
@@ -11,8 +11,8 @@ use fields::Fields;
 use file_weigh::Columns;
 use list_weigh::Weight;
 use refusals::{Refusal, RefusedItem};
-use std::io::{BufRead, BufReader};
-use std::{fmt, io};
+use std::fmt;
+use std::io::BufRead;
 
 // The longest line that is kept: more than any call has, unless its numbers begin with thousands of zeros.
 const LONGEST: usize = 310000;
@@ -397,8 +397,8 @@ fn answer_all(rt: &impl Print, input: &mut impl BufRead, line: &mut [u8], rooms:
     }
 }
 
-fn main(rt: HostRuntime) -> io::Result<()> {
-    let mut input = BufReader::with_capacity(rt.alloc(), AT_ONCE, rt.stdin())?;
+fn main(rt: HostRuntime) {
+    let mut input = Ahead::<AT_ONCE>::of(rt.stdin());
     let mut line = [0; LONGEST];
     let mut rooms = Rooms {
         text: [0; 70000],
@@ -409,5 +409,4 @@ fn main(rt: HostRuntime) -> io::Result<()> {
         out: [0; 65536],
     };
     answer_all(&rt, &mut input, &mut line, &mut rooms);
-    Ok(())
 }

@@ -5,7 +5,7 @@ ghost use Rattle.console.specs.Numbers.{number_of};
 ghost use Rattle.console.specs.Fields.{unmarked, all_or_none};
 
 use buffers::{Run, TOO_GREAT, copy, decimal, run_end};
-use std::io::BufRead;
+use std::io::{BufRead, Read, Stdin};
 
 // The longest text of a line that is kept to be entered: one byte more than may be entered, so that any longer line is refused as such.
 pub const KEPT: usize = 121;
@@ -19,6 +19,68 @@ const STANDARD_INPUT: i32 = 0;
 // Reads a file on standard input to the front of a buffer, as much as that has room for, and says how many bytes it has there.
 pub fn read_file(file: &mut [u8]) -> usize {
     io::read_full(STANDARD_INPUT, file)
+}
+
+// Standard input between two lines: the bytes of a buffer from `at` to `end` are read and not yet taken.
+#[derive(Clone, Copy)]
+pub struct Input {
+    pub at: usize,
+    pub end: usize,
+}
+
+// The input of which nothing is read.
+pub fn start() -> Input
+    ensures { (result.at ≡ 0) × (result.end ≡ 0) }
+{
+    Input { at: 0, end: 0 }
+}
+
+// Standard input, of which up to so many bytes are read at once.
+#[derive(Drop)]
+pub struct Ahead<const AT_ONCE: usize> {
+    stdin: Stdin,
+    buffer: [u8; AT_ONCE],
+    input: Input,
+}
+
+impl<const AT_ONCE: usize> Ahead<AT_ONCE> {
+    // Standard input, of which nothing is read.
+    pub fn of(stdin: Stdin) -> Ahead<AT_ONCE>
+        ensures { (result.input.at ≡ 0) × (result.input.end ≡ 0) }
+    {
+        Ahead {
+            stdin,
+            buffer: [0; AT_ONCE],
+            input: start(),
+        }
+    }
+}
+
+impl<const AT_ONCE: usize> Read for Ahead<AT_ONCE> {
+    // Takes bytes that are read, or that one read gives, as many as there is room for.
+    fn read(&mut self, room: &mut [u8]) -> std::io::Result<usize> {
+        let ahead = self.fill_buf()?;
+        let size = ahead.len().min(room.len());
+        room[..size].copy_from_slice(&ahead[..size]);
+        self.consume(size);
+        Ok(size)
+    }
+}
+
+impl<const AT_ONCE: usize> BufRead for Ahead<AT_ONCE> {
+    // The bytes that are read and not yet taken; where there are none, those that one read gives.
+    fn fill_buf(&mut self) -> std::io::Result<&[u8]> {
+        if self.input.end <= self.input.at {
+            self.input = start();
+            self.input.end = self.stdin.read(&mut self.buffer)?;
+        }
+        let Input { at, end } = self.input;
+        Ok(self.buffer.get(at..end).unwrap_or(&[]))
+    }
+
+    fn consume(&mut self, amount: usize) {
+        self.input.at = self.input.at.saturating_add(amount).min(self.input.end);
+    }
 }
 
 // How far a line was taken: up to its 0A, or up to the end of what is read, so many bytes of it so far; or the input is at its end.

@@ -4,12 +4,11 @@
 ghost use Rattle.std.specs.Prelude.{◌<◌, IfSome};
 
 use buffers::front;
-use console::{KEPT, next_line};
+use console::{Ahead, KEPT, next_line};
 use editor_edit::{Editor, empty};
 use editor_lent::{enter_lent, list_lent};
 use refusals::{Refusal, RefusedItem};
-use std::io;
-use std::io::{BufRead, BufReader};
+use std::io::BufRead;
 use store::heads;
 
 // The desk: the tables, the store, a line buffer for lines without a number, and the one record, which is lent to each call.
@@ -120,10 +119,9 @@ fn list_all(rt: &impl Print, desk: &Desk) {
     }
 }
 
-fn main(rt: HostRuntime) -> io::Result<()> {
-    let mut input = BufReader::new(rt.alloc(), rt.stdin())?;
+fn main(rt: HostRuntime) {
+    let mut input = Ahead::<8192>::of(rt.stdin());
     let mut desk = Desk::empty();
     enter_all(&rt, &mut input, &mut desk);
     list_all(&rt, &desk);
-    Ok(())
 }

@@ -3,11 +3,10 @@
 #![tactic(auto)]
 
 use buffers::front;
-use console::{KEPT, next_line};
+use console::{Ahead, KEPT, next_line};
 use editor_edit::{Editor, empty};
 use refusals::{Refusal, RefusedItem};
-use std::io;
-use std::io::{BufRead, BufReader};
+use std::io::BufRead;
 
 // The program that is packed: its tables, its store and its record.
 // Stays a type of this program alone: each program has rooms of sizes of its own and lends them to calls of its own, and one type for all would say the contracts of these calls again.
@@ -78,10 +77,9 @@ fn write(rt: &(impl Print + Eprint), program: &Program) {
     let _ = eprintln!(rt; "S\t{number}\t{lines}\t{names}\t{written}");
 }
 
-fn main(rt: HostRuntime) -> io::Result<()> {
-    let mut input = BufReader::new(rt.alloc(), rt.stdin())?;
+fn main(rt: HostRuntime) {
+    let mut input = Ahead::<8192>::of(rt.stdin());
     let mut program = Program::empty();
     enter_all(&rt, &mut input, &mut program);
     write(&rt, &program);
-    Ok(())
 }

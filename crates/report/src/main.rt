@@ -5,12 +5,12 @@
 ghost use Rattle.file_weigh.specs.Answers.{columns_in, Sized};
 
 use buffers::front;
-use console::next_line;
+use console::{Ahead, next_line};
 use file_weigh::{Columns, added, no_columns, weigh};
 use refusals::Refusal;
 use std::fs::File;
 use std::io;
-use std::io::{BufRead, BufReader, Read};
+use std::io::{BufRead, Read};
 
 // How many names are taken at most, so that no sum can pass its bound; none that follow are looked at.
 const MOST_NAMES: usize = 1073741824;
@@ -75,11 +75,10 @@ fn report_all(rt: &HostRuntime, input: &mut impl BufRead, out: &mut [u8]) -> Col
 }
 
 // Reports on all names, and prints the sums.
-fn main(rt: HostRuntime) -> io::Result<()> {
-    let mut input = BufReader::new(rt.alloc(), rt.stdin())?;
+fn main(rt: HostRuntime) {
+    let mut input = Ahead::<8192>::of(rt.stdin());
     let mut out = [0; 4352];
     let total = report_all(&rt, &mut input, &mut out);
     let size = report_text::write_total(total, &mut out);
     let _ = rt.write_all(front(&out, size));
-    Ok(())
 }
