@@ -114,6 +114,7 @@ const CLOSE: u8 = 9;
 const COMMA: u8 = 34;
 
 // Whether a frame is one of these and takes items of a class as they are, and then wants nothing.
+#[inline]
 fn is_last(frame: u8, class: u8) -> bool
     ensures { result ≡ true → look frame class ≡ take itself [] }
 {
@@ -127,6 +128,7 @@ fn is_last(frame: u8, class: u8) -> bool
 }
 
 // Whether items of a class join terms: `=`, comparisons, signs and factors, OR, AND.
+#[inline]
 pub fn joins_terms(class: u8) -> bool
     ensures { result ≡ joins? class }
 {
@@ -137,6 +139,7 @@ pub fn joins_terms(class: u8) -> bool
 }
 
 // How a stack takes an item, as `take_item` says it; that its last frame takes the item and wants nothing is seen without the table.
+#[inline]
 fn take_last(frames: &mut [u8], depth: usize, class: u8) -> Option<Taken>
     requires { (depth + 8 ≤ length frames.old) × (class < class_count) }
     ensures { Steps frames.old depth class result frames.new }
@@ -152,6 +155,7 @@ fn take_last(frames: &mut [u8], depth: usize, class: u8) -> Option<Taken>
 }
 
 // The same; what most items meet is seen without the table: that more terms may follow, and then an item that joins them or another one.
+#[inline]
 pub fn take_next(frames: &mut [u8], depth: usize, class: u8) -> Option<Taken>
     requires { (depth + 8 ≤ length frames.old) × (class < class_count) }
     ensures { Steps frames.old depth class result frames.new }

@@ -187,6 +187,7 @@ fn kind_at(names: &[u8], size: usize, number: usize) -> u8
 
 // The depth of the stack after a piece at a place, if it fits there. Of the piece's variable, if it has one, the kind is given: of one that does not come first
 // in a statement, its class is enough.
+#[inline(always)]
 fn check_kind(
     line: &[u8],
     at: usize,
@@ -225,6 +226,7 @@ fn kind_among(piece: Piece, names: &[u8], size: usize) -> u8
 }
 
 // The kind of a piece's variable over a list of the kinds of all names, 0 where the piece has none.
+#[inline]
 fn kind_listed(piece: Piece, kinds: &[u8]) -> u8
     ensures { (ns : List (List ℕ)) → Kinds ns kinds.now → KindOf ns piece result }
 {

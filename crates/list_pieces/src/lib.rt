@@ -39,6 +39,7 @@ const LONG_FORM: u8 = 0;
 const FIRST_LONG: u16 = 128;
 
 // The variable's token at a place of a line, if one stands there.
+#[inline]
 fn variable_at(line: &[u8], at: usize) -> Option<VariableToken>
     requires { at < length line.now + 2 }
     ensures { result ≡ told (variable_at (drop at line.now)) }
@@ -61,6 +62,7 @@ fn variable_at(line: &[u8], at: usize) -> Option<VariableToken>
 }
 
 // The piece that begins a statement at a place.
+#[inline]
 fn first_piece(line: &[u8], at: usize) -> Piece
     requires { at < length line.now }
     ensures { result ≡ piece_at at at (drop at line.now) }
@@ -83,6 +85,7 @@ fn first_piece(line: &[u8], at: usize) -> Piece
 }
 
 // The piece at a place of a line, in a statement that ends at `end`.
+#[inline]
 pub fn piece_at(line: &[u8], at: usize, end: usize) -> Piece
     requires { at < length line.now }
     ensures { result ≡ piece_at at end (drop at line.now) }
@@ -104,6 +107,7 @@ pub fn piece_at(line: &[u8], at: usize, end: usize) -> Piece
 }
 
 // How many bytes a piece is.
+#[inline]
 pub fn size_of(piece: Piece) -> usize
     requires { size_of piece < 2 ^ 64 }
     ensures { result ≡ size_of piece }
@@ -121,6 +125,7 @@ pub fn size_of(piece: Piece) -> usize
 }
 
 // Where the statement after a piece at a place ends: as the piece's own offset says, or as before.
+#[inline]
 pub fn end_after(line: &[u8], at: usize, end: usize, piece: Piece) -> usize
     requires { at < length line.now }
     ensures { result ≡ end_after end (drop at line.now) piece }
@@ -133,6 +138,7 @@ pub fn end_after(line: &[u8], at: usize, end: usize, piece: Piece) -> usize
 }
 
 // The piece at a place of a line, in a statement that ends at `end`, and the place after the piece.
+#[inline]
 fn step(line: &[u8], at: usize, end: usize) -> (Piece, usize)
     requires { at < length line.now }
     ensures { (piece_at at end (drop at line.now) ≡ result.0) × (result.1 ≡ at + size_of result.0) }
