@@ -1,7 +1,7 @@
 // Numbers read from the slices that C lends, and written there.
 #![tactic(auto)]
 
-ghost use Rattle.std.specs.Prelude.{◌≡◌, [], ◌∷◌, MatchResult, get_or};
+ghost use Rattle.std.specs.Prelude.{◌≡◌, [], ◌∷◌, MatchResult, get_or, set};
 ghost use Rattle.std.proofs.lemmas.List.Edits.{sets};
 ghost use Rattle.editor_edit.specs.States.{number_in, place_in, added_in};
 ghost use Rattle.editor_list.specs.Answers.{listing_number, written_in};
@@ -20,6 +20,16 @@ fn number_at(s: &[usize], at: usize) -> usize
     ensures { result ≡ get_or s.now at 0 }
 {
     s.get(at).copied().unwrap_or(0)
+}
+
+// Puts a number at a place, and nothing past the end.
+// Stays beside put of buffers, as write_numbers does beside its copy; get_mut's contract does not say what the slice holds afterwards.
+pub fn put(out: &mut [usize], at: usize, n: usize)
+    ensures { out.new ≡ set out.old at n }
+{
+    if at < out.len() {
+        out[at] = n;
+    }
 }
 
 // Writes numbers from the front on, as many as there is room for.
@@ -77,6 +87,20 @@ pub fn write_written(answer: &mut [usize], r: Result<usize, Refusal>)
     write_numbers(answer, &[number, written]);
 }
 
+// Writes what listing a line answered, as many numbers as there is room for.
+pub fn write_listed(answer: &mut [usize], r: Result<usize, Refusal>)
+    ensures { answer.new ≡ sets answer.old 0 (listing_number r ∷ written_in r ∷ []) }
+{
+    write_written(answer, r);
+}
+
+// Writes what writing a file answered, as many numbers as there is room for.
+pub fn write_saved(answer: &mut [usize], file: Result<usize, Refusal>)
+    ensures { answer.new ≡ sets answer.old 0 (listing_number file ∷ written_in file ∷ []) }
+{
+    write_written(answer, file);
+}
+
 // Writes what entering many lines answered, as many numbers as there is room for.
 pub fn write_batched(answer: &mut [usize], r: Batched)
     ensures { answer.new ≡ sets answer.old 0 (r.taken ∷ r.refused ∷ (first_in r.first).number ∷ (first_in r.first).place.start ∷ (first_in r.first).place.end ∷ (first_in r.first).line ∷ []) }
@@ -114,5 +138,5 @@ pub fn write_held(record: &mut [usize], answer: &mut [usize], r: Result<Editor, 
         }
         Err(refusal) => refusal.number() as usize,
     };
-    write_numbers(answer, &[number]);
+    put(answer, 0, number);
 }

@@ -1,0 +1,7 @@
+-- Past the end nothing changes.
+use Rattle.std.proofs.Common.{sym}
+use lib.Seq.{set_out}
+use Rattle.tag_numbers.proofs.put.Goals as goal
+
+pub returns-else-at-out : goal.returns-else-at-out
+returns-else-at-out c = sym (set_out _ _ _ c.if-at-out.false)
