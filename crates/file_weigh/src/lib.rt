@@ -44,6 +44,16 @@ pub fn no_columns() -> Columns
     }
 }
 
+// The columns that weighing a file answered, those of nothing after a refusal.
+pub fn columns_of(answer: Result<Columns, Refusal>) -> Columns
+    ensures { result ≡ columns_in answer }
+{
+    match answer {
+        Ok(columns) => columns,
+        Err(_) => no_columns(),
+    }
+}
+
 // Two programs' columns added up.
 pub fn added(a: Columns, b: Columns) -> Columns
     requires { Sized (2 ^ 46) a × Sized (2 ^ 46) b }

@@ -6,7 +6,7 @@ ghost use Rattle.file_weigh.specs.Answers.{columns_in, Sized};
 
 use buffers::front;
 use console::{Ahead, next_line};
-use file_weigh::{Columns, added, no_columns, weigh};
+use file_weigh::{Columns, added, columns_of, no_columns, weigh};
 use refusals::Refusal;
 use std::fs::File;
 use std::io;
@@ -54,10 +54,7 @@ fn report_file(rt: &HostRuntime, name: &[u8], file: &mut [u8], out: &mut [u8]) -
     let weighed = weigh_file(rt, name, file);
     let size = report_text::write_line(name, weighed, out);
     let _ = rt.write_all(front(out, size));
-    match weighed {
-        Ok(columns) => columns,
-        Err(_) => no_columns(),
-    }
+    columns_of(weighed)
 }
 
 // Reports on each name of the input, in order; the sums.
