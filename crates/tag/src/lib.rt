@@ -10,7 +10,8 @@ use tag_counted::{
     save_by_counts,
 };
 use tag_numbers::{
-    write_batched, write_entered, write_held, write_record, write_verdict, write_written,
+    write_batched, write_entered, write_held, write_listed, write_record, write_saved,
+    write_verdict,
 };
 
 // Enters a text, and writes the answer and the record's counts. `keep` says whether a wrong line is kept.
@@ -46,7 +47,7 @@ pub extern "C" fn virgontey_list(
     ensures { Lists (list_by_counts line names.now values.now store.now «record».now out.old) answer.old out.new answer.new }
 {
     let r = list_by_counts(line, names, values, store, record, out);
-    write_written(answer, r);
+    write_listed(answer, r);
 }
 
 // Lists the line in a line buffer, and writes the answer.
@@ -63,7 +64,7 @@ pub extern "C" fn virgontey_show(
     ensures { Lists (show line.now names.now name_bytes name_count values.now out.old) answer.old out.new answer.new }
 {
     let r = editor::show(line, names, name_bytes, name_count, values, out);
-    write_written(answer, r);
+    write_listed(answer, r);
 }
 
 // Enters the lines of a text, and writes the answer and the record's counts. `keep` says whether wrong lines are kept.
@@ -114,7 +115,7 @@ pub extern "C" fn virgontey_save(
     ensures { Saves (save_by_counts names.now values.now store.now «record».now out.old) answer.old out.new answer.new }
 {
     let r = save_by_counts(names, values, store, record, out);
-    write_written(answer, r);
+    write_saved(answer, r);
 }
 
 // Reads a file, and writes the answer and the record's counts.
