@@ -327,16 +327,17 @@ fn answer_collect(rt: &impl Print, fields: &mut Fields, rooms: &mut Rooms) -> Op
 fn answer_weigh(rt: &impl Print, fields: &mut Fields, rooms: &mut Rooms) -> Option<()> {
     let file = fields.bytes(&mut rooms.text)?;
     fields.end()?;
-    let (number, columns) = match file_weigh::weigh(file) {
-        Ok(columns) => (0, columns),
-        Err(refusal) => (refusal.number(), file_weigh::no_columns()),
+    let weighed = file_weigh::weigh(file);
+    let number = match weighed {
+        Ok(_) => 0,
+        Err(refusal) => refusal.number(),
     };
     let Columns {
         lines,
         names,
         used,
         weight,
-    } = columns;
+    } = file_weigh::columns_of(weighed);
     let Weight {
         listing,
         variables,
