@@ -15,13 +15,12 @@ use Rattle.paper.specs.Listing.{decimal}
 use Rattle.paper.specs.Weigh.{Columns, Weighed, field, columns_text, report_line, total_line}
 use Rattle.list_text.specs.Texts.{Writes}
 use Rattle.list_text.specs.InTurn.{then, as_text, one_text, writes_then}
-use Rattle.report_text.specs.Fields.{fields, answer_text}
-use Rattle.std.specs.Prelude.{Result, Ok, Err}
+use Rattle.report_text.specs.Fields.{fields, answer_text, numbered}
+use Rattle.std.specs.Prelude.{Result, Err}
 use Rattle.refusals.specs.declared.Refusal.{Refusal}
 use Rattle.refusals.specs.Numbers.{number_of}
-use Rattle.editor_edit.specs.Refusals.{some_number}
 use Rattle.file_weigh.specs.declared.Columns.{Columns as Answer}
-use Rattle.file_weigh.specs.Answers.{columns, weighed}
+use Rattle.file_weigh.specs.Answers.{columns, none, weighed}
 
 -- ---- fields
 
@@ -67,13 +66,16 @@ unfolding bytes
 refused_written w n r {old} {mid} e f v =
     let word : Writes (9 ∷ bytes "refused") n old 8 mid = record { size = refl; bytes = f } in as_text (writes_then word v (omega arith)) (answer_refused w e)
 
--- the columns of a file that is weighed
-pub columns_written : (w : Result Answer Refusal) (c : Answer) (n r : ℕ) {old new : List ℕ} → w ≡ Ok c → Writes (columns_text (columns c)) n old r new → Writes (answer_text (weighed w)) n old r new
-columns_written w c n r {old} {new} e v = subst (λ (x : Result Answer Refusal). Writes (answer_text (weighed x)) n old r new) (sym e) (as_text v (answer_columns (weighed (Ok c)) refl))
+-- the columns beside the number 0
+pub columns_written : (k : ℕ) (c : Answer) (n r : ℕ) {old new : List ℕ} → k ≡ 0 → Writes (columns_text (columns c)) n old r new → Writes (answer_text (numbered k c)) n old r new
+columns_written k c n r e v = as_text v (answer_columns (numbered k c) e)
 
--- and the number of one that is refused
-pub refusal_written : (w : Result Answer Refusal) (k : Refusal) (m n r : ℕ) {old mid new : List ℕ} → w ≡ Err k → m ≡ number_of k → mid ≡ sets old n (9 ∷ bytes "refused") → Writes (field m) (n + 8) mid r new → Writes (answer_text (weighed w)) n old (r + 8) new
-refusal_written w k m n r {old} {mid} {new} e i f v = subst (λ (x : Result Answer Refusal). Writes (answer_text (weighed x)) n old (r + 8) new) (sym e) (refused_written (weighed (Err k)) n r (some_number k) f (subst (λ (x : ℕ). Writes (field x) (n + 8) mid r new) i v))
+-- the line of a file that is refused, by its number
+pub refusal_line : (name : List ℕ) (w : Result Answer Refusal) (k : Refusal) (m : ℕ) (c : Answer) (r : ℕ) {old new : List ℕ} → w ≡ Err k → m ≡ number_of k → c ≡ none
+    → Writes (report_line name (numbered m c)) 0 old r new → Writes (report_line name (weighed w)) 0 old r new
+refusal_line name w k m c r {old} {new} e i z v =
+    subst (λ (x : Result Answer Refusal). Writes (report_line name (weighed x)) 0 old r new) (sym e)
+    (subst (λ (x : ℕ). Writes (report_line name (numbered x none)) 0 old r new) i (subst (λ (x : Answer). Writes (report_line name (numbered m x)) 0 old r new) z v))
 
 line_is : (name : List ℕ) (w : Weighed) → (name ++ answer_text w) ++ 0x0a ∷ [] ≡ report_line name w
 unfolding report_line answer_text

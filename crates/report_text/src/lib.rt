@@ -6,10 +6,10 @@ ghost use Rattle.paper.specs.Listing.{decimal};
 ghost use Rattle.paper.specs.Weigh.{field, columns_text, report_line, total_line};
 ghost use Rattle.list_text.specs.Texts.{Writes};
 ghost use Rattle.file_weigh.specs.Answers.{columns, weighed as weighed-answer};
-ghost use Rattle.report_text.specs.Fields.{fields, answer_text};
+ghost use Rattle.report_text.specs.Fields.{fields, answer_text, numbered};
 
 use buffers::{copy, put};
-use file_weigh::Columns;
+use file_weigh::{Columns, no_columns};
 use refusals::Refusal;
 
 // How many digits a number may have.
@@ -91,28 +91,39 @@ fn write_columns(c: Columns, out: &mut [u8], n: usize) -> usize
     )
 }
 
-// Writes the columns of a program, or `refused` and the number.
-fn write_answer(weighed: Result<Columns, Refusal>, out: &mut [u8], n: usize) -> usize
+// Writes the columns of a program, or `refused` and a number that is not 0.
+fn write_answer(number: u8, c: Columns, out: &mut [u8], n: usize) -> usize
     requires { n ≤ 2 ^ 63 }
-    ensures { Writes (answer_text (weighed-answer weighed)) n out.old result out.new × (result ≤ 189) }
+    ensures { Writes (answer_text (numbered number c)) n out.old result out.new × (result ≤ 189) }
 {
-    match weighed {
-        Ok(columns) => write_columns(columns, out, n),
-        Err(refusal) => {
-            copy(out, n, &REFUSED);
-            write_field(refusal.number() as usize, out, n + 8) + 8
-        }
+    let refused = number != 0;
+    if refused {
+        copy(out, n, &REFUSED);
+        write_field(number as usize, out, n + 8) + 8
+    } else {
+        write_columns(c, out, n)
     }
+}
+
+// Writes the line of a program with a name, a number and columns to the front of a buffer, as much as fits, and returns its length: the columns for 0, and `refused`
+// and the number for any other, also for one that no refusal has.
+pub fn write_numbered(name: &[u8], number: u8, c: Columns, out: &mut [u8]) -> usize
+    ensures { Writes (report_line name.now (numbered number c)) 0 out.old result out.new }
+{
+    copy(out, 0, name);
+    let end = name.len() + write_answer(number, c, out, name.len());
+    put(out, end, b'\n');
+    end + 1
 }
 
 // Writes the line of a program with a name to the front of a buffer, as much as fits, and returns its length.
 pub fn write_line(name: &[u8], weighed: Result<Columns, Refusal>, out: &mut [u8]) -> usize
     ensures { Writes (report_line name.now (weighed-answer weighed)) 0 out.old result out.new }
 {
-    copy(out, 0, name);
-    let end = name.len() + write_answer(weighed, out, name.len());
-    put(out, end, b'\n');
-    end + 1
+    match weighed {
+        Ok(columns) => write_numbered(name, 0, columns, out),
+        Err(refusal) => write_numbered(name, refusal.number(), no_columns(), out),
+    }
 }
 
 // Writes the last line, the sums, to the front of a buffer, as much as fits, and returns its length.
