@@ -11,7 +11,7 @@
 #![tactic(auto)]
 
 use buffers::{Run, copy, front, run_end};
-use console::{Ahead, Hex, field_end, next_line, number_in, whole};
+use console::{AT_ONCE, Ahead, Hex, field_end, next_line, number_in, whole};
 use editor_edit::{Editor, empty};
 use refusals::{Refusal, RefusedItem};
 use std::io::BufRead;
@@ -170,6 +170,6 @@ fn take_all(rt: &impl Print, input: &mut impl BufRead) {
 }
 
 fn main(rt: HostRuntime) {
-    let mut input = Ahead::<8192>::of(rt.stdin());
+    let mut input = Ahead::<AT_ONCE>::of(rt.stdin());
     take_all(&rt, &mut input);
 }

@@ -20,8 +20,8 @@ const LONGEST: usize = 310000;
 // The most bytes that a text of one line may have; that of a batch may have as many as its buffer.
 const LONGEST_TEXT: usize = 4096;
 
-// How many bytes are read at once.
-const AT_ONCE: usize = 65536;
+// How many bytes of calls are read at once: a call may have hundreds of thousands.
+const CALLS_AT_ONCE: usize = 65536;
 
 // The rooms for the bytes of a call's fields.
 #[derive(Drop)]
@@ -399,7 +399,7 @@ fn answer_all(rt: &impl Print, input: &mut impl BufRead, line: &mut [u8], rooms:
 }
 
 fn main(rt: HostRuntime) {
-    let mut input = Ahead::<AT_ONCE>::of(rt.stdin());
+    let mut input = Ahead::<CALLS_AT_ONCE>::of(rt.stdin());
     let mut line = [0; LONGEST];
     let mut rooms = Rooms {
         text: [0; 70000],

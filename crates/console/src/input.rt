@@ -13,6 +13,9 @@ pub const KEPT: usize = 121;
 // The longest file that is kept: longer than any that is not refused, so that any longer one is refused as such.
 pub const KEPT_FILE: usize = 65550;
 
+// How many bytes of lines are read at once.
+pub const AT_ONCE: usize = 8192;
+
 // The file descriptor of standard input.
 const STANDARD_INPUT: i32 = 0;
 
@@ -35,28 +38,28 @@ pub fn start() -> Input
     Input { at: 0, end: 0 }
 }
 
-// Standard input, of which up to so many bytes are read at once.
+// Standard input with a buffer of so many bytes, which are read at once.
 #[derive(Drop)]
-pub struct Ahead<const AT_ONCE: usize> {
+pub struct Ahead<const SIZE: usize> {
     stdin: Stdin,
-    buffer: [u8; AT_ONCE],
-    input: Input,
+    buffer: [u8; SIZE],
+    pub input: Input,
 }
 
-impl<const AT_ONCE: usize> Ahead<AT_ONCE> {
+impl<const SIZE: usize> Ahead<SIZE> {
     // Standard input, of which nothing is read.
-    pub fn of(stdin: Stdin) -> Ahead<AT_ONCE>
+    pub fn of(stdin: Stdin) -> Ahead<SIZE>
         ensures { (result.input.at ≡ 0) × (result.input.end ≡ 0) }
     {
         Ahead {
             stdin,
-            buffer: [0; AT_ONCE],
+            buffer: [0; SIZE],
             input: start(),
         }
     }
 }
 
-impl<const AT_ONCE: usize> Read for Ahead<AT_ONCE> {
+impl<const SIZE: usize> Read for Ahead<SIZE> {
     // Takes bytes that are read, or that one read gives, as many as there is room for.
     fn read(&mut self, room: &mut [u8]) -> std::io::Result<usize> {
         let ahead = self.fill_buf()?;
@@ -67,7 +70,7 @@ impl<const AT_ONCE: usize> Read for Ahead<AT_ONCE> {
     }
 }
 
-impl<const AT_ONCE: usize> BufRead for Ahead<AT_ONCE> {
+impl<const SIZE: usize> BufRead for Ahead<SIZE> {
     // The bytes that are read and not yet taken; where there are none, those that one read gives.
     fn fill_buf(&mut self) -> std::io::Result<&[u8]> {
         if self.input.end <= self.input.at {
@@ -78,6 +81,7 @@ impl<const AT_ONCE: usize> BufRead for Ahead<AT_ONCE> {
         Ok(self.buffer.get(at..end).unwrap_or(&[]))
     }
 
+    // Takes so many of the bytes that are read, or all where they are fewer.
     fn consume(&mut self, amount: usize) {
         self.input.at = self.input.at.saturating_add(amount).min(self.input.end);
     }

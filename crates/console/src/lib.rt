@@ -5,6 +5,7 @@ mod input;
 mod output;
 
 pub use input::{
-    Ahead, Input, KEPT, KEPT_FILE, field_end, next_line, number_in, read_file, start, whole,
+    AT_ONCE, Ahead, Input, KEPT, KEPT_FILE, field_end, next_line, number_in, read_file, start,
+    whole,
 };
 pub use output::Hex;

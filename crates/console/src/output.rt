@@ -6,10 +6,10 @@ use std::fmt;
 #[derive(Clone, Copy)]
 pub struct Hex<'a>(pub &'a [u8]);
 
-// How many bytes are shown at once, by so many digits.
-const AT_ONCE: usize = 512;
+// How many bytes are shown at once, and by how many digits.
+const SHOWN: usize = 512;
 
-const DIGITS_AT_ONCE: usize = 1024;
+const DIGITS: usize = 2 * SHOWN;
 
 // The last hexadecimal digit of a number.
 fn digit(n: u8) -> u8 {
@@ -17,9 +17,9 @@ fn digit(n: u8) -> u8 {
     if d < 10 { b'0' + d } else { b'a' - 10 + d }
 }
 
-// Shows at most AT_ONCE bytes. The digits are text, which `from_utf8` sees to.
+// Shows bytes, at most SHOWN of them. Digits are text, so `from_utf8` never fails here.
 fn show<W: fmt::Write>(bytes: &[u8], f: &mut fmt::Formatter<W>) -> fmt::Result {
-    let mut digits = [0; DIGITS_AT_ONCE];
+    let mut digits = [0; DIGITS];
     for (pair, b) in digits.chunks_exact_mut(2).zip(bytes) {
         pair[0] = digit(*b / 16);
         pair[1] = digit(*b);
@@ -35,7 +35,7 @@ impl fmt::Display for Hex<'_> {
         if self.0.is_empty() {
             return f.write_str("-");
         }
-        for part in self.0.chunks(AT_ONCE) {
+        for part in self.0.chunks(SHOWN) {
             show(part, f)?;
         }
         Ok(())

@@ -4,7 +4,7 @@
 ghost use Rattle.std.specs.Prelude.{◌<◌, IfSome};
 
 use buffers::front;
-use console::{Ahead, KEPT, next_line};
+use console::{AT_ONCE, Ahead, KEPT, next_line};
 use editor_edit::{Editor, empty};
 use editor_lent::{enter_lent, list_lent};
 use refusals::{Refusal, RefusedItem};
@@ -120,7 +120,7 @@ fn list_all(rt: &impl Print, desk: &Desk) {
 }
 
 fn main(rt: HostRuntime) {
-    let mut input = Ahead::<8192>::of(rt.stdin());
+    let mut input = Ahead::<AT_ONCE>::of(rt.stdin());
     let mut desk = Desk::empty();
     enter_all(&rt, &mut input, &mut desk);
     list_all(&rt, &desk);

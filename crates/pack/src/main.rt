@@ -3,7 +3,7 @@
 #![tactic(auto)]
 
 use buffers::front;
-use console::{Ahead, KEPT, next_line};
+use console::{AT_ONCE, Ahead, KEPT, next_line};
 use editor_edit::{Editor, empty};
 use refusals::{Refusal, RefusedItem};
 use std::io::BufRead;
@@ -78,7 +78,7 @@ fn write(rt: &(impl Print + Eprint), program: &Program) {
 }
 
 fn main(rt: HostRuntime) {
-    let mut input = Ahead::<8192>::of(rt.stdin());
+    let mut input = Ahead::<AT_ONCE>::of(rt.stdin());
     let mut program = Program::empty();
     enter_all(&rt, &mut input, &mut program);
     write(&rt, &program);

@@ -5,7 +5,7 @@
 ghost use Rattle.file_weigh.specs.Answers.{columns_in, Sized};
 
 use buffers::front;
-use console::{Ahead, next_line};
+use console::{AT_ONCE, Ahead, next_line};
 use file_weigh::{Columns, added, columns_of, no_columns, weigh};
 use refusals::Refusal;
 use std::fs::File;
@@ -73,7 +73,7 @@ fn report_all(rt: &HostRuntime, input: &mut impl BufRead, out: &mut [u8]) -> Col
 
 // Reports on all names, and prints the sums.
 fn main(rt: HostRuntime) {
-    let mut input = Ahead::<8192>::of(rt.stdin());
+    let mut input = Ahead::<AT_ONCE>::of(rt.stdin());
     let mut out = [0; 4352];
     let total = report_all(&rt, &mut input, &mut out);
     let size = report_text::write_total(total, &mut out);
