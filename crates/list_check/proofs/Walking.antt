@@ -1,5 +1,5 @@
 -- From the check of a piece to how a walk goes on after it.
-use Prim.Native.Nat.{ℕ, ◌%◌, ◌<◌, ◌^◌}
+use Prim.Native.Nat.{ℕ, ◌%◌, ◌<◌}
 use native.Mathlib.Omega.{arith}
 use mathlib.Core.Path.{◌≡◌, refl, subst, sym, ap, ◌∙◌}
 use mathlib.Core.Bool.{Bool, true, false}
@@ -44,10 +44,6 @@ module _ (ns : List (List ℕ)) (i : ℕ) where
 module _ (ns : List (List ℕ)) (l : List ℕ) (at end : ℕ) (c : Piece) (old : List ℕ) (depth : ℕ) (f : Option ℕ) (new : List ℕ) (here : c ≡ piece_at at end (drop at l)) (a : Checked ns l at c old depth f new) where
   passes : Passes ns l at end (piece_at at end (drop at l)) old depth f new
   passes = subst (λ (p : Piece). Passes ns l at end p old depth f new) here (a end (sym here))
-
-  -- a piece that fits is within the line
-  pub small_piece : length l < 2 ^ 64 → (d : ℕ) → f ≡ Some d → size_of c < 2 ^ 64
-  small_piece h d e = let s : size_of c ≡ size_of (piece_at at end (drop at l)) = ap size_of here in omega (arith, (passes.fits d e).within)
 
   -- the walk goes on as the check says
   pub goes_on : (d : ℕ) → f ≡ Some d → {n e : ℕ} → n ≡ size_of c → e ≡ end_after end (drop at l) c → Goes ns l at end old depth (Some (record { size = n; end = e; depth = d })) new

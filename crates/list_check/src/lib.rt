@@ -276,11 +276,14 @@ pub fn check_next(
     ensures { (ns : List (List ℕ)) → Numbered ns → Kinds ns kinds.now → Goes ns line.now at end frames.old depth result frames.new }
 {
     let piece = list_pieces::piece_at(line, at, end);
+    // Asked before the test: pieces are then told apart once, and what comes after each is known where it is tested.
+    let size = list_pieces::size_of(piece);
+    let stop = list_pieces::end_after(line, at, end, piece);
     let kind = kind_listed(piece, kinds);
-    let after = check_kind(line, at, piece, kind, frames, depth)?;
+    let depth = check_kind(line, at, piece, kind, frames, depth)?;
     Some(Next {
-        size: list_pieces::size_of(piece),
-        end: list_pieces::end_after(line, at, end, piece),
-        depth: after,
+        size,
+        end: stop,
+        depth,
     })
 }

@@ -43,7 +43,7 @@ fn to_next(line: &[u8], from: usize, end: usize, numbers: &[u8]) -> usize
 {
     let mut n: usize = 0;
     let mut pieces = Pieces::within(line, from, end);
-    while pieces.at != end {
+    while pieces.at != pieces.end {
         let Some((_, piece)) = pieces.next() else {
             return n;
         };

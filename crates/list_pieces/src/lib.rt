@@ -179,6 +179,7 @@ impl<'a> Iterator for Pieces<'a> {
     ghost remaining = { pieces_left };
 
     // The next piece and its place.
+    #[inline(always)]
     fn next(&mut self) -> Option<(usize, Piece)> {
         let at = self.at;
         if self.line.len() <= at {

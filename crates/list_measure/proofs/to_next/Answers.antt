@@ -36,7 +36,7 @@ loop-pieces-preserved c =
     let m = c.loop-pieces.invariant in
     let p = passes m.0 c.in-Some.ensures.steps.1 in
     let here = rw m.1 at p.piece in
-    let within = λ (z : c.loop-pieces.pieces.at ≡ c.args.end). c.loop-pieces-test.true (omega (arith, z)) in
+    let within = λ (z : c.loop-pieces.pieces.at ≡ c.args.end). c.loop-pieces-test.true (omega (arith, z, m.1)) in
     let k = m.4 _ _ c.requires.1.passing in (
       p.same,
       p.stop ∙ ap (λ (e : ℕ). end_after e (drop c.loop-pieces.pieces.at c.args.line.now) c.in-Some.piece) m.1 ∙ counting_so k p.inside here within,
@@ -48,4 +48,4 @@ loop-pieces-preserved c =
 pub returns : goal.returns
 returns c =
     let m = c.loop-pieces.invariant in
-    (omega (arith, m.2, m.3), λ ns new p. counting_begins (m.4 ns new p) (omega (arith, c.loop-pieces-test.false)))
+    (omega (arith, m.2, m.3), λ ns new p. counting_begins (m.4 ns new p) (omega (arith, c.loop-pieces-test.false, m.1)))
